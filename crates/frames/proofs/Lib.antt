@@ -1,0 +1,5 @@
+-- The crate's laws.
+pub mod Frames
+pub mod Stores
+pub mod Clerks
+pub mod Decided

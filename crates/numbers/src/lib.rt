@@ -1,0 +1,115 @@
+// Numbers of 1, 2, 4 and 8 bytes in a lent slice, read and stored in place, the lowest byte first or (be) the highest.
+ghost use mathlib.Core.Path.{_≡_};
+ghost use Prim.Native.Nat.{_+_, _≤_, _<_};
+ghost use lib.ListN.{length};
+ghost use Rattle.spans.specs.Span.{put};
+ghost use Rattle.numbers.specs.Number.{le, be, leAt, beAt};
+
+pub fn read_u16(s: &[u8], at: usize) -> u16
+    requires { ⌜ at + 2 ≤ length (now s) ⌝ }
+    ensures { λ r. ⌜ r ≡ leAt 2 (now (s .entry)) at ⌝ }
+{
+    let a = s[at] as u16;
+    let b = s[at + 1] as u16;
+    a + 256 * b
+}
+
+pub fn read_u32(s: &[u8], at: usize) -> u32
+    requires { ⌜ at + 4 ≤ length (now s) ⌝ }
+    ensures { λ r. ⌜ r ≡ leAt 4 (now (s .entry)) at ⌝ }
+{
+    let a = read_u16(s, at) as u32;
+    let b = read_u16(s, at + 2) as u32;
+    a + 65536 * b
+}
+
+pub fn read_u64(s: &[u8], at: usize) -> u64
+    requires { ⌜ at + 8 ≤ length (now s) ⌝ }
+    ensures { λ r. ⌜ r ≡ leAt 8 (now (s .entry)) at ⌝ }
+{
+    let a = read_u32(s, at) as u64;
+    let b = read_u32(s, at + 4) as u64;
+    a + 4294967296 * b
+}
+
+pub fn put_u8(buf: &mut [u8], at: usize, x: u8)
+    requires { ⌜ at + 1 ≤ length (now buf) ⌝ }
+    ensures { λ _. ⌜ now (buf .exit) ≡ put (now (buf .entry)) at (le 1 x) ⌝ }
+{
+    buf[at] = x;
+}
+
+pub fn put_u16(buf: &mut [u8], at: usize, x: u16)
+    requires { ⌜ at + 2 ≤ length (now buf) ⌝ }
+    ensures { λ _. ⌜ now (buf .exit) ≡ put (now (buf .entry)) at (le 2 x) ⌝ }
+{
+    buf[at] = (x % 256) as u8;
+    buf[at + 1] = (x / 256) as u8;
+}
+
+pub fn put_u32(buf: &mut [u8], at: usize, x: u32)
+    requires { ⌜ at + 4 ≤ length (now buf) ⌝ }
+    ensures { λ _. ⌜ now (buf .exit) ≡ put (now (buf .entry)) at (le 4 x) ⌝ }
+{
+    put_u16(buf, at, (x % 65536) as u16);
+    put_u16(buf, at + 2, (x / 65536) as u16);
+}
+
+pub fn put_u64(buf: &mut [u8], at: usize, x: u64)
+    requires { ⌜ at + 8 ≤ length (now buf) ⌝ }
+    ensures { λ _. ⌜ now (buf .exit) ≡ put (now (buf .entry)) at (le 8 x) ⌝ }
+{
+    put_u32(buf, at, (x % 4294967296) as u32);
+    put_u32(buf, at + 4, (x / 4294967296) as u32);
+}
+
+pub fn read_u16_be(s: &[u8], at: usize) -> u16
+    requires { ⌜ at + 2 ≤ length (now s) ⌝ }
+    ensures { λ r. ⌜ r ≡ beAt 2 (now (s .entry)) at ⌝ }
+{
+    let a = s[at] as u16;
+    let b = s[at + 1] as u16;
+    b + 256 * a
+}
+
+pub fn read_u32_be(s: &[u8], at: usize) -> u32
+    requires { ⌜ at + 4 ≤ length (now s) ⌝ }
+    ensures { λ r. ⌜ r ≡ beAt 4 (now (s .entry)) at ⌝ }
+{
+    let a = read_u16_be(s, at) as u32;
+    let b = read_u16_be(s, at + 2) as u32;
+    b + 65536 * a
+}
+
+pub fn read_u64_be(s: &[u8], at: usize) -> u64
+    requires { ⌜ at + 8 ≤ length (now s) ⌝ }
+    ensures { λ r. ⌜ r ≡ beAt 8 (now (s .entry)) at ⌝ }
+{
+    let a = read_u32_be(s, at) as u64;
+    let b = read_u32_be(s, at + 4) as u64;
+    b + 4294967296 * a
+}
+
+pub fn put_u16_be(buf: &mut [u8], at: usize, x: u16)
+    requires { ⌜ at + 2 ≤ length (now buf) ⌝ }
+    ensures { λ _. ⌜ now (buf .exit) ≡ put (now (buf .entry)) at (be 2 x) ⌝ }
+{
+    buf[at] = (x / 256) as u8;
+    buf[at + 1] = (x % 256) as u8;
+}
+
+pub fn put_u32_be(buf: &mut [u8], at: usize, x: u32)
+    requires { ⌜ at + 4 ≤ length (now buf) ⌝ }
+    ensures { λ _. ⌜ now (buf .exit) ≡ put (now (buf .entry)) at (be 4 x) ⌝ }
+{
+    put_u16_be(buf, at, (x / 65536) as u16);
+    put_u16_be(buf, at + 2, (x % 65536) as u16);
+}
+
+pub fn put_u64_be(buf: &mut [u8], at: usize, x: u64)
+    requires { ⌜ at + 8 ≤ length (now buf) ⌝ }
+    ensures { λ _. ⌜ now (buf .exit) ≡ put (now (buf .entry)) at (be 8 x) ⌝ }
+{
+    put_u32_be(buf, at, (x / 4294967296) as u32);
+    put_u32_be(buf, at + 4, (x % 4294967296) as u32);
+}

@@ -1,0 +1,56 @@
+use native.Mathlib.Nat.{add-sub-cancel-left}
+use borrow.Author.Tests.{le-leb, lt-leb}
+use Rattle.spans.specs.Span.{part, partOr}
+use borrow.Author.Needs.{needs}
+use Rattle.spans.proofs.part_of.Statement.{statement}
+use Rattle.spans.proofs.part_of.Tie as tie
+use Rattle.spans.proofs.part_of.Reads as reads
+use Rattle.spans.proofs.part_of.Lts as lts
+
+sub-if2 : tie.Need-sub-if2
+sub-if2 c = search needs
+
+add-e : tie.Need-add-e
+add-e c = search needs
+
+sub-result : tie.Need-sub-result
+sub-result c = search needs
+
+part-result-start : tie.Need-part-result-start
+part-result-start c = search needs
+
+part-result-end : tie.Need-part-result-end
+part-result-end c = search needs
+
+slice-aggregate-result : tie.Need-slice-aggregate-result
+slice-aggregate-result c = search needs
+
+slice-aggregate-result-2 : tie.Need-slice-aggregate-result-2
+slice-aggregate-result-2 c = search needs
+
+returns : tie.Need-returns
+unfolding part partOr
+returns c = simp (le-leb _ _ (c .before .before .if1 .taken), le-leb _ _ (c .before .if2 .taken), add-sub-cancel-left)
+
+returns-2 : tie.Need-returns-2
+unfolding part partOr
+returns-2 c = simp (le-leb _ _ (c .before .before .if1 .taken), lt-leb _ _ (c .before .if2 .left))
+
+returns-3 : tie.Need-returns-3
+unfolding part partOr
+returns-3 c = simp (lt-leb _ _ (c .before .if1 .left))
+
+pub part-of-spec : {M : Type 1} → statement M
+part-of-spec =
+    tie.close
+    (tie.spec
+    sub-if2
+    add-e
+    sub-result
+    part-result-start
+    part-result-end
+    slice-aggregate-result
+    slice-aggregate-result-2
+    returns
+    returns-2
+    returns-3)

@@ -1,0 +1,4 @@
+pub mod Laws
+pub mod KeysBack
+pub mod ValsBack
+pub mod Decided

@@ -1,0 +1,68 @@
+use mathlib.Core.Path.{_≡_, refl, sym, _∙_, ap}
+use mathlib.Core.List.{_++_}
+use Prim.Native.Nat.{ℕ, _+_}
+use native.Mathlib.Omega.{arith}
+use lib.ListN.{length, length-append}
+use Rattle.spans.specs.Span.{put}
+use Rattle.spans.proofs.Put.{put-append}
+use Rattle.numbers.specs.Number.{le}
+use Rattle.numbers.proofs.Numbers.{put-then, length-le}
+use Rattle.values.specs.Vals.{flagOf, histBytes, frontBytes}
+use borrow.Author.Needs.{needs}
+use Rattle.values.proofs.store_front.Statement.{statement}
+use Rattle.values.proofs.store_front.Tie as tie
+use Rattle.values.proofs.store_front.Reads as reads
+use Rattle.values.proofs.store_front.Lts as lts
+use Rattle.numbers.proofs.put_u32.Reads as put-u32-reads
+use Rattle.numbers.proofs.put_u8.Reads as put-u8-reads
+use Rattle.values.proofs.flag_of.Reads as flag-of-reads
+use Rattle.values.proofs.store_hist.Reads as store-hist-reads
+use Rattle.values.specs.declared.HistRef.{HistRef}
+use mathlib.Core.Bool.{Bool}
+
+long : (h : HistRef) (far : Bool) (n : ℕ) → length (frontBytes h far n) ≡ 1 + (length (histBytes h) + 4)
+unfolding frontBytes
+long h far n = simp (length-append, length-le)
+
+flag-of-requires : tie.Need-flag-of-requires
+flag-of-requires c κs = search needs
+
+put-u8-requires : tie.Need-put-u8-requires
+put-u8-requires c κs = omega (arith, long (c .before .before .before .args .h) (c .before .before .before .args .far) (c .before .before .before .args .n))
+
+add-store-hist : tie.Need-add-store-hist
+add-store-hist c = search needs
+
+store-hist-requires : tie.Need-store-hist-requires
+store-hist-requires c κs = omega (arith, long (c .before .before .before .before .before .before .before .args .h) (c .before .before .before .before .before .before .before .args .far) (c .before .before .before .before .before .before .before .args .n), c .before .before .before .put-u8 .kept .0)
+
+put-u32-requires : tie.Need-put-u32-requires
+put-u32-requires c κs = omega (arith, long (c .before .before .before .before .before .before .before .before .before .before .before .args .h) (c .before .before .before .before .before .before .before .before .before .before .before .args .far) (c .before .before .before .before .before .before .before .before .before .before .before .args .n), c .before .before .before .store-hist .ensures .0, c .before .before .before .store-hist .kept .0, c .before .before .before .before .before .before .before .put-u8 .kept .0)
+
+add-result : tie.Need-add-result
+add-result c = omega (arith, long (c .before .before .before .before .before .before .before .before .before .before .before .before .before .before .args .h) (c .before .before .before .before .before .before .before .before .before .before .before .before .before .before .args .far) (c .before .before .before .before .before .before .before .before .before .before .before .before .before .before .args .n), c .before .before .before .before .before .before .store-hist .ensures .0)
+
+same-length : tie.Need-same-length
+same-length c = search needs
+
+returns : tie.Need-returns
+unfolding frontBytes
+returns c =
+    let a = c .before .before .before .before .before .before .before .before .before .before .before .before .before .before .args in
+    let f = flagOf (a .h .count) (a .far) in (
+      omega (arith, long (a .h) (a .far) (a .n), c .before .before .before .before .before .before .store-hist .ensures .0),
+      cc (put-then (a .buf .now) (a .at) 1 f (histBytes (a .h) ++ le 4 (a .n)), put-append (put (a .buf .now) (a .at) (le 1 f)) (a .at + 1) (histBytes (a .h)) (le 4 (a .n))),
+    )
+
+pub store-front-spec : {M : Type 1} → statement M
+store-front-spec =
+    tie.close
+    (tie.spec
+    flag-of-requires
+    put-u8-requires
+    add-store-hist
+    store-hist-requires
+    put-u32-requires
+    add-result
+    same-length
+    returns)

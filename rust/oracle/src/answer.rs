@@ -1,0 +1,48 @@
+//! The plain answers that the Rust and the model both give, so that they can be compared.
+
+/// A call's numbers that every frame carries.
+#[derive(Clone, Copy, Debug, Default, PartialEq, Eq)]
+pub struct Stamp {
+    pub txid: u64,
+    pub group: u8,
+    pub lsn: u64,
+    pub checkpoint: u64,
+}
+
+/// What a page is told of its place in the tree. An empty `hi` is none.
+#[derive(Clone, Copy, Debug, Default, PartialEq, Eq)]
+pub struct Bounds<'a> {
+    pub sibling: u64,
+    pub lo: &'a [u8],
+    pub hi: &'a [u8],
+}
+
+/// A build, merge or delta that was done: the frame and the new next free address.
+#[derive(Clone, Copy, Debug, PartialEq, Eq)]
+pub struct Built {
+    pub addr: u64,
+    pub next: u64,
+}
+
+/// A search's head.
+#[derive(Clone, Copy, Debug, PartialEq, Eq)]
+pub struct Found<'a> {
+    pub pos: usize,
+    pub txid: u64,
+    pub cmd: u32,
+    pub value: &'a [u8],
+}
+
+/// One record of a walk: the key without the prefix, and the history page just entered or 0.
+#[derive(Clone, Copy, Debug, PartialEq, Eq)]
+pub struct Step<'a> {
+    pub rest: &'a [u8],
+    pub what: What<'a>,
+    pub entered: u64,
+}
+
+#[derive(Clone, Copy, Debug, PartialEq, Eq)]
+pub enum What<'a> {
+    Leaf { txid: u64, cmd: u32, value: &'a [u8] },
+    Index { pid: u64 },
+}

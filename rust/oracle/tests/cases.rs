@@ -1,0 +1,226 @@
+//! Document 01's cases by number, as the Rust and the model both give them.
+
+use oracle::answer::{Bounds, Built, Stamp, Step, What};
+use oracle::arena::Arena;
+use oracle::both::Both;
+use oracle::image;
+use oracle::judge;
+use oracle::list;
+use oracle::model;
+use oracle::sample::{Row, index_list_of, list_of, row};
+
+const STAMP: Stamp = Stamp { txid: 5, group: 0, lsn: 0, checkpoint: 0 };
+const NONE: Bounds = Bounds { sibling: 0, lo: &[], hi: &[] };
+
+fn arena(len: usize) -> Both {
+    // old bytes that must not show through
+    Both::new(Arena::new(len, 0xa5))
+}
+
+fn leaf(both: &mut Both, limit: u64, budget: u64, rows: &[Row]) -> Result<Built, u8> {
+    both.leaf(8, limit, budget, &STAMP, &NONE, &list_of(rows))
+}
+
+fn u32_at(both: &Both, at: usize) -> u32 {
+    u32::from_le_bytes(both.arena.bytes()[at..at + 4].try_into().unwrap())
+}
+
+#[test]
+fn p1_p2_lengths() {
+    assert_eq!(image::length(127), [0x7f]);
+    assert_eq!(image::length(128), [0x80, 0x01]);
+    assert_eq!(image::length(12857), [0xb9, 0x64]);
+    assert_eq!(model::length(&[0xb9, 0x64], 0), Ok((12857, 2)));
+    assert_eq!(model::length(&[0x80, 0x00], 0), Err(4));
+}
+
+#[test]
+fn lengths_both_ways() {
+    for n in (0..40_000).chain([2_097_151, 2_097_152, 268_435_455, 268_435_456, u32::MAX as usize])
+    {
+        let bytes = image::length(n);
+        assert_eq!(model::length(&bytes, 0), Ok((n as u64, bytes.len())));
+        for cut in 0..bytes.len() {
+            assert_eq!(model::length(&bytes[..cut], 0), Err(4));
+        }
+    }
+}
+
+#[test]
+fn p3_prefixes() {
+    let mut both = arena(8);
+    assert_eq!(both.common(b"ab", b"ad"), 1);
+    assert_eq!(both.common(b"ab", b"ab"), 2);
+    assert_eq!(both.common(b"ab", b""), 0);
+}
+
+#[test]
+fn p5_p6_one_record() {
+    let rows = [row(b"a", 5, 0, b"xy")];
+    let mut both = arena(112);
+    assert_eq!(leaf(&mut both, 64, 131_072, &rows), Ok(Built { addr: 8, next: 112 }));
+    assert_eq!(u32_at(&both, 8 + 32), 65); // size
+    assert_eq!(u32_at(&both, 8 + 32 + 40), 44); // slot
+    let mut both = arena(111);
+    assert_eq!(leaf(&mut both, 64, 131_072, &rows), Err(9));
+    assert!(both.arena.bytes().iter().all(|&b| b == 0xa5));
+}
+
+#[test]
+fn p7_one_old_version() {
+    let rows = [row(b"a", 5, 0, b"xy"), row(b"a", 3, 0, b"z")];
+    assert_eq!(list_of(&rows)[..5], [1, 0, 0, 0, 0x29]);
+    let mut both = arena(240);
+    assert_eq!(leaf(&mut both, 64, 256, &rows), Ok(Built { addr: 104, next: 240 }));
+    assert_eq!(both.arena.bytes()[8 + 6], 1); // the history page at 8 is a sibling
+    assert_eq!(u32_at(&both, 104 + 32), 85); // size
+    assert_eq!(u32_at(&both, 104), 101); // payload
+    let page = &both.arena.bytes()[104 + 32..];
+    let value = 44 + 1 + 12 + 1;
+    assert_eq!(page[value], 1); // has history
+    assert_eq!(page[value + 1..value + 15], [8, 0, 0, 0, 0, 0, 0, 0, 0, 0, 1, 0, 0, 0]); // (8, 0, 1)
+    let end = value + 15 + 4 + 2;
+    assert_eq!(85 - end, 6);
+    assert!(page[end..85].iter().all(|&b| b == 0)); // 6 unused bytes
+    assert_eq!(both.history_hints(104), Ok(Some(vec![8])));
+    assert_eq!(both.remote_hints(104), Ok(None));
+    let listed = |txid, value, entered| Step {
+        rest: &b"a"[..],
+        what: What::Leaf { txid, cmd: 0, value },
+        entered,
+    };
+    assert_eq!(both.walk(104, 0, 1), (vec![listed(5, b"xy", 8), listed(3, b"z", 0)], None));
+    assert_eq!(both.walk_back(104, 0, 0), (vec![listed(5, b"xy", 8), listed(3, b"z", 0)], None));
+}
+
+/// How many old versions each history page of the page holds.
+fn cuts(both: &mut Both, addr: u64) -> Vec<u16> {
+    let pages = both.history_hints(addr).unwrap().unwrap();
+    pages.iter().map(|&p| u32_at(both, p as usize + 36) as u16).collect()
+}
+
+fn old_values(len: usize, count: usize) -> Vec<Row> {
+    (0..=count as u64)
+        .map(|i| row(b"k", 100 - i, 0, &vec![7; if i == 0 { 0 } else { len }]))
+        .collect()
+}
+
+#[test]
+fn p8_budgets() {
+    for (len, expected) in [(52, vec![2, 2, 2, 1]), (51, vec![3, 3, 1])] {
+        let mut both = arena(4096);
+        let built = leaf(&mut both, 64, 256, &old_values(len, 7)).unwrap();
+        assert_eq!(cuts(&mut both, built.addr), expected);
+    }
+    // three of 51 bytes are exactly 256
+    let mut both = arena(4096);
+    leaf(&mut both, 64, 256, &old_values(51, 3)).unwrap();
+    assert_eq!(u32_at(&both, 8), 256);
+}
+
+#[test]
+fn p9_floors() {
+    let mut both = arena(512);
+    let list = index_list_of(&[(b"b".to_vec(), 20), (b"d".to_vec(), 40)]);
+    let built = both.index(8, &STAMP, &NONE, &list).unwrap();
+    let floors: Vec<usize> = [b"a", b"c", b"d", b"e"]
+        .iter()
+        .map(|probe| both.floor(built.addr, *probe).unwrap().0.unwrap().0)
+        .collect();
+    assert_eq!(floors, [0, 0, 1, 1]);
+}
+
+#[test]
+fn p11_twice() {
+    let mut both = arena(512);
+    assert_eq!(leaf(&mut both, 64, 256, &[row(b"a", 5, 0, b"x"), row(b"a", 5, 0, b"y")]), Err(6));
+}
+
+#[test]
+fn p13_wrong_prefix() {
+    let mut both = arena(512);
+    let bounds = Bounds { sibling: 0, lo: &[0, 0], hi: &[0, 0xff] };
+    let list = list_of(&[row(&[0, 0xd4], 5, 0, b"x")]);
+    let built = both.leaf(8, 64, 256, &STAMP, &bounds, &list).unwrap();
+    assert_eq!(both.search(built.addr, &[0xfe, 0xd4]), Err(7));
+    assert!(both.search(built.addr, &[0, 0xd4]).unwrap().0.is_some());
+}
+
+#[test]
+fn a_value_of_300_alone() {
+    for place in 0..3 {
+        let mut rows = vec![row(b"k", 100, 0, b"")];
+        for i in 0..3 {
+            rows.push(row(b"k", 90 - i as u64, 0, &vec![7; if i == place { 300 } else { 10 }]));
+        }
+        let mut both = arena(4096);
+        let built = leaf(&mut both, 512, 256, &rows).unwrap();
+        let expected = [vec![1, 2], vec![1, 1, 1], vec![2, 1]];
+        assert_eq!(cuts(&mut both, built.addr), expected[place]);
+    }
+}
+
+#[test]
+fn number_8_by_entries() {
+    let entries = |n: u64| -> Vec<u8> {
+        let rows: Vec<Row> = (0..n).map(|i| row(b"", n - i, 0, b"")).collect();
+        list_of(&rows)
+    };
+    assert_eq!(
+        judge::leaf(1 << 24, 8, 64, 131_072, &NONE, &entries(65_535)).map(|e| e.len()),
+        Ok(65_535)
+    );
+    assert_eq!(judge::leaf(1 << 24, 8, 64, 131_072, &NONE, &entries(65_536)), Err(8));
+    let children = |n: u32| -> Vec<u8> {
+        let children: Vec<_> = (0..n).map(|i| (i.to_be_bytes().to_vec(), 1)).collect();
+        index_list_of(&children)
+    };
+    assert_eq!(judge::index(1 << 24, 8, &NONE, &children(65_535)).map(|e| e.len()), Ok(65_535));
+    assert_eq!(judge::index(1 << 24, 8, &NONE, &children(65_536)), Err(8));
+}
+
+#[test]
+fn the_largest_pages_are_built() {
+    let rows: Vec<Row> = (0..65_535u32).map(|i| row(&i.to_be_bytes(), 1, 0, b"")).collect();
+    let mut both = arena(4 << 20);
+    let built = leaf(&mut both, 64, 131_072, &rows).unwrap();
+    assert_eq!(both.check(built.addr), Ok(()));
+    let (found, reads) = both.search(built.addr, &70u32.to_be_bytes()).unwrap();
+    assert_eq!(found.unwrap().pos, 70);
+    assert!(reads <= 16);
+}
+
+#[test]
+fn number_8_by_size() {
+    // 255 inline values of 65,535 and one shorter: exactly 16,777,216 is the most
+    let value = vec![1; 65_535];
+    let entries: Vec<list::Entry> = (0..=254u8)
+        .map(|i| list::Entry {
+            key: std::slice::from_ref(&KEYS[i as usize]),
+            txid: 1,
+            cmd: 0,
+            value: &value,
+        })
+        .collect();
+    let size = 40 + 255 * (4 + 1 + 12 + 1 + 5 + 65_535);
+    let left = 16_777_216 - size;
+    for over in [0usize, 1] {
+        let last = vec![2; left - 23 + over];
+        let mut entries = entries.clone();
+        entries.push(list::Entry { key: &KEYS[255..], txid: 1, cmd: 0, value: &last });
+        let list = list::write_entries(&entries);
+        let mut both = arena(16_777_216 + 64);
+        let built = both.leaf(8, 65_536, 131_072, &STAMP, &NONE, &list);
+        assert_eq!(built.map(|b| b.addr), if over == 0 { Ok(8) } else { Err(8) });
+    }
+}
+
+static KEYS: [u8; 256] = {
+    let mut keys = [0; 256];
+    let mut i = 0;
+    while i < 256 {
+        keys[i] = i as u8;
+        i += 1;
+    }
+    keys
+};

@@ -1,0 +1,207 @@
+//! The model and the Rust on random inputs: `Both` panics where they differ.
+
+use oracle::answer::{Bounds, Stamp};
+use oracle::arena::Arena;
+use oracle::both::Both;
+use oracle::judge::Number;
+use oracle::list::{Child, Entry};
+use oracle::model;
+use oracle::prng::Prng;
+use oracle::sample::{self, Row, index_list_of, list_of};
+
+fn stamp(rng: &mut Prng) -> Stamp {
+    Stamp {
+        txid: rng.number(),
+        group: rng.number() as u8,
+        lsn: rng.number() >> 8,
+        checkpoint: rng.number() >> 8,
+    }
+}
+
+fn limit(rng: &mut Prng) -> usize {
+    rng.pick(&[1, 2, 5, 8, 9, 16, 40, 64, 65, 300, 1000])
+}
+
+fn budget(rng: &mut Prng) -> u64 {
+    match rng.below(5) {
+        0 | 1 => 256,
+        2 => 131_072,
+        _ => rng.between(256, 900) as u64,
+    }
+}
+
+/// Every reader of a page, on all that it holds and on what it does not.
+fn read_all(both: &mut Both, rng: &mut Prng, addr: u64, prefix: &[u8], keys: &[Vec<u8>]) {
+    let elems = keys.len();
+    let index = model::page(both.arena.bytes(), addr).unwrap().is_index();
+    assert_eq!(both.check(addr), Ok(()));
+    let _ = (both.lo(addr).map(<[u8]>::len), both.hi(addr).is_ok(), both.prefix(addr).is_ok());
+    let _ = (both.history_hints(addr), both.remote_hints(addr));
+    assert_eq!(both.walk(addr, 0, elems as u64).1, None);
+    let (a, b) = (rng.below(elems + 2), rng.below(elems + 2));
+    let _ = both.walk(addr, a as u64, b as u64).1;
+    if !index && elems > 0 {
+        assert_eq!(both.walk_back(addr, elems as i64 - 1, 0).1, None);
+        let _ = both.walk_back(addr, a as i64 - 1, b as i64 - 1).1;
+    }
+    for probe in sample::probes(rng, prefix, keys, 8) {
+        let (txid, cmd) = rng.pick(&[(u64::MAX, u32::MAX), (0, 0), (1_000_500, 1), (1_000_000, 7)]);
+        both.lower_bound(addr, &probe, txid, cmd).unwrap();
+        if index {
+            both.floor(addr, &probe).unwrap();
+        } else {
+            both.search(addr, &probe).unwrap();
+        }
+    }
+}
+
+fn leaf(
+    both: &mut Both,
+    rng: &mut Prng,
+    next: u64,
+    limit: usize,
+    bounds: &Bounds,
+    rows: &[Row],
+) -> oracle::answer::Built {
+    let (budget, stamp) = (budget(rng), stamp(rng));
+    both.leaf(next, limit as u64, budget, &stamp, bounds, &list_of(rows)).unwrap()
+}
+
+#[test]
+fn leaves() {
+    let mut rng = Prng::new(1);
+    for _ in 0..1500 {
+        let prefix = sample::prefix(&mut rng);
+        let (lo, hi) = sample::bounds(&mut rng, &prefix);
+        let count = rng.below(20);
+        let keys = sample::keys(&mut rng, &prefix, count);
+        let limit = limit(&mut rng);
+        let most = rng.pick(&[2, 5, 30]);
+        let rows = sample::rows(&mut rng, &keys, most, limit);
+        let mut both = Both::new(Arena::new(1 << 18, rng.number() as u8));
+        let bounds = Bounds { sibling: rng.number(), lo: &lo, hi: &hi };
+        let next = 8 + 8 * rng.below(4) as u64;
+        let built = leaf(&mut both, &mut rng, next, limit, &bounds, &rows);
+        read_all(&mut both, &mut rng, built.addr, &prefix, &keys);
+    }
+}
+
+#[test]
+fn indexes() {
+    let mut rng = Prng::new(2);
+    for _ in 0..1000 {
+        let prefix = sample::prefix(&mut rng);
+        let (lo, hi) = sample::bounds(&mut rng, &prefix);
+        let count = rng.below(40);
+        let keys = sample::keys(&mut rng, &prefix, count);
+        let children: Vec<_> = keys.iter().map(|k| (k.clone(), rng.number())).collect();
+        let mut both = Both::new(Arena::new(1 << 17, rng.number() as u8));
+        let bounds = Bounds { sibling: rng.number(), lo: &lo, hi: &hi };
+        let stamp = stamp(&mut rng);
+        let built = both.index(8, &stamp, &bounds, &index_list_of(&children)).unwrap();
+        read_all(&mut both, &mut rng, built.addr, &prefix, &keys);
+        // and merged with a second part, which may be in order or not
+        let right: Vec<_> =
+            sample::keys(&mut rng, &prefix, 3).into_iter().map(|k| (k, 1)).collect();
+        let other =
+            both.index(built.next, &stamp, &Bounds::default(), &index_list_of(&right)).unwrap();
+        let merged = both.merge(other.next, 64, 256, &stamp, built.addr, other.addr);
+        let in_order = match (keys.last(), right.first()) {
+            (Some(a), Some((b, _))) => a < b,
+            _ => true,
+        };
+        assert_eq!(merged.is_ok(), in_order);
+    }
+}
+
+#[test]
+fn merges() {
+    let mut rng = Prng::new(3);
+    for _ in 0..1200 {
+        let prefix = sample::prefix(&mut rng);
+        let (lo, hi) = sample::bounds(&mut rng, &prefix);
+        let count = rng.between(1, 12);
+        let keys = sample::keys(&mut rng, &prefix, count);
+        let limits = [limit(&mut rng), limit(&mut rng), limit(&mut rng)];
+        // cut at any row: also inside the versions of one key
+        let mut rows = sample::rows(&mut rng, &keys, 6, limits[0]);
+        let cut = rng.below(rows.len() + 1);
+        let right_rows = rows.split_off(cut);
+        let mut both = Both::new(Arena::new(1 << 18, rng.number() as u8));
+        let left = leaf(
+            &mut both,
+            &mut rng,
+            8,
+            limits[0],
+            &Bounds { sibling: 1, lo: &lo, hi: &[] },
+            &rows,
+        );
+        let right = leaf(
+            &mut both,
+            &mut rng,
+            left.next,
+            limits[1],
+            &Bounds { sibling: 2, lo: &[], hi: &hi },
+            &right_rows,
+        );
+        let (budget, stamp) = (budget(&mut rng), stamp(&mut rng));
+        let built = both
+            .merge(right.next, limits[2] as u64, budget, &stamp, left.addr, right.addr)
+            .unwrap();
+        read_all(&mut both, &mut rng, built.addr, &prefix, &keys);
+        // the pages merged stay what they were
+        assert_eq!(both.check(left.addr), Ok(()));
+        assert_eq!(both.check(right.addr), Ok(()));
+        // a merge of the merged page with an empty one, at another limit
+        let empty = both
+            .leaf(
+                built.next,
+                64,
+                256,
+                &stamp,
+                &Bounds { sibling: 2, lo: &[], hi: &hi },
+                &list_of(&[]),
+            )
+            .unwrap();
+        let again = both
+            .merge(empty.next, limit(&mut rng) as u64, 300, &stamp, built.addr, empty.addr)
+            .unwrap();
+        read_all(&mut both, &mut rng, again.addr, &prefix, &keys);
+    }
+}
+
+#[test]
+fn deltas_and_overlays() {
+    let mut rng = Prng::new(4);
+    for _ in 0..1500 {
+        let prefix = sample::prefix(&mut rng);
+        let (lo, hi) = sample::bounds(&mut rng, &prefix);
+        let count = rng.below(6);
+        let keys = sample::keys(&mut rng, &prefix, count);
+        let limit = limit(&mut rng);
+        let rows = sample::rows(&mut rng, &keys, 3, limit);
+        let mut page = Both::new(Arena::new(1 << 17, 3));
+        let bounds = Bounds { sibling: 1, lo: &lo, hi: &hi };
+        let built = leaf(&mut page, &mut rng, 8, limit, &bounds, &rows);
+
+        let key = sample::probes(&mut rng, &prefix, &keys, 1).pop().unwrap();
+        let len = sample::value_len(&mut rng, limit);
+        let value = sample::filling(&mut rng, len);
+        let (txid, cmd) = (999_990 + rng.below(1020) as u64, rng.below(4) as u32);
+        let mut delta = Both::new(Arena::new(1 << 14, rng.number() as u8));
+        let e = Entry { key: &key, txid, cmd, value: &value };
+        let d = delta.leaf_delta(8, limit as u64, &stamp(&mut rng), &e).unwrap();
+        assert_eq!(delta.leaf_delta_key(d.addr), Ok((&key[..], txid, cmd)));
+        assert_eq!(delta.leaf_delta_value(d.addr), Ok(&value[..]));
+        for probe in sample::probes(&mut rng, &prefix, &keys, 4).iter().chain([&key]) {
+            page.overlay(built.addr, &delta.arena, d.addr, probe).unwrap();
+        }
+
+        let c = Child { key: &key, pid: rng.number() };
+        let d = delta.index_delta(d.next, &stamp(&mut rng), &c).unwrap();
+        assert_eq!(delta.index_delta_key(d.addr), Ok(&key[..]));
+        assert_eq!(delta.index_delta_pid(d.addr), Ok(c.pid));
+        let refused: Result<_, Number> = page.overlay(built.addr, &delta.arena, d.addr, &key);
+        assert_eq!(refused, Err(4));
+    }
+}
