@@ -3,6 +3,11 @@
 use Prim.Native.Nat.{ℕ}
 use Rattle.frames.specs.declared.Refusal.{Refusal}
 use Rattle.frames.specs.declared.Refusal.the-variants.{BadLimit, BadArena, BadList, BadFrame, MixedKinds, OutOfOrder, WrongPrefix, TooBig, NoRoom}
+use Rattle.frames.specs.declared.FrameRead.{FrameRead}
+use Rattle.frames.specs.declared.PageRead.{PageRead}
+use Rattle.frames.specs.declared.Opened.{Opened}
+use Rattle.frames.specs.declared.RemoteRead.{RemoteRead}
+use Rattle.frames.specs.declared.DeltaRead.{DeltaRead}
 
 abbrev pub numberOf : Refusal → ℕ
 numberOf BadLimit = 1
@@ -14,3 +19,25 @@ numberOf OutOfOrder = 6
 numberOf WrongPrefix = 7
 numberOf TooBig = 8
 numberOf NoRoom = 9
+
+-- the number of a reader's answer: 4 where an address is no such frame's, 0 where it answers
+
+abbrev pub frameNumber : FrameRead → ℕ
+frameNumber (FrameRead.Frame h) = 0
+frameNumber FrameRead.Bad = numberOf BadFrame
+
+abbrev pub pageNumber : PageRead → ℕ
+pageNumber (PageRead.Page x h) = 0
+pageNumber PageRead.Bad = numberOf BadFrame
+
+abbrev pub openedNumber : Opened → ℕ
+openedNumber (Opened.Is b) = 0
+openedNumber Opened.Bad = numberOf BadFrame
+
+abbrev pub remoteNumber : RemoteRead → ℕ
+remoteNumber (RemoteRead.At p) = 0
+remoteNumber RemoteRead.Bad = numberOf BadFrame
+
+abbrev pub deltaNumber : DeltaRead → ℕ
+deltaNumber (DeltaRead.Is d) = 0
+deltaNumber DeltaRead.Bad = numberOf BadFrame

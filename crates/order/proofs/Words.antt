@@ -12,8 +12,8 @@ use lib.ListN.{length, take, drop, getD, take-append-drop, drop-of-length-le}
 use lib.Seq.{drop-drop, drop-cons}
 use Rattle.spans.specs.Span.{part}
 use Rattle.spans.proofs.Part.{length-part}
-use Rattle.numbers.specs.Number.{Bytes, ofLe, ofBe, beAt}
-use Rattle.numbers.proofs.Numbers.{ofBe-append, ofBe-lt, ofBe-inj, bytes-part}
+use Rattle.numbers.specs.Number.{Bytes, ofLe, ofBe, leAt, beAt}
+use Rattle.numbers.proofs.Numbers.{ofBe-append, ofBe-lt, ofBe-inj, ofLe-inj, bytes-part}
 use Rattle.order.specs.declared.Order.{Order}
 use Rattle.order.specs.declared.Order.the-variants.{Less, Equal, Greater}
 use Rattle.order.specs.Order.{byNumber, cmpBytes, flip}
@@ -78,6 +78,15 @@ module _ (a b : List ℕ) (ha : Bytes a) (hb : Bytes b) where
       ∙ words (part a i w) (part b i w) (drop (i + w) a) (drop (i + w) b) (length-part a i w p ∙ sym (length-part b i w q)) (bytes-part a i w ha) (bytes-part b i w hb)
 
   module _ (w i : ℕ) (p : i + w ≤ length a) (q : i + w ≤ length b) where
+    -- equal words, read in either order, are the same bytes
+    pub step-equal : leAt w a i ≡ leAt w b i → cmpBytes (drop i a) (drop i b) ≡ cmpBytes (drop (i + w) a) (drop (i + w) b)
+    unfolding leAt
+    step-equal e =
+        let l : length (part a i w) ≡ length (part b i w) = length-part a i w p ∙ sym (length-part b i w q) in
+        ap₂ cmpBytes (front a i w) (front b i w)
+        ∙ ap (λ (r : List ℕ). cmpBytes (r ++ drop (i + w) a) (part b i w ++ drop (i + w) b)) (ofLe-inj (part a i w) (part b i w) l (bytes-part a i w ha) (bytes-part b i w hb) e)
+        ∙ cmp-front (part b i w) (drop (i + w) a) (drop (i + w) b)
+
     pub step-less : beAt w a i < beAt w b i → cmpBytes (drop i a) (drop i b) ≡ Less
     step-less h = step w i p q ∙ is-less (beAt w a i) (beAt w b i) _ h
 

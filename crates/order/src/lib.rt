@@ -90,20 +90,15 @@ fn by_fours(a: &[u8], b: &[u8], from: usize) -> Order
     by_twos(a, b, from + 4)
 }
 
-// Two byte strings, a proper prefix first: eight bytes at a time while both have as many.
+// Two byte strings, a proper prefix first: eight equal bytes are passed at a time, a plain load each; then four, two and one decide.
 pub fn compare(a: &[u8], b: &[u8]) -> Order
     ensures { λ r. ⌜ r ≡ cmpBytes (now (a .entry)) (now (b .entry)) ⌝ }
 {
     let n = lesser(a.len(), b.len());
     let mut i: usize = 0;
     while 8 <= n - i {
-        let x = numbers::read_u64_be(a, i);
-        let y = numbers::read_u64_be(b, i);
-        if x < y {
-            return Order::Less;
-        }
-        if y < x {
-            return Order::Greater;
+        if numbers::read_u64(a, i) != numbers::read_u64(b, i) {
+            return by_fours(a, b, i);
         }
         i += 8;
     }

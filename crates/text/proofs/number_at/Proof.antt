@@ -1,14 +1,16 @@
-use Prim.Native.Nat.{ℕ, _+_, _-_, _≤_, _<_}
+use Prim.Native.Nat.{ℕ, _+_, _-_, _*_, _≤_, _<_}
+use mathlib.Core.Path.{_≡_, refl, sym, ap, _∙_, subst}
 use native.Mathlib.Omega.{arith}
-use lib.ListN.{length}
+use lib.ListN.{length, length-set}
 use borrow.Author.Needs.{needs}
 use Rattle.text.proofs.number_at.Statement.{statement}
 use Rattle.text.proofs.number_at.Tie as tie
 use Rattle.text.proofs.number_at.Reads as reads
 use Rattle.text.proofs.number_at.Lts as lts
+use Rattle.text.proofs.shifted.Reads as shifted-reads
 
 abbrev Inv-loop : tie.InvT-loop
-Inv-loop s at i₀ v₀ i v = (at ≤ i) × (i ≤ length s) × (v ≤ 9999999999999999999)
+Inv-loop s at i₀ v₀ i v = (at ≤ i) × (i ≤ length s)
 
 abbrev μ-loop : tie.MeasureT-loop
 μ-loop s at i₀ v₀ i v = length s - i
@@ -22,17 +24,8 @@ loop-holds c = search needs
 shared-slice-read-b : tie.Need-shared-slice-read-b Inv-loop μ-loop
 shared-slice-read-b c = search needs
 
-returns-2 : tie.Need-returns-2 Inv-loop μ-loop
-returns-2 c = search needs
-
-mul-v : tie.Need-mul-v Inv-loop μ-loop
-mul-v c = search needs
-
-cast-v : tie.Need-cast-v Inv-loop μ-loop
-cast-v c = search needs
-
-add-v : tie.Need-add-v Inv-loop μ-loop
-add-v c = search needs
+shifted-requires : tie.Need-shifted-requires Inv-loop μ-loop
+shifted-requires c κs = search needs
 
 add-i : tie.Need-add-i Inv-loop μ-loop
 add-i c = search needs
@@ -43,11 +36,11 @@ loop-less c = search needs
 loop-again : tie.Need-loop-again Inv-loop μ-loop
 loop-again c = search needs
 
+returns-2 : tie.Need-returns-2 Inv-loop μ-loop
+returns-2 c = search needs
+
 returns-3 : tie.Need-returns-3 Inv-loop μ-loop
 returns-3 c = search needs
-
-returns-4 : tie.Need-returns-4 Inv-loop μ-loop
-returns-4 c = search needs
 
 pub number-at-spec : {M : Type 1} → statement M
 number-at-spec =
@@ -58,12 +51,9 @@ number-at-spec =
     returns
     loop-holds
     shared-slice-read-b
-    returns-2
-    mul-v
-    cast-v
-    add-v
+    shifted-requires
     add-i
     loop-less
     loop-again
-    returns-3
-    returns-4)
+    returns-2
+    returns-3)

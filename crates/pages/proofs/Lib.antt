@@ -1,0 +1,7 @@
+-- The crate's laws.
+pub mod Turns
+pub mod Olds
+pub mod Given
+pub mod Rows
+pub mod Says
+pub mod Decided

@@ -1,0 +1,8 @@
+-- The crate's definitions.
+pub mod Sound
+pub mod Meaning
+pub mod Edges
+pub mod HintsAt
+pub mod Frames
+pub mod Refused
+pub mod Cases

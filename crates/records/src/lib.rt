@@ -1,0 +1,265 @@
+// A page's parts: one decoder of a record at a slot, for leaf, index and history pages; its boundaries, key rests and values, lent on.
+ghost use mathlib.Core.Path.{_≡_};
+ghost use Prim.Native.Nat.{_+_, _≤_};
+ghost use lib.ListN.{length};
+ghost use Rattle.spans.specs.Span.{part, partOr};
+ghost use Rattle.frames.specs.Layout.{Inside};
+ghost use Rattle.records.specs.Records.{slotAt, verIn, keyIn, keyAtSlot, valIn, recIn, recAt};
+ghost use Rattle.records.specs.Parts.{loIn, hiIn, prefixIn};
+use frames::Addr;
+use frames::BaseHeader;
+use frames::Body;
+use frames::RemoteRead;
+use order::Ver;
+use values::HistRef;
+use values::KeyRead;
+use values::Val;
+
+pub enum SlotRead {
+    At(usize),
+    Bad,
+}
+
+// A value with its remote resolved: where its bytes stand, and the remote frame's address or 0.
+pub enum ValRead {
+    Is {
+        hist: HistRef,
+        val_at: usize,
+        val_len: usize,
+        remote: Addr,
+        next: usize,
+    },
+    Bad,
+}
+
+// A record's places: where it begins, its version, key rest, value; what follows it.
+pub struct Rec {
+    pub from: usize,
+    pub ver_at: usize,
+    pub rest_at: usize,
+    pub rest_len: usize,
+    pub hist: HistRef,
+    pub val_at: usize,
+    pub val_len: usize,
+    pub remote: Addr,
+    pub next: usize,
+}
+
+pub enum RecRead {
+    Is(Rec),
+    Bad,
+}
+
+// Where the record of slot i starts.
+fn slot_at(s: &[u8], b: Body, i: usize) -> SlotRead
+    requires { ⌜ Inside (now s) b ⌝ }
+    ensures { λ r. ⌜ r ≡ slotAt (now (s .entry)) b i ⌝ }
+{
+    if b.elems <= i {
+        return SlotRead::Bad;
+    }
+    let p = b.at + (numbers::read_u32(s, b.at + BaseHeader::HDR_LEN + 4 * i) as usize);
+    if p < b.first {
+        return SlotRead::Bad;
+    }
+    if b.end <= p {
+        return SlotRead::Bad;
+    }
+    SlotRead::At(p)
+}
+
+// The version at a place that holds one.
+pub fn ver_at(s: &[u8], at: usize) -> Ver
+    requires { ⌜ at + 12 ≤ length (now s) ⌝ }
+    ensures { λ r. ⌜ r ≡ verIn (now (s .entry)) at ⌝ }
+{
+    Ver::new(numbers::read_u64(s, at), numbers::read_u32(s, at + 8))
+}
+
+// The key at a place of a page: whole, it has at most 4,096 bytes.
+fn key_in(s: &[u8], b: Body, at: usize) -> KeyRead
+    requires { ⌜ Inside (now s) b ⌝ }
+    ensures { λ r. ⌜ r ≡ keyIn (now (s .entry)) b at ⌝ }
+{
+    let e = b.end;
+    let KeyRead::Key {
+        ver_at,
+        rest_at,
+        rest_len,
+    } = values::key_at(&s[..e], at, b.kind)
+    else {
+        return KeyRead::Bad;
+    };
+    if 4096 < b.prefix_len + rest_len {
+        return KeyRead::Bad;
+    }
+    KeyRead::Key {
+        ver_at: ver_at,
+        rest_at: rest_at,
+        rest_len: rest_len,
+    }
+}
+
+// The key of slot i: all that a search reads.
+pub fn key_at(s: &[u8], b: Body, i: usize) -> KeyRead
+    requires { ⌜ Inside (now s) b ⌝ }
+    ensures { λ r. ⌜ r ≡ keyAtSlot (now (s .entry)) b i ⌝ }
+{
+    let SlotRead::At(p) = slot_at(s, b, i) else {
+        return KeyRead::Bad;
+    };
+    key_in(s, b, p)
+}
+
+// The value at a place of a page, and its remote frame judged with it; only a leaf's head has history.
+fn val_in(s: &[u8], b: Body, at: usize) -> ValRead
+    requires { ⌜ Inside (now s) b ⌝ }
+    ensures { λ r. ⌜ r ≡ valIn (now (s .entry)) b at ⌝ }
+{
+    let e = b.end;
+    let v = Val::decode_from(&s[..e], at, b.kind == Body::LEAF);
+    match v {
+        Val::Inline {
+            hist,
+            at: p,
+            size,
+            next,
+        } => ValRead::Is {
+            hist: hist,
+            val_at: p,
+            val_len: size,
+            remote: Addr(0),
+            next: next,
+        },
+        Val::Remote {
+            hist,
+            addr,
+            size,
+            next,
+        } => {
+            let RemoteRead::At(q) = frames::remote_at(s, addr, size as u32) else {
+                return ValRead::Bad;
+            };
+            ValRead::Is {
+                hist: hist,
+                val_at: q,
+                val_len: size,
+                remote: addr,
+                next: next,
+            }
+        }
+        Val::Bad => ValRead::Bad,
+    }
+}
+
+// The record at a place of a page.
+fn rec_in(s: &[u8], b: Body, p: usize) -> RecRead
+    requires { ⌜ Inside (now s) b ⌝ }
+    ensures { λ r. ⌜ r ≡ recIn (now (s .entry)) b p ⌝ }
+{
+    let KeyRead::Key {
+        ver_at,
+        rest_at,
+        rest_len,
+    } = key_in(s, b, p)
+    else {
+        return RecRead::Bad;
+    };
+    let q = rest_at + rest_len;
+    if b.kind == Body::INDEX {
+        if b.end < q + 8 {
+            return RecRead::Bad;
+        }
+        return RecRead::Is(Rec {
+            from: p,
+            ver_at: ver_at,
+            rest_at: rest_at,
+            rest_len: rest_len,
+            hist: HistRef {
+                page: Addr(0),
+                slot: 0,
+                count: 0,
+            },
+            val_at: q,
+            val_len: 8,
+            remote: Addr(0),
+            next: q + 8,
+        });
+    }
+    let ValRead::Is {
+        hist,
+        val_at,
+        val_len,
+        remote,
+        next,
+    } = val_in(s, b, q)
+    else {
+        return RecRead::Bad;
+    };
+    RecRead::Is(Rec {
+        from: p,
+        ver_at: ver_at,
+        rest_at: rest_at,
+        rest_len: rest_len,
+        hist: hist,
+        val_at: val_at,
+        val_len: val_len,
+        remote: remote,
+        next: next,
+    })
+}
+
+// The record of slot i.
+pub fn rec_at(s: &[u8], b: Body, i: usize) -> RecRead
+    requires { ⌜ Inside (now s) b ⌝ }
+    ensures { λ r. ⌜ r ≡ recAt (now (s .entry)) b i ⌝ }
+{
+    let SlotRead::At(p) = slot_at(s, b, i) else {
+        return RecRead::Bad;
+    };
+    rec_in(s, b, p)
+}
+
+// ---- parts of the lent arena: the empty part where a place is outside it
+
+// A record's key behind the page's prefix.
+pub fn rest_of(s: &[u8], r: Rec) -> &[u8]
+    ensures { λ x. ⌜ now x ≡ partOr (now (s .entry)) (r .«rest_at») (r .«rest_len») ⌝ }
+{
+    spans::part_of(s, r.rest_at, r.rest_len)
+}
+
+// A record's value.
+pub fn value_of(s: &[u8], r: Rec) -> &[u8]
+    ensures { λ x. ⌜ now x ≡ partOr (now (s .entry)) (r .«val_at») (r .«val_len») ⌝ }
+{
+    spans::part_of(s, r.val_at, r.val_len)
+}
+
+// A page's lower boundary.
+pub fn lo_of(s: &[u8], b: Body) -> &[u8]
+    requires { ⌜ Inside (now s) b ⌝ }
+    ensures { λ x. ⌜ now x ≡ loIn (now (s .entry)) b ⌝ }
+{
+    spans::part_of(s, b.at + BaseHeader::HDR_LEN + 4 * b.elems, b.lo_len)
+}
+
+// A page's upper boundary, empty where it has none.
+pub fn hi_of(s: &[u8], b: Body) -> &[u8]
+    requires { ⌜ Inside (now s) b ⌝ }
+    ensures { λ x. ⌜ now x ≡ hiIn (now (s .entry)) b ⌝ }
+{
+    spans::part_of(
+        s,
+        b.at + BaseHeader::HDR_LEN + 4 * b.elems + b.lo_len,
+        b.hi_len,
+    )
+}
+
+// The prefix that a page's keys drop: the first bytes of lo.
+pub fn prefix_of(s: &[u8], b: Body) -> &[u8]
+    requires { ⌜ Inside (now s) b ⌝ }
+    ensures { λ x. ⌜ now x ≡ prefixIn (now (s .entry)) b ⌝ }
+{
+    spans::part_of(s, b.at + BaseHeader::HDR_LEN + 4 * b.elems, b.prefix_len)
+}

@@ -1,0 +1,94 @@
+-- Judging a whole source: finishing from here gives the answer. Each law speaks of `Found`, or of an end.
+-- Assumes nothing.
+use mathlib.Core.Path.{_≡_, refl, sym, ap, _∙_}
+use mathlib.Core.List.{List, [], _∷_}
+use mathlib.Core.Bool.{Bool, true, false, cond}
+use Prim.Native.Nat.{ℕ, suc, _+_, _≤_, _<_}
+use native.Mathlib.Omega.{arith}
+use lib.ListN.{length}
+use Rattle.order.specs.declared.Order.{Order}
+use Rattle.order.specs.declared.Order.the-variants.{Less, Equal, Greater}
+use Rattle.order.specs.Order.{cmpBytes, startsWith}
+use Rattle.order.specs.Version.{newerThan}
+use Rattle.sources.specs.declared.Cursor.{Cursor}
+use Rattle.sources.specs.declared.Item.{Item}
+use Rattle.sources.specs.Keys.{keyBytes, srcOf}
+use Rattle.sources.specs.Source.{Entry, entryOf, entries, leftOf}
+use Rattle.sources.specs.Judged.{above, risingFrom, rising, prefixed}
+use Rattle.sources.proofs.Sourced.{Found}
+
+-- the key of an entry, by where it lies
+pub key-of : (l w : List ℕ) (i : Item) (b : Bool) → i .low ≡ b → keyBytes (srcOf l w b) (i .key) ≡ entryOf l w i .key
+unfolding entryOf
+key-of l w i b e = rw e refl
+
+pub by-keys : (l w : List ℕ) (a b : Item) (x y : Bool) (o : Order) → a .low ≡ x → b .low ≡ y
+    → o ≡ cmpBytes (keyBytes (srcOf l w x) (a .key)) (keyBytes (srcOf l w y) (b .key)) → o ≡ cmpBytes (entryOf l w a .key) (entryOf l w b .key)
+by-keys l w a b x y o p q h = h ∙ rw (key-of l w a x p, key-of l w b y q) refl
+
+-- one entry against the one before
+module _ (l w : List ℕ) (a b : Item) (o : Order) (e : o ≡ cmpBytes (entryOf l w a .key) (entryOf l w b .key)) where
+  pub above-less : o ≡ Less → true ≡ above (entryOf l w a) (entryOf l w b)
+  unfolding above
+  above-less h = rw (sym e ∙ h) refl
+
+  pub above-equal : o ≡ Equal → (r : Bool) → r ≡ newerThan (a .ver) (b .ver) → r ≡ above (entryOf l w a) (entryOf l w b)
+  unfolding above entryOf
+  above-equal h r q = rw (sym e ∙ h) q
+
+  pub above-greater : o ≡ Greater → false ≡ above (entryOf l w a) (entryOf l w b)
+  unfolding above
+  above-greater h = rw (sym e ∙ h) refl
+
+module _ (l w : List ℕ) (x : Entry) (c : Cursor) where
+  pub rising-end : entries l w c ≡ [] → true ≡ risingFrom x (entries l w c)
+  unfolding risingFrom
+  rising-end e = rw e refl
+
+  module _ (i : Item) (d : Cursor) (f : Found l w c i d) where
+    pub rising-not : above x (entryOf l w i) ≡ false → false ≡ risingFrom x (entries l w c)
+    unfolding risingFrom
+    rising-not h = rw (f .list, h) refl
+
+    pub rising-on : above x (entryOf l w i) ≡ true → risingFrom (entryOf l w i) (entries l w d) ≡ risingFrom x (entries l w c)
+    unfolding risingFrom
+    rising-on h = rw (f .list, h) refl
+
+module _ (l w : List ℕ) (c : Cursor) where
+  pub rises-end : entries l w c ≡ [] → true ≡ rising (entries l w c)
+  unfolding rising
+  rises-end e = rw e refl
+
+  pub prefixed-end : (p : List ℕ) → entries l w c ≡ [] → true ≡ prefixed p (entries l w c)
+  unfolding prefixed
+  prefixed-end p e = rw e refl
+
+  module _ (i : Item) (d : Cursor) (f : Found l w c i d) where
+    pub rises-on : (r : Bool) → r ≡ risingFrom (entryOf l w i) (entries l w d) → r ≡ rising (entries l w c)
+    unfolding rising
+    rises-on r h = rw (f .list) h
+
+    pub prefixed-not : (p : List ℕ) → startsWith p (entryOf l w i .key) ≡ false → false ≡ prefixed p (entries l w c)
+    unfolding prefixed
+    prefixed-not p h = rw (f .list, h) refl
+
+    pub prefixed-on : (p : List ℕ) → startsWith p (entryOf l w i .key) ≡ true → prefixed p (entries l w d) ≡ prefixed p (entries l w c)
+    unfolding prefixed
+    prefixed-on p h = rw (f .list, h) refl
+
+-- counting: what is counted and what is to come; it cannot pass what the source holds
+pub record Counting (l w : List ℕ) (c₀ c : Cursor) (n : ℕ) : Type 0 where
+  pub all : n + length (entries l w c) ≡ length (entries l w c₀)
+  pub left : n + leftOf l w c ≤ leftOf l w c₀
+
+module _ (l w : List ℕ) (c₀ c : Cursor) (n : ℕ) (h : Counting l w c₀ c n) where
+  pub counted : entries l w c ≡ [] → n ≡ length (entries l w c₀)
+  counted e = omega (arith, h .all, ap length e)
+
+  pub counting : (i : Item) (d : Cursor) → Found l w c i d → Counting l w c₀ d (n + 1)
+  counting i d f = record { all = omega (arith, h .all, ap length (f .list)); left = omega (arith, h .left, f .falls) }
+
+-- the count stays a number of the source's length
+pub left-long : (l w : List ℕ) (c : Cursor) → leftOf l w c ≤ length l + length w
+unfolding leftOf
+left-long l w c = omega arith

@@ -1,0 +1,8 @@
+-- The crate's laws.
+pub mod Walk
+pub mod Joined
+pub mod Lists
+pub mod Sourced
+pub mod Judging
+pub mod Cases
+pub mod Decided

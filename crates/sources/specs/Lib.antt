@@ -1,0 +1,5 @@
+-- The crate's definitions.
+pub mod Keys
+pub mod Lists
+pub mod Source
+pub mod Judged

@@ -1,0 +1,549 @@
+// Sources of entries: a record list or an index list, read by a cursor by value with a step. A pass over a source knows the step's
+// equation and the laws that follow from it, never the cursor, so a source that is added here (pages, a part of one) changes no pass.
+// `list` is the lent slice, `low` the arena below the next free address.
+use frames::Addr;
+use frames::PageId;
+use order::Order;
+use order::Ver;
+ghost use mathlib.Core.Path.{_≡_};
+ghost use mathlib.Core.List.{_++_};
+ghost use Prim.Native.Nat.{_+_, _≤_, _<_};
+ghost use lib.ListN.{length, getD};
+ghost use Rattle.order.specs.Order.{cmpBytes, startsWith};
+ghost use Rattle.sources.specs.Keys.{keyBytes};
+ghost use Rattle.sources.specs.Lists.{begunOf, sameKey, recordAt, indexAt, spotAt};
+ghost use Rattle.sources.specs.Source.{nextOf, entryOf, entries, wellFormed, wanted, ChosenBy, Skipped};
+ghost use Rattle.sources.specs.Judged.{above, risingFrom, rising, prefixed};
+
+// A key: its first bytes (a page's prefix; none in a list) and its rest, as places of one slice.
+pub struct Key {
+    pub pat: usize,
+    pub plen: usize,
+    pub kat: usize,
+    pub klen: usize,
+}
+
+// Where reading stands: which source, a place in it, and the key of the entry before.
+pub struct Cursor {
+    pub kind: u8,
+    pub at: usize,
+    pub seen: bool,
+    pub key: Key,
+}
+
+impl Cursor {
+    pub const RECORDS: u8 = 0;
+
+    pub const INDEX: u8 = 1;
+}
+
+// Where an entry lies: below the free address (low) or in the lent slice. `old` says that its key is that of the entry before.
+pub struct Item {
+    pub low: bool,
+    pub old: bool,
+    pub key: Key,
+    pub ver: Ver,
+    pub vat: usize,
+    pub vlen: usize,
+    pub kept: Addr,
+    pub page: PageId,
+}
+
+pub enum Begun {
+    From(Cursor),
+    Bad,
+}
+
+pub enum Spot {
+    At(Item, usize),
+    Out,
+}
+
+pub enum Step {
+    Got(Item, Cursor),
+    End,
+    Bad,
+}
+
+pub enum Pick {
+    One(Item, Cursor),
+    None,
+}
+
+// ---- keys
+
+// The byte at index k of p with r behind it.
+fn joined_byte(p: &[u8], r: &[u8], k: usize) -> u8
+    requires { ⌜ k < length (now p) + length (now r) ⌝ }
+    ensures { λ b. ⌜ b ≡ getD (now (p .entry) ++ now (r .entry)) k 0 ⌝ }
+{
+    let n = p.len();
+    if k < n {
+        return p[k];
+    }
+    let j = k - n;
+    r[j]
+}
+
+// Two strings in two parts each, byte by byte.
+fn compare_joined(p: &[u8], r: &[u8], q: &[u8], s: &[u8]) -> Order
+    ensures { λ o. ⌜ o ≡ cmpBytes (now (p .entry) ++ now (r .entry)) (now (q .entry) ++ now (s .entry)) ⌝ }
+{
+    let n = p.len() + r.len();
+    let m = q.len() + s.len();
+    let mut k: usize = 0;
+    loop {
+        if n <= k {
+            if m <= k {
+                return Order::Equal;
+            }
+            return Order::Less;
+        }
+        if m <= k {
+            return Order::Greater;
+        }
+        let x = joined_byte(p, r, k);
+        let y = joined_byte(q, s, k);
+        if x < y {
+            return Order::Less;
+        }
+        if y < x {
+            return Order::Greater;
+        }
+        k += 1;
+    }
+}
+
+// Two keys, by whole words where neither has a prefix of its own.
+fn compare_keys(s: &[u8], a: Key, t: &[u8], b: Key) -> Order
+    ensures { λ o. ⌜ o ≡ cmpBytes (keyBytes (now (s .entry)) a) (keyBytes (now (t .entry)) b) ⌝ }
+{
+    let p = spans::part_of(s, a.pat, a.plen);
+    let r = spans::part_of(s, a.kat, a.klen);
+    let q = spans::part_of(t, b.pat, b.plen);
+    let u = spans::part_of(t, b.kat, b.klen);
+    if p.len() == 0 {
+        if q.len() == 0 {
+            return order::compare(r, u);
+        }
+    }
+    compare_joined(p, r, q, u)
+}
+
+// Whether p and r behind it begin with pre.
+fn joined_begins(pre: &[u8], p: &[u8], r: &[u8]) -> bool
+    ensures { λ b. ⌜ b ≡ startsWith (now (pre .entry)) (now (p .entry) ++ now (r .entry)) ⌝ }
+{
+    let n = p.len() + r.len();
+    let mut k: usize = 0;
+    while k < pre.len() {
+        if n <= k {
+            return false;
+        }
+        let x = pre[k];
+        let y = joined_byte(p, r, k);
+        if x != y {
+            return false;
+        }
+        k += 1;
+    }
+    true
+}
+
+fn begins_in(s: &[u8], k: Key, pre: &[u8]) -> bool
+    ensures { λ b. ⌜ b ≡ startsWith (now (pre .entry)) (keyBytes (now (s .entry)) k) ⌝ }
+{
+    joined_begins(
+        pre,
+        spans::part_of(s, k.pat, k.plen),
+        spans::part_of(s, k.kat, k.klen),
+    )
+}
+
+// Whether an entry's key begins with pre.
+fn key_begins(list: &[u8], low: &[u8], i: Item, pre: &[u8]) -> bool
+    ensures { λ b. ⌜ b ≡ startsWith (now (pre .entry)) (entryOf (now (list .entry)) (now (low .entry)) i .key) ⌝ }
+{
+    let k = i.key;
+    if i.low {
+        return begins_in(low, k, pre);
+    }
+    begins_in(list, k, pre)
+}
+
+// ---- lists
+
+// The five bytes before a list's entries: version 1, and the count of the bytes that follow.
+fn begin(list: &[u8], kind: u8) -> Begun
+    ensures { λ r. ⌜ r ≡ begunOf (now (list .entry)) kind ⌝ }
+{
+    let n = list.len();
+    if n < 5 {
+        return Begun::Bad;
+    }
+    if list[0] != 1 {
+        return Begun::Bad;
+    }
+    if numbers::read_u32_be(list, 1) as usize != n - 5 {
+        return Begun::Bad;
+    }
+    Begun::From(Cursor {
+        kind: kind,
+        at: 5,
+        seen: false,
+        key: Key {
+            pat: 0,
+            plen: 0,
+            kat: 0,
+            klen: 0,
+        },
+    })
+}
+
+// Opens a record list.
+pub fn open_records(list: &[u8]) -> Begun
+    ensures { λ r. ⌜ r ≡ begunOf (now (list .entry)) 0 ⌝ }
+{
+    begin(list, Cursor::RECORDS)
+}
+
+// Opens an index list.
+pub fn open_index(list: &[u8]) -> Begun
+    ensures { λ r. ⌜ r ≡ begunOf (now (list .entry)) 1 ⌝ }
+{
+    begin(list, Cursor::INDEX)
+}
+
+// Whether a key is the one that the cursor carries.
+fn same_key(s: &[u8], c: Cursor, k: Key) -> bool
+    ensures { λ r. ⌜ r ≡ sameKey (now (s .entry)) c k ⌝ }
+{
+    if c.seen {
+        let before = c.key;
+        return order::is_equal(compare_keys(s, before, s, k));
+    }
+    false
+}
+
+// The entry of a record list at a cursor, and the place behind it.
+fn record_at(s: &[u8], c: Cursor) -> Spot
+    ensures { λ r. ⌜ r ≡ recordAt (now (s .entry)) c ⌝ }
+{
+    let n = s.len();
+    let at = c.at;
+    if n < at {
+        return Spot::Out;
+    }
+    if n - at < 2 {
+        return Spot::Out;
+    }
+    let klen = numbers::read_u16_be(s, at) as usize;
+    if 4096 < klen {
+        return Spot::Out;
+    }
+    if n - (at + 2) < klen + 16 {
+        return Spot::Out;
+    }
+    let tat = at + 2 + klen;
+    let vlen = numbers::read_u32_be(s, tat + 12) as usize;
+    if 65536 < vlen {
+        return Spot::Out;
+    }
+    let vat = tat + 16;
+    if n - vat < vlen {
+        return Spot::Out;
+    }
+    let k = Key {
+        pat: 0,
+        plen: 0,
+        kat: at + 2,
+        klen: klen,
+    };
+    let old = same_key(s, c, k);
+    let v = Ver::new(
+        numbers::read_u64_be(s, tat),
+        numbers::read_u32_be(s, tat + 8),
+    );
+    Spot::At(
+        Item {
+            low: false,
+            old: old,
+            key: k,
+            ver: v,
+            vat: vat,
+            vlen: vlen,
+            kept: Addr(0),
+            page: PageId(0),
+        },
+        vat + vlen,
+    )
+}
+
+// The same of an index list.
+fn index_at(s: &[u8], c: Cursor) -> Spot
+    ensures { λ r. ⌜ r ≡ indexAt (now (s .entry)) c ⌝ }
+{
+    let n = s.len();
+    let at = c.at;
+    if n < at {
+        return Spot::Out;
+    }
+    if n - at < 2 {
+        return Spot::Out;
+    }
+    let klen = numbers::read_u16_be(s, at) as usize;
+    if 4096 < klen {
+        return Spot::Out;
+    }
+    if n - (at + 2) < klen + 8 {
+        return Spot::Out;
+    }
+    let tat = at + 2 + klen;
+    let k = Key {
+        pat: 0,
+        plen: 0,
+        kat: at + 2,
+        klen: klen,
+    };
+    let old = same_key(s, c, k);
+    let v = Ver::new(0, 0);
+    let page = PageId(numbers::read_u64_be(s, tat));
+    Spot::At(
+        Item {
+            low: false,
+            old: old,
+            key: k,
+            ver: v,
+            vat: 0,
+            vlen: 0,
+            kept: Addr(0),
+            page: page,
+        },
+        tat + 8,
+    )
+}
+
+fn spot_at(s: &[u8], c: Cursor) -> Spot
+    ensures { λ r. ⌜ r ≡ spotAt (now (s .entry)) c ⌝ }
+{
+    if c.kind == Cursor::INDEX {
+        return index_at(s, c);
+    }
+    record_at(s, c)
+}
+
+// ---- the step
+
+// The entry at a cursor, and the cursor past it.
+pub fn next(list: &[u8], low: &[u8], c: Cursor) -> Step
+    ensures { λ r. ⌜ r ≡ nextOf (now (list .entry)) (now (low .entry)) c ⌝ }
+{
+    let at = c.at;
+    if list.len() <= at {
+        return Step::End;
+    }
+    let Spot::At(i, past) = spot_at(list, c) else {
+        return Step::Bad;
+    };
+    let k = i.key;
+    Step::Got(
+        i,
+        Cursor {
+            kind: c.kind,
+            at: past,
+            seen: true,
+            key: k,
+        },
+    )
+}
+
+fn is_wanted(want: bool, old: bool) -> bool
+    ensures { λ r. ⌜ r ≡ wanted want old ⌝ }
+{
+    if want { old } else { !old }
+}
+
+// The next old version, or the next head, with the cursor past it.
+pub fn next_of(list: &[u8], low: &[u8], want: bool, from: Cursor) -> Pick
+    ensures { λ r. ⌜ ChosenBy (now (list .entry)) (now (low .entry)) want from r ⌝ }
+{
+    let mut c = from;
+    loop {
+        let st = next(list, low, c);
+        match st {
+            Step::Got(i, d) => {
+                if is_wanted(want, i.old) {
+                    return Pick::One(i, d);
+                }
+                c = d;
+            }
+            Step::End => {
+                return Pick::None;
+            }
+            Step::Bad => {
+                return Pick::None;
+            }
+        }
+    }
+}
+
+// The cursor past the next n of them.
+pub fn skip(list: &[u8], low: &[u8], want: bool, from: Cursor, n: usize) -> Cursor
+    ensures { λ r. ⌜ Skipped (now (list .entry)) (now (low .entry)) want from n r ⌝ }
+{
+    let mut c = from;
+    let mut k = n;
+    while k > 0 {
+        let st = next_of(list, low, want, c);
+        match st {
+            Pick::One(_, d) => {
+                c = d;
+                k -= 1;
+            }
+            Pick::None => {
+                return c;
+            }
+        }
+    }
+    c
+}
+
+// ---- judging a whole source
+
+// Whether the entries end where the source ends.
+pub fn well(list: &[u8], low: &[u8], from: Cursor) -> bool
+    ensures { λ r. ⌜ r ≡ wellFormed (now (list .entry)) (now (low .entry)) from ⌝ }
+{
+    let mut c = from;
+    loop {
+        let st = next(list, low, c);
+        match st {
+            Step::Got(_, d) => {
+                c = d;
+            }
+            Step::End => {
+                return true;
+            }
+            Step::Bad => {
+                return false;
+            }
+        }
+    }
+}
+
+// The keys of two entries.
+fn compare_items(list: &[u8], low: &[u8], a: Item, b: Item) -> Order
+    ensures { λ o. ⌜ o ≡ cmpBytes (entryOf (now (list .entry)) (now (low .entry)) a .key) (entryOf (now (list .entry)) (now (low .entry)) b .key) ⌝ }
+{
+    let k = a.key;
+    let j = b.key;
+    if a.low {
+        if b.low {
+            return compare_keys(low, k, low, j);
+        }
+        return compare_keys(low, k, list, j);
+    }
+    if b.low {
+        return compare_keys(list, k, low, j);
+    }
+    compare_keys(list, k, list, j)
+}
+
+// Whether an entry is above the one before.
+fn is_above(list: &[u8], low: &[u8], a: Item, b: Item) -> bool
+    ensures { λ r. ⌜ r ≡ above (entryOf (now (list .entry)) (now (low .entry)) a) (entryOf (now (list .entry)) (now (low .entry)) b) ⌝ }
+{
+    let v = a.ver;
+    let w = b.ver;
+    let o = compare_items(list, low, a, b);
+    match o {
+        Order::Less => true,
+        Order::Equal => v.newer(w),
+        Order::Greater => false,
+    }
+}
+
+// Whether each entry from a cursor on is above the one before, the first above last.
+fn rises_from(list: &[u8], low: &[u8], first: Item, from: Cursor) -> bool
+    ensures { λ r. ⌜ r ≡ risingFrom (entryOf (now (list .entry)) (now (low .entry)) first) (entries (now (list .entry)) (now (low .entry)) from) ⌝ }
+{
+    let mut last = first;
+    let mut c = from;
+    loop {
+        let st = next(list, low, c);
+        match st {
+            Step::Got(i, d) => {
+                if !is_above(list, low, last, i) {
+                    return false;
+                }
+                last = i;
+                c = d;
+            }
+            Step::End => {
+                return true;
+            }
+            Step::Bad => {
+                return true;
+            }
+        }
+    }
+}
+
+// Whether each entry is above the one before.
+pub fn rises(list: &[u8], low: &[u8], from: Cursor) -> bool
+    ensures { λ r. ⌜ r ≡ rising (entries (now (list .entry)) (now (low .entry)) from) ⌝ }
+{
+    let st = next(list, low, from);
+    match st {
+        Step::Got(i, d) => rises_from(list, low, i, d),
+        Step::End => true,
+        Step::Bad => true,
+    }
+}
+
+// Whether each key begins with pre.
+pub fn begins(list: &[u8], low: &[u8], from: Cursor, pre: &[u8]) -> bool
+    ensures { λ r. ⌜ r ≡ prefixed (now (pre .entry)) (entries (now (list .entry)) (now (low .entry)) from) ⌝ }
+{
+    let mut c = from;
+    loop {
+        let st = next(list, low, c);
+        match st {
+            Step::Got(i, d) => {
+                if !key_begins(list, low, i, pre) {
+                    return false;
+                }
+                c = d;
+            }
+            Step::End => {
+                return true;
+            }
+            Step::Bad => {
+                return true;
+            }
+        }
+    }
+}
+
+// How many entries there are.
+pub fn count(list: &[u8], low: &[u8], from: Cursor) -> usize
+    ensures { λ r. ⌜ r ≡ length (entries (now (list .entry)) (now (low .entry)) from) ⌝ }
+{
+    let mut c = from;
+    let mut n: usize = 0;
+    loop {
+        let st = next(list, low, c);
+        match st {
+            Step::Got(_, d) => {
+                n += 1;
+                c = d;
+            }
+            Step::End => {
+                return n;
+            }
+            Step::Bad => {
+                return n;
+            }
+        }
+    }
+}

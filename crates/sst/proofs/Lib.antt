@@ -1,0 +1,9 @@
+-- The crate's laws.
+pub mod Turns
+pub mod Halving
+pub mod Opens
+pub mod Rising
+pub mod KeysRead
+pub mod PageKeys
+pub mod Answers
+pub mod Decided

@@ -1,0 +1,163 @@
+-- What a page that is ready for a search tells.
+-- Assumes nothing.
+use Prim.Native.Nat.{ℕ, _+_, _*_, _-_, _≤_, _<_, suc-le-suc, zero-le}
+use mathlib.Core.Path.{_≡_, refl, sym, ap, _∙_}
+use mathlib.Core.Bool.{Bool, true, false, cond, _||_, _&&_}
+use mathlib.Core.List.{List, [], _∷_}
+use native.Mathlib.Omega.{arith}
+use borrow.Author.Tests.{eq-eqb, ne-eqb, eqb-true, eqb-false}
+use lib.ListN.{length, take, drop, length-drop}
+use lib.Seq.{take-all}
+use lib.Dec.{leb, eqb}
+use Rattle.spans.proofs.Part.{length-part}
+use Rattle.spans.proofs.Tests.{ask, dont}
+use Rattle.order.specs.Order.{startsWith}
+use Rattle.frames.specs.declared.Addr.{Addr}
+use Rattle.frames.specs.declared.Body.{Body}
+use Rattle.frames.specs.declared.Opened.{Opened}
+use Rattle.frames.specs.declared.Refusal.{Refusal}
+use Rattle.frames.specs.Layout.{baseLen, addr, openAt, Inside}
+use Rattle.frames.proofs.Frames.{open-inside}
+use Rattle.values.specs.declared.KeyRead.{KeyRead}
+use Rattle.values.specs.Vals.{noHist}
+use Rattle.records.specs.declared.SlotRead.{SlotRead}
+use Rattle.records.specs.declared.Rec.{Rec}
+use Rattle.records.specs.declared.RecRead.{RecRead}
+use Rattle.records.specs.Records.{slotAt, keyIn, keySlot, keyAtSlot, recOf, recKey, recIn, recSlot, recAt}
+use Rattle.records.specs.Parts.{prefixIn}
+use Rattle.records.proofs.Inside.{KeyInside, key-inside, prefix-part, at-inside}
+use Rattle.sst.specs.declared.Want.{Want}
+use Rattle.sst.specs.declared.Ready.{Ready}
+use Rattle.sst.specs.declared.Halved.{Halved}
+use Rattle.sst.specs.declared.Outcome.{Outcome}
+use Rattle.sst.specs.Search.{rightKind, fitsPrefix, readyOf, readyAt, halved, outcomeOf, outcomeAt, intl, leaves}
+
+-- ---- laws that belong to lower crates
+
+-- a prefix is no longer than what it begins (`order`)
+pub starts-length : (p y : List ℕ) → startsWith p y ≡ true → length p ≤ length y
+unfolding startsWith
+starts-length [] y e = zero-le
+starts-length (x ∷ xs) [] e = absurd (let z : _≡_ {A = ℕ} 0 1 = cc in omega arith)
+starts-length (x ∷ xs) (y ∷ ys) e = suc-le-suc (starts-length xs ys (go (eqb x y) e))
+  where
+    go : (b : Bool) → cond b (startsWith xs ys) false ≡ true → startsWith xs ys ≡ true
+    go true q = q
+    go false q = absurd (let z : _≡_ {A = ℕ} 0 1 = cc in omega arith)
+
+-- the key of a slot lies in the page (`records`)
+pub key-at-inside : (s : List ℕ) (b : Body) (i v r n : ℕ) → Inside s b → keyAtSlot s b i ≡ KeyRead.Key v r n → KeyInside b v r n
+unfolding keyAtSlot
+key-at-inside s b i v r n z e = go (slotAt s b i) e
+  where
+    go : (w : SlotRead) → keySlot s b w ≡ KeyRead.Key v r n → KeyInside b v r n
+    go (SlotRead.At p) q = key-inside s b p v r n z q
+    go SlotRead.Bad q = absurd (let z : _≡_ {A = ℕ} 0 1 = cc in omega arith)
+
+-- an index page's value is a page id of 8 bytes (`records`)
+pub index-eight : (s : List ℕ) (b : Body) (i : ℕ) (r : Rec) → b .kind ≡ 1 → recAt s b i ≡ RecRead.Is r → r .«val_len» ≡ 8
+unfolding recAt recIn
+index-eight s b i r k e = go (slotAt s b i) e
+  where
+    no : RecRead.Bad ≡ RecRead.Is r → ⊥
+    no z = let y : _≡_ {A = ℕ} 0 1 = cc in omega arith
+
+    key : (p : ℕ) (x : KeyRead) → recKey s b p x ≡ RecRead.Is r → r .«val_len» ≡ 8
+    key p (KeyRead.Key v ra rn) q =
+        let q′ : cond (leb (ra + rn + 8) (b .end)) (RecRead.Is (recOf p v ra rn noHist (ra + rn) 8 (addr 0) (ra + rn + 8))) RecRead.Bad ≡ RecRead.Is r = rw (eq-eqb (b .kind) 1 k) at q in
+        let a1 = ask (leb (ra + rn + 8) (b .end)) _ RecRead.Bad (RecRead.Is r) no q′ in
+        let x : recOf p v ra rn noHist (ra + rn) 8 (addr 0) (ra + rn + 8) ≡ r = cc in
+        rw (← x)
+    key p KeyRead.Bad q = absurd (no q)
+
+    go : (w : SlotRead) → recSlot s b w ≡ RecRead.Is r → r .«val_len» ≡ 8
+    go (SlotRead.At p) q = key p (keyIn s b p) q
+    go SlotRead.Bad q = absurd (no q)
+
+pub page-inside : (s : List ℕ) (b : Body) (i : ℕ) (r : Rec) → Inside s b → b .kind ≡ 1 → recAt s b i ≡ RecRead.Is r → r .«val_at» + 8 ≤ length s
+page-inside s b i r z k e = omega (arith, at-inside s b i r z e .0 .val, index-eight s b i r k e)
+
+-- the prefix has its length (`records`)
+pub prefix-length : (s : List ℕ) (b : Body) → Inside s b → length (prefixIn s b) ≡ b .«prefix_len»
+prefix-length s b i =
+    ap length (prefix-part s b i)
+    ∙ length-part s (b .at + baseLen + 4 * b .elems) (b .«prefix_len») (omega (arith, i .slots, i .records, i .payload, i .arena, i .prefix))
+
+-- the part of a slice from k to its end (`spans`)
+pub tail-part : (s : List ℕ) (k : ℕ) → take (length s - k) (drop k s) ≡ drop k s
+tail-part s k = take-all (length s - k) (drop k s) (omega (arith, length-drop k s))
+
+-- ---- a page that is ready
+
+-- it was opened, it is of a kind that the search takes and has keys, and the probe has its prefix
+pub record IsReady (s : List ℕ) (a : Addr) (probe : List ℕ) (w : Want) (b : Body) : Type 0 where
+  pub opened : openAt s a ≡ Opened.Is b
+  pub inside : Inside s b
+  pub right : rightKind (b .kind) w ≡ true
+  pub some : b .elems ≡ 0 → ⊥
+  pub fits : fitsPrefix s b probe ≡ true
+  pub long : b .«prefix_len» ≤ length probe
+
+fits-long : (s : List ℕ) (b : Body) (probe : List ℕ) → Inside s b → fitsPrefix s b probe ≡ true → b .«prefix_len» ≤ length probe
+unfolding fitsPrefix
+fits-long s b probe i e = omega (arith, starts-length (prefixIn s b) probe e, prefix-length s b i)
+
+pub ready-inside : (s : List ℕ) (a : Addr) (probe : List ℕ) (w : Want) (b : Body) → readyAt s a probe w ≡ Ready.Is b → IsReady s a probe w b
+unfolding readyAt
+ready-inside s a probe w b e = go (openAt s a) refl e
+  where
+    go : (o : Opened) → openAt s a ≡ o → readyOf s probe w o ≡ Ready.Is b → IsReady s a probe w b
+    go (Opened.Is d) q e′ =
+        let a1 = ask (rightKind (d .kind) w) _ (Ready.Refused Refusal.BadFrame) (Ready.Is b) (λ n. let z : _≡_ {A = ℕ} 0 1 = cc in omega arith) e′ in
+        let a2 = dont (eqb (d .elems) 0) Ready.Empty _ (Ready.Is b) (λ n. let z : _≡_ {A = ℕ} 0 1 = cc in omega arith) (a1 .1) in
+        let a3 = ask (fitsPrefix s d probe) _ (Ready.Refused Refusal.WrongPrefix) (Ready.Is b) (λ n. let z : _≡_ {A = ℕ} 0 1 = cc in omega arith) (a2 .1) in
+        let x : d ≡ b = cc in
+        let i = open-inside s a d q .0 in
+        rw (← x) (record { opened = q; inside = i; right = a1 .0; some = eqb-false (d .elems) 0 (a2 .0); fits = a3 .0; long = fits-long s d probe i (a3 .0) })
+    go Opened.Bad q e′ = absurd (let z : _≡_ {A = ℕ} 0 1 = cc in omega arith)
+
+-- opening a page for a search, by what its headers and its prefix say
+module _ (s : List ℕ) (a : Addr) (probe : List ℕ) (w : Want) (b : Body) (o : openAt s a ≡ Opened.Is b) where
+  pub open-wrong : rightKind (b .kind) w ≡ false → readyAt s a probe w ≡ Ready.Refused Refusal.BadFrame
+  unfolding readyAt
+  open-wrong k = rw (o, k)
+
+  module _ (k : rightKind (b .kind) w ≡ true) where
+    pub open-empty : b .elems ≡ 0 → readyAt s a probe w ≡ Ready.Empty
+    unfolding readyAt
+    open-empty e = rw (o, k, eq-eqb _ _ e)
+
+    pub open-fits : (b .elems ≡ 0 → ⊥) → fitsPrefix s b probe ≡ true → readyAt s a probe w ≡ Ready.Is b
+    unfolding readyAt
+    open-fits e f = rw (o, k, ne-eqb _ _ e, f)
+
+    pub open-other : (b .elems ≡ 0 → ⊥) → fitsPrefix s b probe ≡ false → readyAt s a probe w ≡ Ready.Refused Refusal.WrongPrefix
+    unfolding readyAt
+    open-other e f = rw (o, k, ne-eqb _ _ e, f)
+
+-- ---- a page that was halved
+
+pub outcome-ready : (s : List ℕ) (a : Addr) (probe : List ℕ) (w : Want) (b : Body) (h : Halved) → outcomeAt s a probe w ≡ Outcome.Halves b h → IsReady s a probe w b × (halved s b probe w ≡ h)
+unfolding outcomeAt
+outcome-ready s a probe w b h e = go (readyAt s a probe w) refl e
+  where
+    go : (r : Ready) → readyAt s a probe w ≡ r → outcomeOf s probe w r ≡ Outcome.Halves b h → IsReady s a probe w b × (halved s b probe w ≡ h)
+    go (Ready.Is d) q e′ =
+        let x : d ≡ b = cc in
+        let y : halved s d probe w ≡ h = cc in
+        rw (← x) (ready-inside s a probe w d q, y)
+    go Ready.Empty q e′ = absurd (let z : _≡_ {A = ℕ} 0 1 = cc in omega arith)
+    go (Ready.Refused r) q e′ = absurd (let z : _≡_ {A = ℕ} 0 1 = cc in omega arith)
+
+-- the kind that floor takes, and the kind that search takes
+pub intl-kind : (k : ℕ) → rightKind k intl ≡ true → k ≡ 1
+unfolding rightKind
+intl-kind k e = eqb-true k 1 e
+
+pub leaf-kind : (k : ℕ) → rightKind k leaves ≡ true → k ≡ 0
+unfolding rightKind
+leaf-kind k e = go (eqb k 0) refl e
+  where
+    go : (t : Bool) → eqb k 0 ≡ t → (t || false) ≡ true → k ≡ 0
+    go true q e′ = eqb-true k 0 q
+    go false q e′ = absurd (let z : _≡_ {A = ℕ} 0 1 = cc in omega arith)

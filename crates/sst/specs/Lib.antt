@@ -1,0 +1,6 @@
+-- The crate's definitions.
+pub mod Halve
+pub mod Search
+pub mod Refused
+pub mod Says
+pub mod Cases

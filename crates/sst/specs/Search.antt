@@ -1,0 +1,155 @@
+-- The three searches, on every arena, address and probe.
+-- Assumes nothing.
+use Prim.Native.Nat.{ℕ, _+_, _-_}
+use mathlib.Core.List.{List}
+use mathlib.Core.Bool.{Bool, true, false, _&&_, _||_, cond}
+use lib.ListN.{drop}
+use lib.Dec.{ltb, eqb}
+use Rattle.spans.specs.Span.{part}
+use Rattle.numbers.specs.Number.{leAt}
+use Rattle.order.specs.declared.Ver.{Ver}
+use Rattle.order.specs.Order.{cmpBytes, startsWith}
+use Rattle.order.specs.Version.{verOf, newerThan}
+use Rattle.frames.specs.declared.Addr.{Addr}
+use Rattle.frames.specs.declared.Body.{Body}
+use Rattle.frames.specs.declared.Opened.{Opened}
+use Rattle.frames.specs.declared.Refusal.{Refusal}
+use Rattle.frames.specs.Layout.{pageId, openAt}
+use Rattle.values.specs.declared.KeyRead.{KeyRead}
+use Rattle.records.specs.declared.Rec.{Rec}
+use Rattle.records.specs.declared.RecRead.{RecRead}
+use Rattle.records.specs.Records.{verIn, keyAtSlot, recAt}
+use Rattle.records.specs.Parts.{prefixIn}
+use Rattle.pages.specs.Edges.{place}
+use Rattle.sst.specs.declared.Cmp.{Cmp}
+use Rattle.sst.specs.declared.Halved.{Halved}
+use Rattle.sst.specs.declared.Want.{Want}
+use Rattle.sst.specs.declared.Ready.{Ready}
+use Rattle.sst.specs.declared.Outcome.{Outcome}
+use Rattle.sst.specs.declared.Bound.{Bound}
+use Rattle.sst.specs.declared.Floor.{Floor}
+use Rattle.sst.specs.declared.Found.{Found}
+use Rattle.sst.specs.Halve.{asked, lowered, halve}
+
+-- ---- the comparison
+
+-- whether a key's version is newer than v; "an index page ignores" it
+unfoldable pub newerAt : List ℕ → ℕ → ℕ → Ver → Bool
+newerAt s kind at v = cond (eqb kind 1) false (newerThan (verIn s at) v)
+
+-- "A halving step judges the middle's slot and key"
+abbrev pub cmpRead : List ℕ → Body → List ℕ → Want → KeyRead → Cmp
+cmpRead s b rest w (KeyRead.Key v at n) =
+    cond (w .lower) (lowered (newerAt s (b .kind) v (w .ver)) (asked (cmpBytes (part s at n) rest))) (asked (cmpBytes (part s at n) rest))
+cmpRead s b rest w KeyRead.Bad = Cmp.Refuse
+
+-- the key of slot i against the rest of a probe
+unfoldable pub keyCmp : List ℕ → Body → List ℕ → Want → ℕ → Cmp
+keyCmp s b rest w i = cmpRead s b rest w (keyAtSlot s b i)
+
+-- ---- the page
+
+-- "Search takes a leaf, floor an index page, lower bound either"
+unfoldable pub rightKind : ℕ → Want → Bool
+rightKind kind w = (w .leaf && eqb kind 0) || (w .index && eqb kind 1)
+
+-- whether a probe begins with the page's prefix
+unfoldable pub fitsPrefix : List ℕ → Body → List ℕ → Bool
+fitsPrefix s b probe = startsWith (prefixIn s b) probe
+
+-- "another kind is 4"; "A page without keys answers none .. before the probe is judged"; then "a .. probe does not begin with the
+-- page's prefix" is 7
+abbrev pub readyOf : List ℕ → List ℕ → Want → Opened → Ready
+readyOf s probe w (Opened.Is b) =
+    cond (rightKind (b .kind) w)
+    (cond (eqb (b .elems) 0) Ready.Empty (cond (fitsPrefix s b probe) (Ready.Is b) (Ready.Refused Refusal.WrongPrefix)))
+    (Ready.Refused Refusal.BadFrame)
+readyOf s probe w Opened.Bad = Ready.Refused Refusal.BadFrame
+
+unfoldable pub readyAt : List ℕ → Addr → List ℕ → Want → Ready
+readyAt s a probe w = readyOf s probe w (openAt s a)
+
+-- the halving of a page for a probe
+unfoldable pub halved : List ℕ → Body → List ℕ → Want → Halved
+halved s b probe w = halve (keyCmp s b (drop (b .«prefix_len») probe) w) (b .elems) 0 (b .elems) 0
+
+abbrev pub outcomeOf : List ℕ → List ℕ → Want → Ready → Outcome
+outcomeOf s probe w (Ready.Is b) = Outcome.Halves b (halved s b probe w)
+outcomeOf s probe w Ready.Empty = Outcome.Empty
+outcomeOf s probe w (Ready.Refused r) = Outcome.Refused r
+
+unfoldable pub outcomeAt : List ℕ → Addr → List ℕ → Want → Outcome
+outcomeAt s a probe w = outcomeOf s probe w (readyAt s a probe w)
+
+-- ---- lower bound: "the first position not less, past the end otherwise"
+
+abbrev pub bound : Ver → Want
+bound v = record { leaf = true; index = true; lower = true; ver = v }
+
+abbrev pub boundIn : ℕ → Halved → Bound
+boundIn elems (Halved.At i n) = Bound.Refused Refusal.BadFrame
+boundIn elems (Halved.End p n) = cond (ltb p elems) (Bound.At p n) (Bound.PastEnd p n)
+boundIn elems Halved.Bad = Bound.Refused Refusal.BadFrame
+
+abbrev pub lowerOf : Outcome → Bound
+lowerOf (Outcome.Halves b h) = boundIn (b .elems) h
+lowerOf Outcome.Empty = Bound.PastEnd 0 0
+lowerOf (Outcome.Refused r) = Bound.Refused r
+
+unfoldable pub lowerAt : List ℕ → Addr → List ℕ → Ver → Bound
+lowerAt s a probe v = lowerOf (outcomeAt s a probe (bound v))
+
+-- ---- floor: "the greatest key not above, slot 0 below the first"
+
+abbrev pub intl : Want
+intl = record { leaf = false; index = true; lower = false; ver = verOf 0 0 }
+
+-- the slot before the first greater key, 0 where that is the first
+abbrev pub floorSlot : ℕ → ℕ
+floorSlot p = p - 1
+
+-- "Floor's last read of the page id is not a key read"
+abbrev pub pageRec : List ℕ → ℕ → ℕ → RecRead → Floor
+pageRec s i n (RecRead.Is r) = Floor.Is i (pageId (leAt 8 s (r .«val_at»))) n
+pageRec s i n RecRead.Bad = Floor.Refused Refusal.BadFrame
+
+unfoldable pub pageIn : List ℕ → Body → ℕ → ℕ → Floor
+pageIn s b i n = pageRec s i n (recAt s b i)
+
+abbrev pub floorIn : List ℕ → Body → Halved → Floor
+floorIn s b (Halved.At i n) = pageIn s b i n
+floorIn s b (Halved.End p n) = pageIn s b (floorSlot p) n
+floorIn s b Halved.Bad = Floor.Refused Refusal.BadFrame
+
+abbrev pub floorOf : List ℕ → Outcome → Floor
+floorOf s (Outcome.Halves b h) = floorIn s b h
+floorOf s Outcome.Empty = Floor.Nothing 0
+floorOf s (Outcome.Refused r) = Floor.Refused r
+
+unfoldable pub floorAt : List ℕ → Addr → List ℕ → Floor
+floorAt s a probe = floorOf s (outcomeAt s a probe intl)
+
+-- ---- search: "stops at an equal key"; "judges a history reference's form .. and does not follow it"
+
+abbrev pub leaves : Want
+leaves = record { leaf = true; index = false; lower = false; ver = verOf 0 0 }
+
+abbrev pub foundRec : List ℕ → ℕ → ℕ → RecRead → Found
+foundRec s i n (RecRead.Is r) = Found.Is i (verIn s (r .«ver_at»)) (r .hist) (place (r .«val_at») (r .«val_len»)) n
+foundRec s i n RecRead.Bad = Found.Refused Refusal.BadFrame
+
+unfoldable pub headIn : List ℕ → Body → ℕ → ℕ → Found
+headIn s b i n = foundRec s i n (recAt s b i)
+
+abbrev pub foundIn : List ℕ → Body → Halved → Found
+foundIn s b (Halved.At i n) = headIn s b i n
+foundIn s b (Halved.End p n) = Found.Nothing n
+foundIn s b Halved.Bad = Found.Refused Refusal.BadFrame
+
+abbrev pub searchOf : List ℕ → Outcome → Found
+searchOf s (Outcome.Halves b h) = foundIn s b h
+searchOf s Outcome.Empty = Found.Nothing 0
+searchOf s (Outcome.Refused r) = Found.Refused r
+
+unfoldable pub searchAt : List ℕ → Addr → List ℕ → Found
+searchAt s a probe = searchOf s (outcomeAt s a probe leaves)

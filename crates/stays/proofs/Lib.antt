@@ -1,0 +1,5 @@
+-- The crate's laws.
+pub mod Grown
+pub mod FramesStay
+pub mod RecordsStay
+pub mod PagesStay

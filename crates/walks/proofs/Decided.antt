@@ -1,0 +1,51 @@
+-- No second answer fits the contract of a public call. `Post` is the contract as the check reads it, so a contract that is weakened fails here.
+-- Assumes nothing.
+use mathlib.Core.Path.{_≡_}
+use mathlib.Core.List.{List}
+use Prim.Native.Nat.{ℕ}
+use lib.IntN.{ℤ}
+use contract.Lifetimes.{Lfts}
+use denote.Ref.{RefT, now}
+use denote.Triple.Clauses.{AtExit}
+use Rattle.spans.specs.Span.{partOr}
+use Rattle.spans.specs.Only.{Decides, decides}
+use Rattle.frames.specs.declared.Addr.{Addr}
+use Rattle.walks.specs.declared.Walk.{Walk}
+use Rattle.walks.specs.declared.Item.{Item}
+use Rattle.walks.specs.declared.Branch.{Branch}
+use Rattle.walks.specs.declared.Begun.{Begun}
+use Rattle.walks.specs.declared.Step.{Step}
+use Rattle.walks.specs.Walk.{forwardAt, backwardAt, stepAt}
+use Rattle.walks.proofs.forward as forward-fn
+use Rattle.walks.proofs.forward.Reads as forward-at
+use Rattle.walks.proofs.backward as backward-fn
+use Rattle.walks.proofs.backward.Reads as backward-at
+use Rattle.walks.proofs.Walk.step as step-fn
+use Rattle.walks.proofs.Walk.step.Reads as step-at
+use Rattle.walks.proofs.rest_of as rest-fn
+use Rattle.walks.proofs.rest_of.Reads as rest-at
+use Rattle.walks.proofs.value_of as value-fn
+use Rattle.walks.proofs.value_of.Reads as value-at
+use Rattle.walks.proofs.branch_rest_of as branch-fn
+use Rattle.walks.proofs.branch_rest_of.Reads as branch-at
+
+module _ (κs : Lfts 1) (s : RefT (List ℕ)) where
+  pub forward-decided : (a : Addr) (i j : ℕ) (x : AtExit forward-fn.ended κs) → Decides (λ (r : Begun). forward-at.Post κs (s, (a, (i, (j, tt)))) r x) (λ (r : Begun). r)
+  forward-decided a i j x = decides (λ (r : Begun). r) (forwardAt (now s) a i j)
+
+  pub backward-decided : (a : Addr) (i j : ℤ) (x : AtExit backward-fn.ended κs) → Decides (λ (r : Begun). backward-at.Post κs (s, (a, (i, (j, tt)))) r x) (λ (r : Begun). r)
+  backward-decided a i j x = decides (λ (r : Begun). r) (backwardAt (now s) a i j)
+
+  pub step-decided : (w : Walk) (x : AtExit step-fn.ended κs) → Decides (λ (r : Step). step-at.Post κs (w, (s, tt)) r x) (λ (r : Step). r)
+  step-decided w x = decides (λ (r : Step). r) (stepAt (now s) w)
+
+-- the bytes of a part are decided
+module _ (κs : Lfts 1) (s : RefT (List ℕ)) where
+  pub rest-decided : (i : Item) (x : AtExit rest-fn.ended κs) → Decides (λ (r : RefT (List ℕ)). rest-at.Post κs (s, (i, tt)) r x) (λ (r : RefT (List ℕ)). now r)
+  rest-decided i x = decides (λ (r : RefT (List ℕ)). now r) (partOr (now s) (i .key .at) (i .key .len))
+
+  pub value-decided : (i : Item) (x : AtExit value-fn.ended κs) → Decides (λ (r : RefT (List ℕ)). value-at.Post κs (s, (i, tt)) r x) (λ (r : RefT (List ℕ)). now r)
+  value-decided i x = decides (λ (r : RefT (List ℕ)). now r) (partOr (now s) (i .value .at) (i .value .len))
+
+  pub branch-decided : (i : Branch) (x : AtExit branch-fn.ended κs) → Decides (λ (r : RefT (List ℕ)). branch-at.Post κs (s, (i, tt)) r x) (λ (r : RefT (List ℕ)). now r)
+  branch-decided i x = decides (λ (r : RefT (List ℕ)). now r) (partOr (now s) (i .key .at) (i .key .len))

@@ -1,0 +1,8 @@
+-- The crate's laws.
+pub mod Lying
+pub mod Signs
+pub mod Steps
+pub mod Listing
+pub mod Says
+pub mod Shorter
+pub mod Decided

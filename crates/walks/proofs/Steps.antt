@@ -1,0 +1,125 @@
+-- A step of a walk over a page that was opened, case by case: its end, a leaf's head, an index page's record, an old version.
+-- Assumes nothing.
+use Prim.Native.Nat.{ℕ, zero, suc, _+_, _-_, _≤_, _<_}
+use mathlib.Core.Path.{_≡_, refl, sym, ap, _∙_}
+use mathlib.Core.Bool.{Bool, true, false, cond}
+use mathlib.Core.List.{List}
+use native.Mathlib.Omega.{arith}
+use borrow.Author.Tests.{eq-eqb, ne-eqb, eqb-true, lt-ltb, le-ltb}
+use lib.ListN.{length}
+use lib.Dec.{ltb, eqb}
+use Rattle.numbers.specs.Number.{leAt}
+use Rattle.frames.specs.declared.Addr.{Addr}
+use Rattle.frames.specs.declared.Body.{Body}
+use Rattle.frames.specs.declared.Opened.{Opened}
+use Rattle.frames.specs.Layout.{addr, pageId, Inside}
+use Rattle.values.specs.declared.HistRef.{HistRef}
+use Rattle.records.specs.declared.Rec.{Rec}
+use Rattle.records.specs.declared.RecRead.{RecRead}
+use Rattle.records.specs.Records.{recAt}
+use Rattle.pages.specs.declared.Place.{Place}
+use Rattle.pages.specs.declared.OldRead.{OldRead}
+use Rattle.pages.specs.Sound.{historyAt, oldRec, oldIn, oldLink, oldOf, oldAt, enteredOf, entered}
+use Rattle.pages.proofs.Olds.{History, history-inside}
+use Rattle.walks.specs.declared.Past.{Past}
+use Rattle.walks.specs.declared.Walk.{Walk}
+use Rattle.walks.specs.declared.Item.{Item}
+use Rattle.walks.specs.declared.Step.{Step}
+use Rattle.walks.specs.declared.OldStep.{OldStep}
+use Rattle.walks.specs.declared.Entered.{Entered}
+use Rattle.walks.specs.Walk.{pastOf, walkOf, movedOf, onOf, behindOf, itemOf, restOf, fitsIn, nextIn, nextOld, enterAt, headStep, branchStep, oldStep, stepAt}
+use Rattle.walks.proofs.Lying.{inside-fits}
+
+less-one : (k : ℕ) → suc k - 1 ≡ k
+less-one k = omega arith
+
+-- ---- the history part
+
+-- behind the last old version of the last head the walk ends
+pub step-end : (s : List ℕ) (w : Walk) → w .past .left ≡ 0 → w .heads ≡ 0 → stepAt s w ≡ Step.End
+unfolding stepAt
+step-end s w e f = rw (e, f)
+
+-- an old version
+pub step-old : (s : List ℕ) (w : Walk) (x : Item) (p : Past) → 0 < w .past .left → nextOld s (w .key) (w .past) ≡ OldStep.Is x p → stepAt s w ≡ Step.Found x (behindOf w p)
+unfolding stepAt
+step-old s w x p l e = rw (lt-ltb 0 (w .past .left) l, e)
+
+-- where the reader of old versions reads one, so does the walk that carries the page's body; and it carries on with the body of that one's page
+pub record Next (s : List ℕ) (key : Place) (b : Body) (i k : ℕ) (p : Addr) (q : ℕ) (r : Rec) : Type 0 where
+  pub body : Body
+  pub opened : historyAt s p ≡ Opened.Is body
+  pub read : recAt s body q ≡ RecRead.Is r
+  pub names : Addr
+  pub next : nextOld s key (pastOf b i (suc k)) ≡ OldStep.Is (itemOf s key r names) (pastOf body (q + 1) k)
+
+module _ (s : List ℕ) (key : Place) (h : Addr) (b : Body) (o : historyAt s h ≡ Opened.Is b) (i k : ℕ) where
+  here : (r : Rec) → eqb i (b .elems) ≡ false → recAt s b i ≡ RecRead.Is r → nextOld s key (pastOf b i (suc k)) ≡ OldStep.Is (itemOf s key r (addr 0)) (pastOf b (i + 1) k)
+  unfolding nextOld nextIn
+  here r t e =
+      let g = history-inside s h b o in
+      rw (eq-eqb (b .kind) 2 (g .kind), inside-fits s b (g .inside), t, e) (ap (λ (m : ℕ). OldStep.Is (itemOf s key r (addr 0)) (pastOf b (i + 1) m)) (less-one k))
+
+  linked : (d : Body) (r : Rec) → eqb i (b .elems) ≡ true → historyAt s (b .link) ≡ Opened.Is d → recAt s d 0 ≡ RecRead.Is r → nextOld s key (pastOf b i (suc k)) ≡ OldStep.Is (itemOf s key r (b .link)) (pastOf d (0 + 1) k)
+  unfolding nextOld nextIn
+  linked d r t u e =
+      let g = history-inside s h b o in
+      rw (eq-eqb (b .kind) 2 (g .kind), inside-fits s b (g .inside), t, u, e) (ap (λ (m : ℕ). OldStep.Is (itemOf s key r (b .link)) (pastOf d (0 + 1) m)) (less-one k))
+
+  pub next-old : (p : Addr) (q : ℕ) (r : Rec) → oldAt s h i ≡ OldRead.Old p q r → Next s key b i k p q r
+  unfolding oldAt oldIn
+  next-old p q r e = by (eqb i (b .elems)) refl (rw o at e)
+    where
+      no : OldRead.Bad ≡ OldRead.Old p q r → ⊥
+      no n = let z : _≡_ {A = ℕ} 0 1 = cc in omega arith
+
+      same : (a : Addr) (d : Body) (j : ℕ) (x : Rec) (n : Addr) → historyAt s a ≡ Opened.Is d → recAt s d j ≡ RecRead.Is x → OldRead.Old a j x ≡ OldRead.Old p q r → nextOld s key (pastOf b i (suc k)) ≡ OldStep.Is (itemOf s key x n) (pastOf d (j + 1) k) → Next s key b i k p q r
+      same a d j x n u v w y =
+          let e1 : a ≡ p = cc in
+          let e2 : j ≡ q = cc in
+          let e3 : x ≡ r = cc in
+          rw (← e1, ← e2, ← e3) (record { body = d; opened = u; read = v; names = n; next = y })
+
+      at : (x : RecRead) → recAt s b i ≡ x → eqb i (b .elems) ≡ false → oldRec h i x ≡ OldRead.Old p q r → Next s key b i k p q r
+      at (RecRead.Is x) v t w = same h b i x (addr 0) o v w (here x t v)
+      at RecRead.Bad v t w = absurd (no w)
+
+      far : (d : Body) → historyAt s (b .link) ≡ Opened.Is d → (x : RecRead) → recAt s d 0 ≡ x → eqb i (b .elems) ≡ true → oldRec (b .link) 0 x ≡ OldRead.Old p q r → Next s key b i k p q r
+      far d u (RecRead.Is x) v t w = same (b .link) d 0 x (b .link) u v w (linked d x t u v)
+      far d u RecRead.Bad v t w = absurd (no w)
+
+      link : (x : Opened) → historyAt s (b .link) ≡ x → eqb i (b .elems) ≡ true → oldLink s (b .link) x ≡ OldRead.Old p q r → Next s key b i k p q r
+      link (Opened.Is d) u t w = far d u (recAt s d 0) refl t w
+      link Opened.Bad u t w = absurd (no w)
+
+      by : (t : Bool) → eqb i (b .elems) ≡ t → cond t (oldLink s (b .link) (historyAt s (b .link))) (oldIn s b h i) ≡ OldRead.Old p q r → Next s key b i k p q r
+      by true t w = link (historyAt s (b .link)) refl t w
+      by false t w = at (recAt s b i) refl t w
+
+-- ---- heads
+
+-- a head with no history leaves what was left: nothing
+pub enter-none : (s : List ℕ) (h : HistRef) (was : Past) → h .count ≡ 0 → enterAt s h was ≡ Entered.Is was
+unfolding enterAt
+enter-none s h was e = rw (eq-eqb (h .count) 0 e)
+
+-- one with history enters its page
+pub enter-in : (s : List ℕ) (h : HistRef) (was : Past) → (h .count ≡ 0 → ⊥) → entered s (h .page) (h .slot) ≡ true → (b : Body) × (historyAt s (h .page) ≡ Opened.Is b) × (enterAt s h was ≡ Entered.Is (pastOf b (h .slot) (h .count)))
+unfolding enterAt entered
+enter-in s h was n e = go (historyAt s (h .page)) refl e
+  where
+    go : (o : Opened) → historyAt s (h .page) ≡ o → enteredOf (h .slot) o ≡ true → (b : Body) × (historyAt s (h .page) ≡ Opened.Is b) × (enterAt s h was ≡ Entered.Is (pastOf b (h .slot) (h .count)))
+    go (Opened.Is b) q t = (b, q, rw (ne-eqb (h .count) 0 n, q, t))
+    go Opened.Bad q t = absurd (let z : _≡_ {A = ℕ} 0 1 = cc in omega arith)
+
+module _ (s : List ℕ) (b : Body) (i : Inside s b) (back : Bool) (at n : ℕ) (key : Place) (was : Past) (z : was .left ≡ 0) (r : Rec) (e : recAt s b at ≡ RecRead.Is r) where
+  none : ltb 0 (was .left) ≡ false
+  none = le-ltb 0 (was .left) (omega arith)
+
+  pub step-head : b .kind ≡ 0 → (p : Past) → enterAt s (r .hist) was ≡ Entered.Is p → stepAt s (walkOf b back at (suc n) key was) ≡ Step.Found (itemOf s (restOf r) r (r .hist .page)) (walkOf b back (movedOf back at) n (restOf r) p)
+  unfolding stepAt headStep onOf
+  step-head k p f = rw (none, ne-eqb (suc n) 0 (λ q. omega arith), inside-fits s b i, eq-eqb (b .kind) 0 k, e, f) (ap (λ (m : ℕ). Step.Found (itemOf s (restOf r) r (r .hist .page)) (walkOf b back (movedOf back at) m (restOf r) p)) (less-one n))
+
+  pub step-branch : b .kind ≡ 1 → stepAt s (walkOf b back at (suc n) key was) ≡ Step.Leads (record { key = restOf r; page = pageId (leAt 8 s (r .«val_at»)) }) (walkOf b back (movedOf back at) n (restOf r) was)
+  unfolding stepAt branchStep onOf
+  step-branch k = rw (none, ne-eqb (suc n) 0 (λ q. omega arith), inside-fits s b i, eq-eqb (b .kind) 1 k, ne-eqb (b .kind) 0 (λ q. omega arith), e) (ap (λ (m : ℕ). Step.Leads (record { key = restOf r; page = pageId (leAt 8 s (r .«val_at»)) }) (walkOf b back (movedOf back at) m (restOf r) was)) (less-one n))

@@ -1,0 +1,19 @@
+-- `walks::walk_over` meets its contract. Assumes nothing.
+use borrow.Author.Needs.{needs}
+use Rattle.walks.proofs.walk_over.Statement.{statement}
+use Rattle.walks.proofs.walk_over.Tie as tie
+
+enum-known-r : tie.Need-enum-known-r
+enum-known-r c = search needs
+
+enum-told : tie.Need-enum-told
+enum-told c = search needs
+
+returns : tie.Need-returns
+returns c = simp (c .enum-told .given .1)
+
+returns-2 : tie.Need-returns-2
+returns-2 c = simp (c .before .r .given .1)
+
+pub walk-over-spec : {M : Type 1} → statement M
+walk-over-spec = tie.close (tie.spec enum-known-r enum-told returns returns-2)

@@ -1,0 +1,5 @@
+-- The crate's definitions.
+pub mod Walk
+pub mod Refused
+pub mod Listed
+pub mod Cases
