@@ -6,4 +6,6 @@ pub mod Rising
 pub mod KeysRead
 pub mod PageKeys
 pub mod Answers
+pub mod Only
+pub mod Places
 pub mod Decided

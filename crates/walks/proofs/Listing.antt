@@ -32,7 +32,7 @@ use Rattle.walks.specs.declared.Walk.{Walk}
 use Rattle.walks.specs.declared.Item.{Item}
 use Rattle.walks.specs.declared.Step.{Step}
 use Rattle.walks.specs.declared.Entered.{Entered}
-use Rattle.walks.specs.Walk.{pastOf, walkOf, movedOf, behindOf, itemOf, restOf, enterAt, stepAt}
+use Rattle.walks.specs.Walk.{sheetOf, pastOver, walkOf, kindOfWay, movedOf, behindOf, itemOf, restOf, enterAt, stepAt}
 use Rattle.walks.specs.Listed.{Entry, entryOf, olderEntries, entriesOf, WalksTo, leadOf, LeadsTo}
 use Rattle.walks.proofs.Steps.{step-end, step-old, Next, next-old, enter-none, enter-in, step-head, step-branch}
 
@@ -49,10 +49,10 @@ module _ (s : List ℕ) (pre : List ℕ) (b : Body) (i : Inside s b) (j : ℕ) (
 
 -- ---- the old versions of a head, and then what follows
 
-module _ (s : List ℕ) (pre : List ℕ) (b : Body) (back : Bool) (at n : ℕ) (key : Place) (es : List Entry) (f : (p : Past) → p .left ≡ 0 → WalksTo s pre (walkOf b back at n key p) es) where
-  olds-walk : (k : ℕ) (h : Addr) (d : Body) (i : ℕ) (t : Ver) → historyAt s h ≡ Opened.Is d → chainFrom s k h i t ≡ true → WalksTo s pre (walkOf b back at n key (pastOf d i k)) (olderEntries (pre ++ partIn s key) (oldsFrom s k h i) ++ es)
+module _ (s : List ℕ) (pre : List ℕ) (b : Body) (way : ℕ) (at n : ℕ) (key : Place) (es : List Entry) (f : (p : Past) → p .left ≡ 0 → WalksTo s pre (walkOf (sheetOf b) way at n key p) es) where
+  olds-walk : (k : ℕ) (h : Addr) (d : Body) (i : ℕ) (t : Ver) → historyAt s h ≡ Opened.Is d → chainFrom s k h i t ≡ true → WalksTo s pre (walkOf (sheetOf b) way at n key (pastOver d i k)) (olderEntries (pre ++ partIn s key) (oldsFrom s k h i) ++ es)
   unfolding oldsFrom olderEntries WalksTo behindOf
-  olds-walk zero h d i t o c = f (pastOf d i 0) refl
+  olds-walk zero h d i t o c = f (pastOver d i 0) refl
   olds-walk (suc k) h d i t o c =
       let g = link-given s k h i t c in
       let x = next-old s key h d o i k (g .page) (g .slot) (g .rec) (g .read) in
@@ -60,8 +60,8 @@ module _ (s : List ℕ) (pre : List ℕ) (b : Body) (back : Bool) (at n : ℕ) (
       let ih = olds-walk k (g .page) (x .body) (g .slot + 1) (verIn s (g .rec .«ver_at»)) (x .opened) (g .more) in
       rw (g .read) (
         itemOf s key (g .rec) (x .names),
-        walkOf b back at n key (pastOf (x .body) (g .slot + 1) k),
-        step-old s (walkOf b back at n key (pastOf d i (suc k))) (itemOf s key (g .rec) (x .names)) (pastOf (x .body) (g .slot + 1) k) (omega arith) (x .next),
+        walkOf (sheetOf b) way at n key (pastOver (x .body) (g .slot + 1) k),
+        step-old s (walkOf (sheetOf b) way at n key (pastOver d i (suc k))) (itemOf s key (g .rec) (x .names)) (pastOver (x .body) (g .slot + 1) k) (omega arith) (x .next),
         old-entry s pre (x .body) (v .inside) (g .slot) (g .rec) (x .read) key (x .names),
         ih,
       )
@@ -69,17 +69,17 @@ module _ (s : List ℕ) (pre : List ℕ) (b : Body) (back : Bool) (at n : ℕ) (
 -- ---- heads, either way
 
 -- one head, and then what follows
-module _ (s : List ℕ) (b : Body) (i : Inside s b) (k : b .kind ≡ 0) (back : Bool) (p n : ℕ) (key : Place) (was : Past) (z : was .left ≡ 0) (r : Rec) (e : recAt s b p ≡ RecRead.Is r) (es : List Entry) (f : (q : Past) → q .left ≡ 0 → WalksTo s (prefixOf s b) (walkOf b back (movedOf back p) n (restOf r) q) es) where
+module _ (s : List ℕ) (b : Body) (i : Inside s b) (way p n : ℕ) (k : kindOfWay way ≡ b .kind) (t2 : way ≡ 2 → ⊥) (key : Place) (was : Past) (z : was .left ≡ 0) (r : Rec) (e : recAt s b p ≡ RecRead.Is r) (es : List Entry) (f : (q : Past) → q .left ≡ 0 → WalksTo s (prefixOf s b) (walkOf (sheetOf b) way (movedOf way p) n (restOf r) q) es) where
   abbrev headFirst : List Entry → List Entry
   headFirst rest = (record { key = keyOf s b r; ver = verIn s (r .«ver_at»); value = part s (r .«val_at») (r .«val_len») }) ∷ rest
 
   -- the head's own step
-  first : (q : Past) → enterAt s (r .hist) was ≡ Entered.Is q → (rest : List Entry) → WalksTo s (prefixOf s b) (walkOf b back (movedOf back p) n (restOf r) q) rest → WalksTo s (prefixOf s b) (walkOf b back p (suc n) key was) (headFirst rest)
+  first : (q : Past) → enterAt s (r .hist) was ≡ Entered.Is q → (rest : List Entry) → WalksTo s (prefixOf s b) (walkOf (sheetOf b) way (movedOf way p) n (restOf r) q) rest → WalksTo s (prefixOf s b) (walkOf (sheetOf b) way p (suc n) key was) (headFirst rest)
   unfolding WalksTo
   first q o rest w = (
     itemOf s (restOf r) r (r .hist .page),
-    walkOf b back (movedOf back p) n (restOf r) q,
-    step-head s b i back p n key was z r e k q o,
+    walkOf (sheetOf b) way (movedOf way p) n (restOf r) q,
+    step-head s b i way p n key was z r e k t2 q o,
     head-entry s (prefixOf s b) b i p r e (r .hist .page),
     w,
   )
@@ -88,65 +88,76 @@ module _ (s : List ℕ) (b : Body) (i : Inside s b) (k : b .kind ≡ 0) (back : 
   unfolding olderEntries oldsFrom
   none-behind m u a j x = rw u
 
-  head-walk : headOk s r ≡ true → WalksTo s (prefixOf s b) (walkOf b back p (suc n) key was) (headFirst (olderEntries (keyOf s b r) (oldsFrom s (r .hist .count) (r .hist .page) (r .hist .slot)) ++ es))
+  head-walk : headOk s r ≡ true → WalksTo s (prefixOf s b) (walkOf (sheetOf b) way p (suc n) key was) (headFirst (olderEntries (keyOf s b r) (oldsFrom s (r .hist .count) (r .hist .page) (r .hist .slot)) ++ es))
   head-walk ok = by (eqb (r .hist .count) 0) refl (head-given s r ok)
     where
-      by : (t : Bool) → eqb (r .hist .count) 0 ≡ t → ((eqb (r .hist .count) 0 || entered s (r .hist .page) (r .hist .slot)) ≡ true) × (chainFrom s (r .hist .count) (r .hist .page) (r .hist .slot) (verIn s (r .«ver_at»)) ≡ true) → WalksTo s (prefixOf s b) (walkOf b back p (suc n) key was) (headFirst (olderEntries (keyOf s b r) (oldsFrom s (r .hist .count) (r .hist .page) (r .hist .slot)) ++ es))
+      by : (t : Bool) → eqb (r .hist .count) 0 ≡ t → ((eqb (r .hist .count) 0 || entered s (r .hist .page) (r .hist .slot)) ≡ true) × (chainFrom s (r .hist .count) (r .hist .page) (r .hist .slot) (verIn s (r .«ver_at»)) ≡ true) → WalksTo s (prefixOf s b) (walkOf (sheetOf b) way p (suc n) key was) (headFirst (olderEntries (keyOf s b r) (oldsFrom s (r .hist .count) (r .hist .page) (r .hist .slot)) ++ es))
       by true t d =
           let c = eqb-true (r .hist .count) 0 t in
           rw (none-behind (r .hist .count) c (r .hist .page) (r .hist .slot) (keyOf s b r)) (first was (enter-none s (r .hist) was c) es (f was z))
       by false t d =
           let x = enter-in s (r .hist) was (eqb-false (r .hist .count) 0 t) (rw t at (d .0)) in
-          let w = olds-walk s (prefixOf s b) b back (movedOf back p) n (restOf r) es f (r .hist .count) (r .hist .page) (x .0) (r .hist .slot) (verIn s (r .«ver_at»)) (x .1) (d .1) in
-          first (pastOf (x .0) (r .hist .slot) (r .hist .count)) (x .2) _ (rw (rest-part s b i p r e) at w)
+          let w = olds-walk s (prefixOf s b) b way (movedOf way p) n (restOf r) es f (r .hist .count) (r .hist .page) (x .0) (r .hist .slot) (verIn s (r .«ver_at»)) (x .1) (d .1) in
+          first (pastOver (x .0) (r .hist .slot) (r .hist .count)) (x .2) _ (rw (rest-part s b i p r e) at w)
 
 -- the rows along a way: n of them from position p on
-unfoldable pub rowsWay : {A : Type 0} → (Rec → A) → List ℕ → Body → Bool → ℕ → ℕ → List A
-rowsWay f s b back zero p = []
-rowsWay f s b back (suc n) p = rowsOf f (rowsWay f s b back n (movedOf back p)) (recAt s b p)
+unfoldable pub rowsWay : {A : Type 0} → (Rec → A) → List ℕ → Body → ℕ → ℕ → ℕ → List A
+rowsWay f s b way zero p = []
+rowsWay f s b way (suc n) p = rowsOf f (rowsWay f s b way n (movedOf way p)) (recAt s b p)
 
 -- each position on the way is one of the page's
-abbrev pub Within : ℕ → Bool → ℕ → ℕ → Type 0
-Within e back zero p = Unit {0}
-Within e back (suc n) p = (p < e) × Within e back n (movedOf back p)
+abbrev pub Within : ℕ → ℕ → ℕ → ℕ → Type 0
+Within e way zero p = Unit {0}
+Within e way (suc n) p = (p < e) × Within e way n (movedOf way p)
 
-module _ (s : List ℕ) (b : Body) (i : Inside s b) (good : (j : ℕ) → j < b .elems → Good s b j) (back : Bool) where
-  pub heads-walk : b .kind ≡ 0 → (n p : ℕ) → Within (b .elems) back n p → (key : Place) (was : Past) → was .left ≡ 0 → WalksTo s (prefixOf s b) (walkOf b back p n key was) (entriesOf (rowsWay (headOf s b) s b back n p))
+module _ (s : List ℕ) (b : Body) (i : Inside s b) (good : (j : ℕ) → j < b .elems → Good s b j) (way : ℕ) (k : kindOfWay way ≡ b .kind) where
+  pub heads-walk : (way ≡ 2 → ⊥) → (n p : ℕ) → Within (b .elems) way n p → (key : Place) (was : Past) → was .left ≡ 0 → WalksTo s (prefixOf s b) (walkOf (sheetOf b) way p n key was) (entriesOf (rowsWay (headOf s b) s b way n p))
   unfolding rowsWay entriesOf WalksTo headOf
-  heads-walk k zero p l key was z = step-end s (walkOf b back p 0 key was) z refl
-  heads-walk k (suc n) p l key was z =
+  heads-walk t zero p l key was z = step-end s (walkOf (sheetOf b) way p 0 key was) z refl
+  heads-walk t (suc n) p l key was z =
       let g = good p (l .0) in
-      rw (g .read) (head-walk s b i k back p n key was z (g .rec) (g .read) (entriesOf (rowsWay (headOf s b) s b back n (movedOf back p))) (λ q z′. heads-walk k n (movedOf back p) (l .1) (restOf (g .rec)) q z′) (g .ok))
+      rw (g .read) (head-walk s b i way p n k t key was z (g .rec) (g .read) (entriesOf (rowsWay (headOf s b) s b way n (movedOf way p))) (λ q z′. heads-walk t n (movedOf way p) (l .1) (restOf (g .rec)) q z′) (g .ok))
 
-  pub branches-walk : b .kind ≡ 1 → (n p : ℕ) → Within (b .elems) back n p → (key : Place) (was : Past) → was .left ≡ 0 → LeadsTo s (prefixOf s b) (walkOf b back p n key was) (rowsWay (childOf s b) s b back n p)
+  pub branches-walk : way ≡ 2 → (n p : ℕ) → Within (b .elems) way n p → (key : Place) (was : Past) → was .left ≡ 0 → LeadsTo s (prefixOf s b) (walkOf (sheetOf b) way p n key was) (rowsWay (childOf s b) s b way n p)
   unfolding rowsWay LeadsTo childOf leadOf
-  branches-walk k zero p l key was z = step-end s (walkOf b back p 0 key was) z refl
-  branches-walk k (suc n) p l key was z =
+  branches-walk t zero p l key was z = step-end s (walkOf (sheetOf b) way p 0 key was) z refl
+  branches-walk t (suc n) p l key was z =
       let g = good p (l .0) in
       let r = g .rec in
       rw (g .read) (
         record { key = restOf r; page = pageId (leAt 8 s (r .«val_at»)) },
-        walkOf b back (movedOf back p) n (restOf r) was,
-        step-branch s b i back p n key was z r (g .read) k,
+        walkOf (sheetOf b) way (movedOf way p) n (restOf r) was,
+        step-branch s b i way p n key was z r (g .read) k t,
         rw (rest-part s b i p r (g .read)),
-        branches-walk k n (movedOf back p) (l .1) (restOf r) was z,
+        branches-walk t n (movedOf way p) (l .1) (restOf r) was z,
       )
 
 -- ---- the two ways
 
 -- upward, the rows of a stretch
-pub up-within : (e n p : ℕ) → p + n ≤ e → Within e false n p
+pub up-within : (e n p : ℕ) → p + n ≤ e → Within e 0 n p
 unfolding movedOf
 up-within e zero p l = tt
 up-within e (suc n) p l = (omega arith, up-within e n (p + 1) (omega arith))
 
-pub up-rows : {A : Type 0} (f : Rec → A) (s : List ℕ) (b : Body) (n p : ℕ) → rowsWay f s b false n p ≡ rowsFrom f s b n p
+pub up-rows : {A : Type 0} (f : Rec → A) (s : List ℕ) (b : Body) (n p : ℕ) → rowsWay f s b 0 n p ≡ rowsFrom f s b n p
 unfolding rowsWay rowsFrom movedOf
 up-rows f s b zero p = refl
 up-rows f s b (suc n) p = ap (λ (x : List _). rowsOf f x (recAt s b p)) (up-rows f s b n (p + 1))
 
+-- and so on an index page
+pub up-within-index : (e n p : ℕ) → p + n ≤ e → Within e 2 n p
+unfolding movedOf
+up-within-index e zero p l = tt
+up-within-index e (suc n) p l = (omega arith, up-within-index e n (p + 1) (omega arith))
+
+pub up-rows-index : {A : Type 0} (f : Rec → A) (s : List ℕ) (b : Body) (n p : ℕ) → rowsWay f s b 2 n p ≡ rowsFrom f s b n p
+unfolding rowsWay rowsFrom movedOf
+up-rows-index f s b zero p = refl
+up-rows-index f s b (suc n) p = ap (λ (x : List _). rowsOf f x (recAt s b p)) (up-rows-index f s b n (p + 1))
+
 -- downward, the same from its end
-pub down-within : (e n p : ℕ) → n ≤ p + 1 → p < e → Within e true n p
+pub down-within : (e n p : ℕ) → n ≤ p + 1 → p < e → Within e 1 n p
 unfolding movedOf
 down-within e zero p l h = tt
 down-within e (suc n) p l h = (h, down-within e n (p - 1) (omega arith) (omega arith))
@@ -161,7 +172,7 @@ module _ {A : Type 0} (f : Rec → A) (s : List ℕ) (b : Body) (every : (j : �
       let z : j + suc n ≡ j + 1 + n = omega arith in
       rw (g .1) (ap (λ (x : List A). f (g .0) ∷ x) (rows-last n (j + 1) r (omega arith) (rw z at e)))
 
-  pub down-rows : (n p : ℕ) → n ≤ p + 1 → p < b .elems → rowsWay f s b true n p ≡ reverse (rowsFrom f s b n (p + 1 - n))
+  pub down-rows : (n p : ℕ) → n ≤ p + 1 → p < b .elems → rowsWay f s b 1 n p ≡ reverse (rowsFrom f s b n (p + 1 - n))
   unfolding rowsWay rowsFrom movedOf
   down-rows zero p l h = refl
   down-rows (suc zero) p l h = let z : p + 1 - 1 ≡ p = omega arith in let g = every p h in rw (z, g .1)
@@ -170,6 +181,6 @@ module _ {A : Type 0} (f : Rec → A) (s : List ℕ) (b : Body) (every : (j : �
       let z : p - 1 + 1 - suc n ≡ p + 1 - suc (suc n) = omega arith in
       let y : p + 1 - suc (suc n) + suc n ≡ p = omega arith in
       let q = p + 1 - suc (suc n) in
-      let ih : rowsWay f s b true (suc n) (p - 1) ≡ reverse (rowsFrom f s b (suc n) q) = rw z at (down-rows (suc n) (p - 1) (omega arith) (omega arith)) in
+      let ih : rowsWay f s b 1 (suc n) (p - 1) ≡ reverse (rowsFrom f s b (suc n) q) = rw z at (down-rows (suc n) (p - 1) (omega arith) (omega arith)) in
       let last : rowsFrom f s b (suc (suc n)) q ≡ rowsFrom f s b (suc n) q ++ (f (g .0) ∷ []) = rows-last (suc n) q (g .0) (omega arith) (rw y (g .1)) in
       rw (g .1) (ap (λ (x : List A). f (g .0) ∷ x) ih ∙ sym (ap reverse last ∙ reverse-append (rowsFrom f s b (suc n) q) (f (g .0) ∷ [])))

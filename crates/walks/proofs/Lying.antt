@@ -1,79 +1,123 @@
--- The test that a body lies in the arena says exactly that; and what a record of an index page tells of its value.
+-- The test that a page lies in the arena says exactly that; a page as a walk carries it reads as its body does.
 -- Assumes nothing.
-use Prim.Native.Nat.{ℕ, _+_, _*_, _-_, _/_, _≤_}
+use Prim.Native.Nat.{ℕ, _+_, _*_, _-_, _/_, _≤_, _<_}
 use mathlib.Core.Path.{_≡_, refl, sym, ap, _∙_}
 use mathlib.Core.Bool.{Bool, true, false, _&&_, cond}
 use mathlib.Core.List.{List}
 use native.Mathlib.Omega.{arith}
-use borrow.Author.Tests.{le-leb, leb-true, eqb-true, eqb-false, eq-eqb, ne-eqb}
-use lib.ListN.{length}
+use borrow.Author.Tests.{le-leb, lt-leb, leb-true, eqb-true, eq-eqb}
+use lib.ListN.{length, take}
 use lib.Dec.{leb, eqb}
-use Rattle.spans.proofs.Tests.{ask}
+use Rattle.spans.proofs.Tests.{ask, leb-same}
 use Rattle.frames.specs.declared.Body.{Body}
 use Rattle.frames.specs.Layout.{baseLen, addr, Inside}
 use Rattle.frames.proofs.Frames.{and-l, and-r}
 use Rattle.values.specs.declared.KeyRead.{KeyRead}
+use Rattle.values.specs.Keys.{keyAt}
 use Rattle.values.specs.Vals.{noHist}
 use Rattle.records.specs.declared.SlotRead.{SlotRead}
 use Rattle.records.specs.declared.Rec.{Rec}
 use Rattle.records.specs.declared.RecRead.{RecRead}
-use Rattle.records.specs.Records.{slotAt, keyIn, recOf, recKey, recIn, recSlot, recAt}
-use Rattle.walks.specs.Walk.{fitsIn}
+use Rattle.records.specs.Records.{slotAt, keyWhole, keyIn, valIn, recOf, recKey, recIn, recSlot, recAt}
+use Rattle.walks.specs.declared.Sheet.{Sheet}
+use Rattle.walks.specs.Walk.{sheetOf, bodyIn, fitsIn, readAt}
 
--- two tests of equality that mean the same (it belongs to `spans`' Tests)
-pub eqb-same : (a b c d : ℕ) → (a ≡ b → c ≡ d) → (c ≡ d → a ≡ b) → eqb a b ≡ eqb c d
-eqb-same a b c d f g = go (eqb a b) refl
-  where
-    go : (t : Bool) → eqb a b ≡ t → eqb a b ≡ eqb c d
-    go true e = e ∙ sym (eq-eqb c d (f (eqb-true a b e)))
-    go false e = e ∙ sym (ne-eqb c d (λ h. eqb-false a b e (g h)))
+-- ---- the test
+
+abbrev pub Rising : ℕ → Sheet → Bool
+Rising len v = leb (v .at) (v .end) && leb (v .end) len && leb (v .«prefix_len») (v .front)
 
 -- what the differences say is what the sum says
-pub sum-is : (at el lo hi first : ℕ) → at ≤ first → lo ≤ first - at → hi ≤ first - at - lo → el ≤ (first - at - lo - hi) / 4 → eqb (first - at - lo - hi - 4 * el) 40 ≡ eqb (at + 40 + 4 * el + lo + hi) first
-sum-is at el lo hi first h1 h2 h3 h4 = eqb-same (first - at - lo - hi - 4 * el) 40 (at + 40 + 4 * el + lo + hi) first (λ e. omega arith) (λ e. omega arith)
+pub sum-is : (at el front end : ℕ) → at ≤ end → el ≤ (end - at) / 4 → 40 ≤ end - at - 4 * el → leb front (end - at - 4 * el - 40) ≡ leb (at + 40 + 4 * el + front) end
+sum-is at el front end h1 h2 h3 = leb-same front (end - at - 4 * el - 40) (at + 40 + 4 * el + front) end (λ e. omega arith) (λ e. omega arith)
 
--- the places rise
-abbrev pub Rising : ℕ → Body → Bool
-Rising len b = leb (b .first) (b .end) && leb (b .end) (b .tail) && leb (b .tail) len && leb (b .«prefix_len») (b .«lo_len»)
-
-abbrev pub front : Body → ℕ
-front b = b .at + baseLen + 4 * b .elems + b .«lo_len» + b .«hi_len»
-
-module _ (len : ℕ) (b : Body) where
-  pub fits-off : Rising len b ≡ false → fitsIn len b ≡ false
+module _ (len : ℕ) (v : Sheet) where
+  pub fits-off : Rising len v ≡ false → fitsIn len v ≡ false
   unfolding fitsIn
   fits-off e = rw e
 
-  module _ (e : Rising len b ≡ true) where
-    pub fits-by : fitsIn len b ≡ eqb (front b) (b .first)
+  module _ (e : Rising len v ≡ true) where
+    pub rising-at : v .at ≤ v .end
+    rising-at = leb-true (v .at) (v .end) (and-l (leb (v .at) (v .end)) (leb (v .end) len) (and-l (leb (v .at) (v .end) && leb (v .end) len) (leb (v .«prefix_len») (v .front)) e))
+
+    pub fits-by : fitsIn len v ≡ leb (v .at + baseLen + 4 * v .elems + v .front) (v .end)
     unfolding fitsIn
     fits-by = rw e
 
-    pub fits-no : (front b ≡ b .first → ⊥) → fitsIn len b ≡ false
-    fits-no n = fits-by ∙ ne-eqb _ _ n
+    pub fits-no : v .end < v .at + baseLen + 4 * v .elems + v .front → fitsIn len v ≡ false
+    fits-no n = fits-by ∙ lt-leb (v .at + baseLen + 4 * v .elems + v .front) (v .end) n
 
-pub fits-inside : (s : List ℕ) (b : Body) → fitsIn (length s) b ≡ true → Inside s b
+pub fits-inside : (s : List ℕ) (v : Sheet) (k : ℕ) → fitsIn (length s) v ≡ true → Inside s (bodyIn v k)
 unfolding fitsIn
-fits-inside s b e =
-    let a1 = ask (Rising (length s) b) (eqb (front b) (b .first)) false true (λ z. absurd (let y : _≡_ {A = ℕ} 0 1 = cc in omega arith)) e in
-    let p1 = leb (b .first) (b .end) in
-    let p2 = leb (b .end) (b .tail) in
-    let p3 = leb (b .tail) (length s) in
-    let p4 = leb (b .«prefix_len») (b .«lo_len») in
-    let u = and-l (p1 && p2 && p3) p4 (a1 .0) in
-    let v = and-l (p1 && p2) p3 u in
+fits-inside s v k e =
+    let a1 = ask (Rising (length s) v) (leb (v .at + baseLen + 4 * v .elems + v .front) (v .end)) false true (λ z. absurd (let y : _≡_ {A = ℕ} 0 1 = cc in omega arith)) e in
+    let p1 = leb (v .at) (v .end) in
+    let p2 = leb (v .end) (length s) in
+    let p3 = leb (v .«prefix_len») (v .front) in
     record {
-      slots = eqb-true (front b) (b .first) (a1 .1);
-      records = leb-true (b .first) (b .end) (and-l p1 p2 v);
-      payload = leb-true (b .end) (b .tail) (and-r p1 p2 v);
-      arena = leb-true (b .tail) (length s) (and-r (p1 && p2) p3 u);
-      prefix = leb-true (b .«prefix_len») (b .«lo_len») (and-r (p1 && p2 && p3) p4 (a1 .0));
+      slots = omega arith;
+      records = leb-true (v .at + baseLen + 4 * v .elems + v .front) (v .end) (a1 .1);
+      payload = omega arith;
+      arena = leb-true (v .end) (length s) (and-r p1 p2 (and-l (p1 && p2) p3 (a1 .0)));
+      prefix = leb-true (v .«prefix_len») (v .front) (and-r (p1 && p2) p3 (a1 .0));
     }
 
-pub inside-fits : (s : List ℕ) (b : Body) → Inside s b → fitsIn (length s) b ≡ true
-unfolding fitsIn
-inside-fits s b i =
-    rw (le-leb (b .first) (b .end) (i .records), le-leb (b .end) (b .tail) (i .payload), le-leb (b .tail) (length s) (i .arena), le-leb (b .«prefix_len») (b .«lo_len») (i .prefix), eq-eqb (front b) (b .first) (i .slots))
+-- ---- a page that was opened
+
+module _ (s : List ℕ) (b : Body) (i : Inside s b) where
+  pub front-few : b .«lo_len» + b .«hi_len» ≤ length s
+  front-few = omega (arith, i .slots, i .records, i .payload, i .arena)
+
+  pub inside-fits : fitsIn (length s) (sheetOf b) ≡ true
+  unfolding fitsIn
+  inside-fits =
+      let f : b .at ≤ b .end = omega (arith, i .slots, i .records) in
+      let g : b .end ≤ length s = omega (arith, i .payload, i .arena) in
+      let h : b .«prefix_len» ≤ b .«lo_len» + b .«hi_len» = omega (arith, i .prefix) in
+      let l : b .at + baseLen + 4 * b .elems + (b .«lo_len» + b .«hi_len») ≤ b .end = omega (arith, i .slots, i .records) in
+      rw (le-leb (b .at) (b .end) f, le-leb (b .end) (length s) g, le-leb (b .«prefix_len») (b .«lo_len» + b .«hi_len») h, le-leb (b .at + baseLen + 4 * b .elems + (b .«lo_len» + b .«hi_len»)) (b .end) l)
+
+  same-slot : (j : ℕ) → slotAt s (bodyIn (sheetOf b) (b .kind)) j ≡ slotAt s b j
+  unfolding slotAt
+  same-slot j =
+      let e : b .at + baseLen + 4 * b .elems + (b .«lo_len» + b .«hi_len») ≡ b .first = omega (arith, i .slots) in
+      rw e
+
+  same-key : (at : ℕ) → keyIn s (bodyIn (sheetOf b) (b .kind)) at ≡ keyIn s b at
+  unfolding keyIn
+  same-key at = go (keyAt (take (b .end) s) at (b .kind))
+    where
+      go : (k : KeyRead) → keyWhole (bodyIn (sheetOf b) (b .kind)) k ≡ keyWhole b k
+      go (KeyRead.Key v r n) = refl
+      go KeyRead.Bad = refl
+
+  same-in : (p : ℕ) → recIn s (bodyIn (sheetOf b) (b .kind)) p ≡ recIn s b p
+  unfolding recIn valIn
+  same-in p = rw (same-key p) (go (keyIn s b p))
+    where
+      go : (k : KeyRead) → recKey s (bodyIn (sheetOf b) (b .kind)) p k ≡ recKey s b p k
+      go (KeyRead.Key v r n) = refl
+      go KeyRead.Bad = refl
+
+  same-rec : (j : ℕ) → recAt s (bodyIn (sheetOf b) (b .kind)) j ≡ recAt s b j
+  unfolding recAt
+  same-rec j = rw (same-slot j) (go (slotAt s b j))
+    where
+      go : (x : SlotRead) → recSlot s (bodyIn (sheetOf b) (b .kind)) x ≡ recSlot s b x
+      go (SlotRead.At p) = same-in p
+      go SlotRead.Bad = refl
+
+  -- what a walk reads of it is what it says
+  pub read-is : (k j : ℕ) → k ≡ b .kind → readAt s (sheetOf b) k j ≡ recAt s b j
+  unfolding readAt
+  read-is k j e = rw (inside-fits, e) (same-rec j)
+
+-- a record that a walk read stands in a page in the arena
+pub read-inside : (s : List ℕ) (v : Sheet) (k j : ℕ) (r : Rec) → readAt s v k j ≡ RecRead.Is r → Inside s (bodyIn v k) × (recAt s (bodyIn v k) j ≡ RecRead.Is r)
+unfolding readAt
+read-inside s v k j r e =
+    let a1 = ask (fitsIn (length s) v) (recAt s (bodyIn v k) j) RecRead.Bad (RecRead.Is r) (λ z. absurd (let y : _≡_ {A = ℕ} 0 1 = cc in omega arith)) e in
+    (fits-inside s v k (a1 .0), a1 .1)
 
 -- the value of an index page's record has 8 bytes (it belongs to `records`' Inside)
 pub index-value : (s : List ℕ) (b : Body) (i : ℕ) (r : Rec) → b .kind ≡ 1 → recAt s b i ≡ RecRead.Is r → r .«val_len» ≡ 8

@@ -29,10 +29,10 @@ use Rattle.pages.proofs.Rows.{Good, slot-good, rows-many, rows-drop, rows-take}
 use Rattle.walks.specs.declared.Walk.{Walk}
 use Rattle.walks.specs.declared.Begun.{Begun}
 use Rattle.walks.specs.declared.Range.{Range}
-use Rattle.walks.specs.Walk.{pastOf, walkOf, upRange, downRange, begunOf, forwardAt, backwardAt}
+use Rattle.walks.specs.Walk.{sheetOf, pastOver, walkOf, upWay, kindOfWay, upRange, downRange, begunOf, forwardAt, backwardAt}
 use Rattle.walks.specs.Listed.{Entry, entriesOf, WalksTo, LeadsTo, Lists, Leads}
 use Rattle.walks.proofs.Steps.{step-end}
-use Rattle.walks.proofs.Listing.{rowsWay, Within, heads-walk, branches-walk, up-within, up-rows, down-within, down-rows}
+use Rattle.walks.proofs.Listing.{rowsWay, Within, heads-walk, branches-walk, up-within, up-rows, up-within-index, up-rows-index, down-within, down-rows}
 
 -- ---- the kind of a page that was opened (they belong to `frames`)
 
@@ -104,11 +104,19 @@ module _ {A : Type 0} (f : Rec → A) (s : List ℕ) (b : Body) (every : (j : �
 
 -- ---- how a walk begins on a page that was opened
 
-begins : Body → Bool → ℕ → ℕ → Walk
-begins b back at n = walkOf b back at n (place 0 0) (pastOf b 0 0)
+up-leaf : (k : ℕ) → k ≡ 0 → upWay k ≡ 0
+unfolding upWay
+up-leaf k e = rw e
+
+up-index : (k : ℕ) → k ≡ 1 → upWay k ≡ 2
+unfolding upWay
+up-index k e = rw e
+
+begins : Body → ℕ → ℕ → ℕ → Walk
+begins b way at n = walkOf (sheetOf b) way at n (place 0 0) (pastOver b 0 0)
 
 module _ (s : List ℕ) (a : Addr) (b : Body) (o : openAt s a ≡ Opened.Is b) where
-  up-begins : (b .kind ≡ 2 → ⊥) → (i j : ℕ) → j ≤ b .elems → forwardAt s a i j ≡ Begun.Is (begins b false i (j - i))
+  up-begins : (b .kind ≡ 2 → ⊥) → (i j : ℕ) → j ≤ b .elems → forwardAt s a i j ≡ Begun.Is (begins b (upWay (b .kind)) i (j - i))
   unfolding forwardAt upRange begins
   up-begins k i j l = rw (o, ne-eqb (b .kind) 2 k, le-leb j (b .elems) l)
 
@@ -125,11 +133,11 @@ module _ (s : List ℕ) (a : Addr) (b : Body) (o : openAt s a ≡ Opened.Is b) w
   down-other n x y = rw (o, ne-eqb (b .kind) 0 n)
 
   module _ (k : b .kind ≡ 0) where
-    down-begins : (i j : ℕ) → j ≤ i → i < b .elems → backwardAt s a (pos i) (pos j) ≡ Begun.Is (begins b true i (i - j + 1))
+    down-begins : (i j : ℕ) → j ≤ i → i < b .elems → backwardAt s a (pos i) (pos j) ≡ Begun.Is (begins b 1 i (i - j + 1))
     unfolding backwardAt downRange begins
     down-begins i j l h = rw (o, eq-eqb (b .kind) 0 k, le-ltb i j l, le-ltb j 0 (omega arith), lt-leb (b .elems) i h)
 
-    down-nothing : (x y : ℤ) → ltZ x y ≡ true → backwardAt s a x y ≡ Begun.Is (begins b true 0 0)
+    down-nothing : (x y : ℤ) → ltZ x y ≡ true → backwardAt s a x y ≡ Begun.Is (begins b 1 0 0)
     unfolding backwardAt downRange begins
     down-nothing x y e = rw (o, eq-eqb (b .kind) 0 k, e)
 
@@ -165,30 +173,43 @@ module _ (s : List ℕ) (a : Addr) (p : Page) (g : Sound s a p) where
   unfolding pageSays
   prefix-is = ap (λ (q : Page). q .prefix) (g .said)
 
-  heads-up : g .body .kind ≡ 0 → (i n : ℕ) → i + n ≤ g .body .elems → WalksTo s (p .prefix) (begins (g .body) false i n) (entriesOf (take n (drop i (headsFrom s (g .body) (g .body .elems) 0))))
-  unfolding begins
-  heads-up k i n l = rw (stretch (headOf s (g .body)) s (g .body) every i n l, ← prefix-is, ← up-rows (headOf s (g .body)) s (g .body) n i) (heads-walk s (g .body) inside good false k n i (up-within (g .body .elems) n i l) (place 0 0) (pastOf (g .body) 0 0) refl)
+  -- the kinds of the ways
+  zero-kind : g .body .kind ≡ 0 → kindOfWay 0 ≡ g .body .kind
+  unfolding kindOfWay
+  zero-kind k = sym k
 
-  children-up : g .body .kind ≡ 1 → (i n : ℕ) → i + n ≤ g .body .elems → LeadsTo s (p .prefix) (begins (g .body) false i n) (take n (drop i (childrenFrom s (g .body) (g .body .elems) 0)))
-  unfolding begins
-  children-up k i n l = rw (stretch (childOf s (g .body)) s (g .body) every i n l, ← prefix-is, ← up-rows (childOf s (g .body)) s (g .body) n i) (branches-walk s (g .body) inside good false k n i (up-within (g .body .elems) n i l) (place 0 0) (pastOf (g .body) 0 0) refl)
+  one-zero-kind : g .body .kind ≡ 0 → kindOfWay 1 ≡ g .body .kind
+  unfolding kindOfWay
+  one-zero-kind k = sym k
 
-  heads-down : g .body .kind ≡ 0 → (i j : ℕ) → j ≤ i → i < g .body .elems → WalksTo s (p .prefix) (begins (g .body) true i (i - j + 1)) (entriesOf (reverse (take (i - j + 1) (drop j (headsFrom s (g .body) (g .body .elems) 0)))))
+  one-kind : g .body .kind ≡ 1 → kindOfWay 2 ≡ g .body .kind
+  unfolding kindOfWay
+  one-kind k = sym k
+
+  heads-up : g .body .kind ≡ 0 → (i n : ℕ) → i + n ≤ g .body .elems → WalksTo s (p .prefix) (begins (g .body) 0 i n) (entriesOf (take n (drop i (headsFrom s (g .body) (g .body .elems) 0))))
+  unfolding begins
+  heads-up k i n l = rw (stretch (headOf s (g .body)) s (g .body) every i n l, ← prefix-is, ← up-rows (headOf s (g .body)) s (g .body) n i) (heads-walk s (g .body) inside good 0 (zero-kind k) (λ q. omega arith) n i (up-within (g .body .elems) n i l) (place 0 0) (pastOver (g .body) 0 0) refl)
+
+  children-up : g .body .kind ≡ 1 → (i n : ℕ) → i + n ≤ g .body .elems → LeadsTo s (p .prefix) (begins (g .body) 2 i n) (take n (drop i (childrenFrom s (g .body) (g .body .elems) 0)))
+  unfolding begins
+  children-up k i n l = rw (stretch (childOf s (g .body)) s (g .body) every i n l, ← prefix-is, ← up-rows-index (childOf s (g .body)) s (g .body) n i) (branches-walk s (g .body) inside good 2 (one-kind k) refl n i (up-within-index (g .body .elems) n i l) (place 0 0) (pastOver (g .body) 0 0) refl)
+
+  heads-down : g .body .kind ≡ 0 → (i j : ℕ) → j ≤ i → i < g .body .elems → WalksTo s (p .prefix) (begins (g .body) 1 i (i - j + 1)) (entriesOf (reverse (take (i - j + 1) (drop j (headsFrom s (g .body) (g .body .elems) 0)))))
   unfolding begins
   heads-down k i j l h =
       let n = i - j + 1 in
       let e : i + 1 - n ≡ j = omega arith in
-      let d : rowsWay (headOf s (g .body)) s (g .body) true n i ≡ reverse (rowsFrom (headOf s (g .body)) s (g .body) n j) = rw e at (down-rows (headOf s (g .body)) s (g .body) every n i (omega arith) h) in
-      rw (stretch (headOf s (g .body)) s (g .body) every j n (omega arith), ← prefix-is, ← d) (heads-walk s (g .body) inside good true k n i (down-within (g .body .elems) n i (omega arith) h) (place 0 0) (pastOf (g .body) 0 0) refl)
+      let d : rowsWay (headOf s (g .body)) s (g .body) 1 n i ≡ reverse (rowsFrom (headOf s (g .body)) s (g .body) n j) = rw e at (down-rows (headOf s (g .body)) s (g .body) every n i (omega arith) h) in
+      rw (stretch (headOf s (g .body)) s (g .body) every j n (omega arith), ← prefix-is, ← d) (heads-walk s (g .body) inside good 1 (one-zero-kind k) (λ q. omega arith) n i (down-within (g .body .elems) n i (omega arith) h) (place 0 0) (pastOver (g .body) 0 0) refl)
 
   -- a walk with no heads lists nothing
-  none-listed : (back : Bool) (i n : ℕ) → n ≡ 0 → WalksTo s (p .prefix) (begins (g .body) back i n) []
+  none-listed : (way i n : ℕ) → n ≡ 0 → WalksTo s (p .prefix) (begins (g .body) way i n) []
   unfolding begins WalksTo
-  none-listed back i n e = step-end s (walkOf (g .body) back i n (place 0 0) (pastOf (g .body) 0 0)) refl e
+  none-listed way i n e = step-end s (walkOf (sheetOf (g .body)) way i n (place 0 0) (pastOver (g .body) 0 0)) refl e
 
-  none-led : (back : Bool) (i n : ℕ) → n ≡ 0 → LeadsTo s (p .prefix) (begins (g .body) back i n) []
+  none-led : (way i n : ℕ) → n ≡ 0 → LeadsTo s (p .prefix) (begins (g .body) way i n) []
   unfolding begins LeadsTo
-  none-led back i n e = step-end s (walkOf (g .body) back i n (place 0 0) (pastOf (g .body) 0 0)) refl e
+  none-led way i n e = step-end s (walkOf (sheetOf (g .body)) way i n (place 0 0) (pastOver (g .body) 0 0)) refl e
 
 -- ---- THE LAWS: what the page at an address says, a walk lists
 
@@ -204,14 +225,14 @@ module _ (s : List ℕ) (a : Addr) (p : Page) (m : meaning s a ≡ says p) where
         let g = is-leaf s a p m hs e in
         let b = g .sound .body in
         let h : j ≤ b .elems = omega (arith, many g) in
-        record { walk = begins b false i (j - i); begun = up-begins s a b (g .sound .opened) (g .sound .kind) i j h; lists = by g h (leb i j) refl }
+        record { walk = begins b 0 i (j - i); begun = rw (up-leaf (b .kind) (g .kind)) at (up-begins s a b (g .sound .opened) (g .sound .kind) i j h); lists = by g h (leb i j) refl }
       where
-        by : (g : IsLeaf s a p hs) → j ≤ g .sound .body .elems → (t : Bool) → leb i j ≡ t → WalksTo s (p .prefix) (begins (g .sound .body) false i (j - i)) (entriesOf (take (j - i) (drop i hs)))
+        by : (g : IsLeaf s a p hs) → j ≤ g .sound .body .elems → (t : Bool) → leb i j ≡ t → WalksTo s (p .prefix) (begins (g .sound .body) 0 i (j - i)) (entriesOf (take (j - i) (drop i hs)))
         by g h true t = let u = leb-true i j t in rw (← g .heads) (heads-up s a p (g .sound) (g .kind) i (j - i) (omega arith))
         by g h false t =
             let u = leb-false i j t in
             let z : j - i ≡ 0 = omega arith in
-            subst (λ (x : List Entry). WalksTo s (p .prefix) (begins (g .sound .body) false i (j - i)) x) (sym (none-taken (drop i hs) (j - i) z)) (none-listed s a p (g .sound) false i (j - i) z)
+            subst (λ (x : List Entry). WalksTo s (p .prefix) (begins (g .sound .body) 0 i (j - i)) x) (sym (none-taken (drop i hs) (j - i) z)) (none-listed s a p (g .sound) 0 i (j - i) z)
 
     -- an end above the page's is refused at any begin
     pub forward-above : (i j : ℕ) → length hs < j → forwardAt s a i j ≡ Begun.Refused Refusal.BadFrame
@@ -223,13 +244,13 @@ module _ (s : List ℕ) (a : Addr) (p : Page) (m : meaning s a ≡ says p) where
         let g = is-leaf s a p m hs e in
         let b = g .sound .body in
         let u : i < b .elems = omega (arith, many g) in
-        record { walk = begins b true i (i - j + 1); begun = down-begins s a b (g .sound .opened) (g .kind) i j l u; lists = subst (λ (x : List Head). WalksTo s (p .prefix) (begins b true i (i - j + 1)) (entriesOf (reverse (take (i - j + 1) (drop j x))))) (g .heads) (heads-down s a p (g .sound) (g .kind) i j l u) }
+        record { walk = begins b 1 i (i - j + 1); begun = down-begins s a b (g .sound .opened) (g .kind) i j l u; lists = subst (λ (x : List Head). WalksTo s (p .prefix) (begins b 1 i (i - j + 1)) (entriesOf (reverse (take (i - j + 1) (drop j x))))) (g .heads) (heads-down s a p (g .sound) (g .kind) i j l u) }
 
     -- a start below the end lists nothing
     pub backward-nothing : (x y : ℤ) → ltZ x y ≡ true → Lists s (p .prefix) (backwardAt s a x y) []
     backward-nothing x y t =
         let g = is-leaf s a p m hs e in
-        record { walk = begins (g .sound .body) true 0 0; begun = down-nothing s a (g .sound .body) (g .sound .opened) (g .kind) x y t; lists = none-listed s a p (g .sound) true 0 0 refl }
+        record { walk = begins (g .sound .body) 1 0 0; begun = down-nothing s a (g .sound .body) (g .sound .opened) (g .kind) x y t; lists = none-listed s a p (g .sound) 1 0 0 refl }
 
     -- otherwise an end below 0 or a start at or above the page's end is refused
     pub backward-below : (x y : ℤ) → ltZ x y ≡ false → ltZ y (pos 0) ≡ true → backwardAt s a x y ≡ Begun.Refused Refusal.BadFrame
@@ -248,14 +269,14 @@ module _ (s : List ℕ) (a : Addr) (p : Page) (m : meaning s a ≡ says p) where
         let g = is-index s a p m cs e in
         let b = g .sound .body in
         let h : j ≤ b .elems = omega (arith, many-index g) in
-        record { walk = begins b false i (j - i); begun = up-begins s a b (g .sound .opened) (g .sound .kind) i j h; leads = by g h (leb i j) refl }
+        record { walk = begins b 2 i (j - i); begun = rw (up-index (b .kind) (g .kind)) at (up-begins s a b (g .sound .opened) (g .sound .kind) i j h); leads = by g h (leb i j) refl }
       where
-        by : (g : IsIndex s a p cs) → j ≤ g .sound .body .elems → (t : Bool) → leb i j ≡ t → LeadsTo s (p .prefix) (begins (g .sound .body) false i (j - i)) (take (j - i) (drop i cs))
+        by : (g : IsIndex s a p cs) → j ≤ g .sound .body .elems → (t : Bool) → leb i j ≡ t → LeadsTo s (p .prefix) (begins (g .sound .body) 2 i (j - i)) (take (j - i) (drop i cs))
         by g h true t = let u = leb-true i j t in rw (← g .children) (children-up s a p (g .sound) (g .kind) i (j - i) (omega arith))
         by g h false t =
             let u = leb-false i j t in
             let z : j - i ≡ 0 = omega arith in
-            subst (λ (x : List Child). LeadsTo s (p .prefix) (begins (g .sound .body) false i (j - i)) x) (sym (no-child-taken (drop i cs) (j - i) z)) (none-led s a p (g .sound) false i (j - i) z)
+            subst (λ (x : List Child). LeadsTo s (p .prefix) (begins (g .sound .body) 2 i (j - i)) x) (sym (no-child-taken (drop i cs) (j - i) z)) (none-led s a p (g .sound) 2 i (j - i) z)
 
     pub forward-above-index : (i j : ℕ) → length cs < j → forwardAt s a i j ≡ Begun.Refused Refusal.BadFrame
     forward-above-index i j l = let g = is-index s a p m cs e in up-refused s a (g .sound .body) (g .sound .opened) i j (omega (arith, many-index g))

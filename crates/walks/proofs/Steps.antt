@@ -27,8 +27,8 @@ use Rattle.walks.specs.declared.Item.{Item}
 use Rattle.walks.specs.declared.Step.{Step}
 use Rattle.walks.specs.declared.OldStep.{OldStep}
 use Rattle.walks.specs.declared.Entered.{Entered}
-use Rattle.walks.specs.Walk.{pastOf, walkOf, movedOf, onOf, behindOf, itemOf, restOf, fitsIn, nextIn, nextOld, enterAt, headStep, branchStep, oldStep, stepAt}
-use Rattle.walks.proofs.Lying.{inside-fits}
+use Rattle.walks.specs.Walk.{sheetOf, pastOver, walkOf, kindOfWay, movedOf, onOf, behindOf, itemOf, restOf, readAt, nextIn, nextOld, enterAt, headStep, oldStep, stepAt}
+use Rattle.walks.proofs.Lying.{read-is}
 
 less-one : (k : ℕ) → suc k - 1 ≡ k
 less-one k = omega arith
@@ -45,26 +45,29 @@ pub step-old : (s : List ℕ) (w : Walk) (x : Item) (p : Past) → 0 < w .past .
 unfolding stepAt
 step-old s w x p l e = rw (lt-ltb 0 (w .past .left) l, e)
 
--- where the reader of old versions reads one, so does the walk that carries the page's body; and it carries on with the body of that one's page
+-- where the reader of old versions reads one, so does the walk that carries the page; and it carries on with that one's page
 pub record Next (s : List ℕ) (key : Place) (b : Body) (i k : ℕ) (p : Addr) (q : ℕ) (r : Rec) : Type 0 where
   pub body : Body
   pub opened : historyAt s p ≡ Opened.Is body
   pub read : recAt s body q ≡ RecRead.Is r
   pub names : Addr
-  pub next : nextOld s key (pastOf b i (suc k)) ≡ OldStep.Is (itemOf s key r names) (pastOf body (q + 1) k)
+  pub next : nextOld s key (pastOver b i (suc k)) ≡ OldStep.Is (itemOf s key r names) (pastOver body (q + 1) k)
+
+-- a record of a history page
+in-read : (s : List ℕ) (key : Place) (h : Addr) (b : Body) → historyAt s h ≡ Opened.Is b → (i k : ℕ) (n : Addr) (r : Rec) → recAt s b i ≡ RecRead.Is r → nextIn s key (pastOver b i (suc k)) n ≡ OldStep.Is (itemOf s key r n) (pastOver b (i + 1) k)
+unfolding nextIn
+in-read s key h b o i k n r e =
+    let g = history-inside s h b o in
+    rw (read-is s b (g .inside) 2 i (sym (g .kind)), e) (ap (λ (m : ℕ). OldStep.Is (itemOf s key r n) (pastOver b (i + 1) m)) (less-one k))
 
 module _ (s : List ℕ) (key : Place) (h : Addr) (b : Body) (o : historyAt s h ≡ Opened.Is b) (i k : ℕ) where
-  here : (r : Rec) → eqb i (b .elems) ≡ false → recAt s b i ≡ RecRead.Is r → nextOld s key (pastOf b i (suc k)) ≡ OldStep.Is (itemOf s key r (addr 0)) (pastOf b (i + 1) k)
-  unfolding nextOld nextIn
-  here r t e =
-      let g = history-inside s h b o in
-      rw (eq-eqb (b .kind) 2 (g .kind), inside-fits s b (g .inside), t, e) (ap (λ (m : ℕ). OldStep.Is (itemOf s key r (addr 0)) (pastOf b (i + 1) m)) (less-one k))
+  here : (r : Rec) → eqb i (b .elems) ≡ false → recAt s b i ≡ RecRead.Is r → nextOld s key (pastOver b i (suc k)) ≡ OldStep.Is (itemOf s key r (addr 0)) (pastOver b (i + 1) k)
+  unfolding nextOld
+  here r t e = rw t (in-read s key h b o i k (addr 0) r e)
 
-  linked : (d : Body) (r : Rec) → eqb i (b .elems) ≡ true → historyAt s (b .link) ≡ Opened.Is d → recAt s d 0 ≡ RecRead.Is r → nextOld s key (pastOf b i (suc k)) ≡ OldStep.Is (itemOf s key r (b .link)) (pastOf d (0 + 1) k)
-  unfolding nextOld nextIn
-  linked d r t u e =
-      let g = history-inside s h b o in
-      rw (eq-eqb (b .kind) 2 (g .kind), inside-fits s b (g .inside), t, u, e) (ap (λ (m : ℕ). OldStep.Is (itemOf s key r (b .link)) (pastOf d (0 + 1) m)) (less-one k))
+  linked : (d : Body) (r : Rec) → eqb i (b .elems) ≡ true → historyAt s (b .link) ≡ Opened.Is d → recAt s d 0 ≡ RecRead.Is r → nextOld s key (pastOver b i (suc k)) ≡ OldStep.Is (itemOf s key r (b .link)) (pastOver d (0 + 1) k)
+  unfolding nextOld
+  linked d r t u e = rw (t, u) (in-read s key (b .link) d u 0 k (b .link) r e)
 
   pub next-old : (p : Addr) (q : ℕ) (r : Rec) → oldAt s h i ≡ OldRead.Old p q r → Next s key b i k p q r
   unfolding oldAt oldIn
@@ -73,7 +76,7 @@ module _ (s : List ℕ) (key : Place) (h : Addr) (b : Body) (o : historyAt s h �
       no : OldRead.Bad ≡ OldRead.Old p q r → ⊥
       no n = let z : _≡_ {A = ℕ} 0 1 = cc in omega arith
 
-      same : (a : Addr) (d : Body) (j : ℕ) (x : Rec) (n : Addr) → historyAt s a ≡ Opened.Is d → recAt s d j ≡ RecRead.Is x → OldRead.Old a j x ≡ OldRead.Old p q r → nextOld s key (pastOf b i (suc k)) ≡ OldStep.Is (itemOf s key x n) (pastOf d (j + 1) k) → Next s key b i k p q r
+      same : (a : Addr) (d : Body) (j : ℕ) (x : Rec) (n : Addr) → historyAt s a ≡ Opened.Is d → recAt s d j ≡ RecRead.Is x → OldRead.Old a j x ≡ OldRead.Old p q r → nextOld s key (pastOver b i (suc k)) ≡ OldStep.Is (itemOf s key x n) (pastOver d (j + 1) k) → Next s key b i k p q r
       same a d j x n u v w y =
           let e1 : a ≡ p = cc in
           let e2 : j ≡ q = cc in
@@ -104,22 +107,22 @@ unfolding enterAt
 enter-none s h was e = rw (eq-eqb (h .count) 0 e)
 
 -- one with history enters its page
-pub enter-in : (s : List ℕ) (h : HistRef) (was : Past) → (h .count ≡ 0 → ⊥) → entered s (h .page) (h .slot) ≡ true → (b : Body) × (historyAt s (h .page) ≡ Opened.Is b) × (enterAt s h was ≡ Entered.Is (pastOf b (h .slot) (h .count)))
+pub enter-in : (s : List ℕ) (h : HistRef) (was : Past) → (h .count ≡ 0 → ⊥) → entered s (h .page) (h .slot) ≡ true → (b : Body) × (historyAt s (h .page) ≡ Opened.Is b) × (enterAt s h was ≡ Entered.Is (pastOver b (h .slot) (h .count)))
 unfolding enterAt entered
 enter-in s h was n e = go (historyAt s (h .page)) refl e
   where
-    go : (o : Opened) → historyAt s (h .page) ≡ o → enteredOf (h .slot) o ≡ true → (b : Body) × (historyAt s (h .page) ≡ Opened.Is b) × (enterAt s h was ≡ Entered.Is (pastOf b (h .slot) (h .count)))
+    go : (o : Opened) → historyAt s (h .page) ≡ o → enteredOf (h .slot) o ≡ true → (b : Body) × (historyAt s (h .page) ≡ Opened.Is b) × (enterAt s h was ≡ Entered.Is (pastOver b (h .slot) (h .count)))
     go (Opened.Is b) q t = (b, q, rw (ne-eqb (h .count) 0 n, q, t))
     go Opened.Bad q t = absurd (let z : _≡_ {A = ℕ} 0 1 = cc in omega arith)
 
-module _ (s : List ℕ) (b : Body) (i : Inside s b) (back : Bool) (at n : ℕ) (key : Place) (was : Past) (z : was .left ≡ 0) (r : Rec) (e : recAt s b at ≡ RecRead.Is r) where
+module _ (s : List ℕ) (b : Body) (i : Inside s b) (way at n : ℕ) (key : Place) (was : Past) (z : was .left ≡ 0) (r : Rec) (e : recAt s b at ≡ RecRead.Is r) (k : kindOfWay way ≡ b .kind) where
   none : ltb 0 (was .left) ≡ false
   none = le-ltb 0 (was .left) (omega arith)
 
-  pub step-head : b .kind ≡ 0 → (p : Past) → enterAt s (r .hist) was ≡ Entered.Is p → stepAt s (walkOf b back at (suc n) key was) ≡ Step.Found (itemOf s (restOf r) r (r .hist .page)) (walkOf b back (movedOf back at) n (restOf r) p)
+  pub step-head : (way ≡ 2 → ⊥) → (p : Past) → enterAt s (r .hist) was ≡ Entered.Is p → stepAt s (walkOf (sheetOf b) way at (suc n) key was) ≡ Step.Found (itemOf s (restOf r) r (r .hist .page)) (walkOf (sheetOf b) way (movedOf way at) n (restOf r) p)
   unfolding stepAt headStep onOf
-  step-head k p f = rw (none, ne-eqb (suc n) 0 (λ q. omega arith), inside-fits s b i, eq-eqb (b .kind) 0 k, e, f) (ap (λ (m : ℕ). Step.Found (itemOf s (restOf r) r (r .hist .page)) (walkOf b back (movedOf back at) m (restOf r) p)) (less-one n))
+  step-head t p f = rw (none, ne-eqb (suc n) 0 (λ q. omega arith), read-is s b i (kindOfWay way) at k, e, ne-eqb way 2 t, f) (ap (λ (m : ℕ). Step.Found (itemOf s (restOf r) r (r .hist .page)) (walkOf (sheetOf b) way (movedOf way at) m (restOf r) p)) (less-one n))
 
-  pub step-branch : b .kind ≡ 1 → stepAt s (walkOf b back at (suc n) key was) ≡ Step.Leads (record { key = restOf r; page = pageId (leAt 8 s (r .«val_at»)) }) (walkOf b back (movedOf back at) n (restOf r) was)
-  unfolding stepAt branchStep onOf
-  step-branch k = rw (none, ne-eqb (suc n) 0 (λ q. omega arith), inside-fits s b i, eq-eqb (b .kind) 1 k, ne-eqb (b .kind) 0 (λ q. omega arith), e) (ap (λ (m : ℕ). Step.Leads (record { key = restOf r; page = pageId (leAt 8 s (r .«val_at»)) }) (walkOf b back (movedOf back at) m (restOf r) was)) (less-one n))
+  pub step-branch : way ≡ 2 → stepAt s (walkOf (sheetOf b) way at (suc n) key was) ≡ Step.Leads (record { key = restOf r; page = pageId (leAt 8 s (r .«val_at»)) }) (walkOf (sheetOf b) way (movedOf way at) n (restOf r) was)
+  unfolding stepAt headStep onOf
+  step-branch t = rw (none, ne-eqb (suc n) 0 (λ q. omega arith), read-is s b i (kindOfWay way) at k, e, eq-eqb way 2 t) (ap (λ (m : ℕ). Step.Leads (record { key = restOf r; page = pageId (leAt 8 s (r .«val_at»)) }) (walkOf (sheetOf b) way (movedOf way at) m (restOf r) was)) (less-one n))

@@ -20,7 +20,7 @@ use Rattle.pages.specs.Sound.{historyAt}
 use Rattle.walks.specs.declared.Item.{Item}
 use Rattle.walks.specs.declared.Begun.{Begun}
 use Rattle.walks.specs.declared.Step.{Step}
-use Rattle.walks.specs.Walk.{upRange, downRange, forwardAt, backwardAt, fitsIn, movedOf, onOf, behindOf, itemOf, nextIn, nextOld, enterAt, headStep, branchStep, stepAt}
+use Rattle.walks.specs.Walk.{upRange, downRange, upWay, kindOfWay, forwardAt, backwardAt, fitsIn, readAt, movedOf, onOf, behindOf, itemOf, nextIn, nextOld, enterAt, headStep, stepAt}
 use Rattle.walks.specs.Refused.{begunNumber, stepNumber}
 use Rattle.walks.specs.Listed.{Entry, entryOf}
 
@@ -57,16 +57,16 @@ abbrev old7 : Told
 old7 = record { entry = record { key = 97 ∷ []; ver = verOf 3 0; value = 122 ∷ [] }; names = addr 0 }
 
 pub P7-forward : begunRun p7 (forwardAt p7 (addr 104) 0 1) ≡ then head7 (then old7 ended)
-unfolding p7 part partOr ofLe leAt boxFields boxOk boxAt baseFields baseOk pageAt kindOf bodyOf openAt remoteAt carry dec within readLen skipOf keyAt refAt frontAt valAt slotAt verIn keyIn valIn recIn recAt historyAt upRange downRange forwardAt backwardAt fitsIn movedOf onOf behindOf itemOf nextIn nextOld enterAt headStep branchStep stepAt entryOf runFrom
+unfolding p7 part partOr ofLe leAt boxFields boxOk boxAt baseFields baseOk pageAt kindOf bodyOf openAt remoteAt carry dec within readLen skipOf keyAt refAt frontAt valAt slotAt verIn keyIn valIn recIn recAt historyAt upRange downRange upWay kindOfWay forwardAt backwardAt fitsIn readAt movedOf onOf behindOf itemOf nextIn nextOld enterAt headStep stepAt entryOf runFrom
 P7-forward = refl
 
 pub P7-backward : begunRun p7 (backwardAt p7 (addr 104) (pos 0) (pos 0)) ≡ then head7 (then old7 ended)
-unfolding p7 part partOr ofLe leAt boxFields boxOk boxAt baseFields baseOk pageAt kindOf bodyOf openAt remoteAt carry dec within readLen skipOf keyAt refAt frontAt valAt slotAt verIn keyIn valIn recIn recAt historyAt upRange downRange forwardAt backwardAt fitsIn movedOf onOf behindOf itemOf nextIn nextOld enterAt headStep branchStep stepAt entryOf runFrom
+unfolding p7 part partOr ofLe leAt boxFields boxOk boxAt baseFields baseOk pageAt kindOf bodyOf openAt remoteAt carry dec within readLen skipOf keyAt refAt frontAt valAt slotAt verIn keyIn valIn recIn recAt historyAt upRange downRange upWay kindOfWay forwardAt backwardAt fitsIn readAt movedOf onOf behindOf itemOf nextIn nextOld enterAt headStep stepAt entryOf runFrom
 P7-backward = refl
 
 -- "end above elems is 4 at any begin; begin above end lists nothing"; a history page is no page
 pub P7-ranges : (begunRun p7 (forwardAt p7 (addr 104) 0 2) ≡ refused 4) × (begunRun p7 (forwardAt p7 (addr 104) 9 2) ≡ refused 4) × (begunRun p7 (forwardAt p7 (addr 104) 9 1) ≡ ended) × (begunRun p7 (forwardAt p7 (addr 104) 1 1) ≡ ended) × (begunRun p7 (forwardAt p7 (addr 8) 0 0) ≡ refused 4)
-unfolding p7 part partOr ofLe leAt boxFields boxOk boxAt baseFields baseOk pageAt kindOf bodyOf openAt upRange forwardAt stepAt runFrom
+unfolding p7 part partOr ofLe leAt boxFields boxOk boxAt baseFields baseOk pageAt kindOf bodyOf openAt upRange upWay forwardAt stepAt runFrom
 P7-ranges = (refl, refl, refl, refl, refl)
 
 -- "start below end lists nothing. Otherwise an end below 0 or a start at or above elems is 4"
@@ -76,7 +76,7 @@ P7-ranges-back = (refl, refl, refl, refl, refl)
 
 -- a history of two where one is left: "If the chain ends while records remain, the step that lacks its record is 4"
 pub P7-short : begunRun (set p7 205 2) (forwardAt (set p7 205 2) (addr 104) 0 1) ≡ then head7 (then old7 (refused 4))
-unfolding p7 part partOr ofLe leAt boxFields boxOk boxAt baseFields baseOk pageAt kindOf bodyOf openAt remoteAt carry dec within readLen skipOf keyAt refAt frontAt valAt slotAt verIn keyIn valIn recIn recAt historyAt upRange downRange forwardAt backwardAt fitsIn movedOf onOf behindOf itemOf nextIn nextOld enterAt headStep branchStep stepAt entryOf runFrom
+unfolding p7 part partOr ofLe leAt boxFields boxOk boxAt baseFields baseOk pageAt kindOf bodyOf openAt remoteAt carry dec within readLen skipOf keyAt refAt frontAt valAt slotAt verIn keyIn valIn recIn recAt historyAt upRange downRange upWay kindOfWay forwardAt backwardAt fitsIn readAt movedOf onOf behindOf itemOf nextIn nextOld enterAt headStep stepAt entryOf runFrom
 P7-short = refl
 
 -- a second history page at 240, to which the first links, with (2,0) "z": named in the step that yields its first record
@@ -87,5 +87,5 @@ abbrev linked7 : Told
 linked7 = record { entry = record { key = 97 ∷ []; ver = verOf 2 0; value = 122 ∷ [] }; names = addr 240 }
 
 pub linked-both : (begunRun linked (forwardAt linked (addr 104) 0 1) ≡ then head7 (then old7 (then linked7 ended))) × (begunRun linked (backwardAt linked (addr 104) (pos 0) (pos 0)) ≡ then head7 (then old7 (then linked7 ended)))
-unfolding p7 linked part partOr ofLe leAt boxFields boxOk boxAt baseFields baseOk pageAt kindOf bodyOf openAt remoteAt carry dec within readLen skipOf keyAt refAt frontAt valAt slotAt verIn keyIn valIn recIn recAt historyAt upRange downRange forwardAt backwardAt fitsIn movedOf onOf behindOf itemOf nextIn nextOld enterAt headStep branchStep stepAt entryOf runFrom
+unfolding p7 linked part partOr ofLe leAt boxFields boxOk boxAt baseFields baseOk pageAt kindOf bodyOf openAt remoteAt carry dec within readLen skipOf keyAt refAt frontAt valAt slotAt verIn keyIn valIn recIn recAt historyAt upRange downRange upWay kindOfWay forwardAt backwardAt fitsIn readAt movedOf onOf behindOf itemOf nextIn nextOld enterAt headStep stepAt entryOf runFrom
 linked-both = (refl, refl)

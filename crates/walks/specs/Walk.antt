@@ -20,6 +20,7 @@ use Rattle.records.specs.Records.{recAt, verIn}
 use Rattle.pages.specs.declared.Place.{Place}
 use Rattle.pages.specs.Edges.{place}
 use Rattle.pages.specs.Sound.{historyAt}
+use Rattle.walks.specs.declared.Sheet.{Sheet}
 use Rattle.walks.specs.declared.Past.{Past}
 use Rattle.walks.specs.declared.Walk.{Walk}
 use Rattle.walks.specs.declared.Item.{Item}
@@ -30,11 +31,36 @@ use Rattle.walks.specs.declared.Range.{Range}
 use Rattle.walks.specs.declared.OldStep.{OldStep}
 use Rattle.walks.specs.declared.Entered.{Entered}
 
-abbrev pub pastOf : Body → ℕ → ℕ → Past
-pastOf b slot left = record { page = b; slot = slot; left = left }
+-- a page as a walk carries it: what of its body the reading of a record needs
+abbrev pub sheetOf : Body → Sheet
+sheetOf b = record { at = b .at; elems = b .elems; front = b .«lo_len» + b .«hi_len»; end = b .end; «prefix_len» = b .«prefix_len» }
 
-abbrev pub walkOf : Body → Bool → ℕ → ℕ → Place → Past → Walk
-walkOf b back p n key past = record { page = b; back = back; pos = p; heads = n; key = key; past = past }
+-- and a body of a kind that reads the same
+abbrev pub bodyIn : Sheet → ℕ → Body
+bodyIn v kind =
+    record {
+      at = v .at;
+      end = v .end;
+      tail = v .end;
+      elems = v .elems;
+      first = v .at + baseLen + 4 * v .elems + v .front;
+      kind = kind;
+      «prefix_len» = v .«prefix_len»;
+      «lo_len» = v .front;
+      «hi_len» = 0;
+      sibling = pageId 0;
+      multi = 0;
+      link = addr 0;
+    }
+
+abbrev pub pastOf : Sheet → Addr → ℕ → ℕ → Past
+pastOf v link slot left = record { page = v; link = link; slot = slot; left = left }
+
+abbrev pub pastOver : Body → ℕ → ℕ → Past
+pastOver b slot left = pastOf (sheetOf b) (b .link) slot left
+
+abbrev pub walkOf : Sheet → ℕ → ℕ → ℕ → Place → Past → Walk
+walkOf v way p n key past = record { page = v; way = way; pos = p; heads = n; key = key; past = past }
 
 -- ---- beginning
 
@@ -51,13 +77,20 @@ downRange start end elems =
     (cond (leb elems (natAbs start)) Range.Outside (Range.Heads (natAbs start) (natAbs start - natAbs end + 1))))
 
 -- no head walked yet, so nothing left of its history
-abbrev pub begunOf : Body → Bool → Range → Begun
-begunOf b back (Range.Heads p n) = Begun.Is (walkOf b back p n (place 0 0) (pastOf b 0 0))
-begunOf b back Range.Outside = Begun.Refused Refusal.BadFrame
+abbrev pub begunOf : Body → ℕ → Range → Begun
+begunOf b way (Range.Heads p n) = Begun.Is (walkOf (sheetOf b) way p n (place 0 0) (pastOver b 0 0))
+begunOf b way Range.Outside = Begun.Refused Refusal.BadFrame
+
+-- the ways: up a leaf 0, down a leaf 1, up an index page 2
+unfoldable pub upWay : ℕ → ℕ
+upWay kind = cond (eqb kind 1) 2 0
+
+unfoldable pub kindOfWay : ℕ → ℕ
+kindOfWay way = cond (eqb way 2) 1 0
 
 -- "Headers and kind are judged even for an empty range"; "A history page, delta or remote where a page is wanted is 4"
 abbrev pub forwardOf : ℕ → ℕ → Opened → Begun
-forwardOf begin end (Opened.Is b) = cond (eqb (b .kind) 2) (Begun.Refused Refusal.BadFrame) (begunOf b false (upRange begin end (b .elems)))
+forwardOf begin end (Opened.Is b) = cond (eqb (b .kind) 2) (Begun.Refused Refusal.BadFrame) (begunOf b (upWay (b .kind)) (upRange begin end (b .elems)))
 forwardOf begin end Opened.Bad = Begun.Refused Refusal.BadFrame
 
 unfoldable pub forwardAt : List ℕ → Addr → ℕ → ℕ → Begun
@@ -65,7 +98,7 @@ forwardAt s a begin end = forwardOf begin end (openAt s a)
 
 -- "Backward (leaves only)"
 abbrev pub backwardOf : ℤ → ℤ → Opened → Begun
-backwardOf start end (Opened.Is b) = cond (eqb (b .kind) 0) (begunOf b true (downRange start end (b .elems))) (Begun.Refused Refusal.BadFrame)
+backwardOf start end (Opened.Is b) = cond (eqb (b .kind) 0) (begunOf b 1 (downRange start end (b .elems))) (Begun.Refused Refusal.BadFrame)
 backwardOf start end Opened.Bad = Begun.Refused Refusal.BadFrame
 
 unfoldable pub backwardAt : List ℕ → Addr → ℤ → ℤ → Begun
@@ -73,23 +106,24 @@ backwardAt s a start end = backwardOf start end (openAt s a)
 
 -- ---- stepping
 
--- the body that a walk carries lies in an arena of this length: all that a step asks of it
-unfoldable pub fitsIn : ℕ → Body → Bool
-fitsIn len b =
-    cond (leb (b .first) (b .end) && leb (b .end) (b .tail) && leb (b .tail) len && leb (b .«prefix_len») (b .«lo_len»))
-    (eqb (b .at + baseLen + 4 * b .elems + b .«lo_len» + b .«hi_len») (b .first))
-    false
+-- the page that a walk carries lies in an arena of this length: all that a step asks of it
+unfoldable pub fitsIn : ℕ → Sheet → Bool
+fitsIn len v =
+    cond (leb (v .at) (v .end) && leb (v .end) len && leb (v .«prefix_len») (v .front)) (leb (v .at + baseLen + 4 * v .elems + v .front) (v .end)) false
 
-unfoldable pub movedOf : Bool → ℕ → ℕ
-movedOf back p = cond back (p - 1) (p + 1)
+unfoldable pub readAt : List ℕ → Sheet → ℕ → ℕ → RecRead
+readAt s v kind i = cond (fitsIn (length s) v) (recAt s (bodyIn v kind) i) RecRead.Bad
+
+unfoldable pub movedOf : ℕ → ℕ → ℕ
+movedOf way p = cond (eqb way 1) (p - 1) (p + 1)
 
 -- the walk behind a head, with its key and its history
 unfoldable pub onOf : Walk → Place → Past → Walk
-onOf w key past = walkOf (w .page) (w .back) (movedOf (w .back) (w .pos)) (w .heads - 1) key past
+onOf w key past = walkOf (w .page) (w .way) (movedOf (w .way) (w .pos)) (w .heads - 1) key past
 
 -- the walk behind an old version: only the history is shorter
 unfoldable pub behindOf : Walk → Past → Walk
-behindOf w past = walkOf (w .page) (w .back) (w .pos) (w .heads) (w .key) past
+behindOf w past = walkOf (w .page) (w .way) (w .pos) (w .heads) (w .key) past
 
 -- the record at places of the arena
 unfoldable pub itemOf : List ℕ → Place → Rec → Addr → Item
@@ -99,31 +133,26 @@ itemOf s key r named =
 abbrev pub restOf : Rec → Place
 restOf r = place (r .«rest_at») (r .«rest_len»)
 
--- the old version of slot i of a history page, and one less behind it
-abbrev pub nextRec : List ℕ → Place → Body → ℕ → ℕ → Addr → RecRead → OldStep
-nextRec s key b i left named (RecRead.Is r) = OldStep.Is (itemOf s key r named) (pastOf b (i + 1) (left - 1))
-nextRec s key b i left named RecRead.Bad = OldStep.Bad
+-- the old version at a slot, and one less behind it
+abbrev pub nextRec : List ℕ → Place → Past → Addr → RecRead → OldStep
+nextRec s key p named (RecRead.Is r) = OldStep.Is (itemOf s key r named) (pastOf (p .page) (p .link) (p .slot + 1) (p .left - 1))
+nextRec s key p named RecRead.Bad = OldStep.Bad
 
-unfoldable pub nextIn : List ℕ → Place → Body → ℕ → ℕ → Addr → OldStep
-nextIn s key b i left named = nextRec s key b i left named (recAt s b i)
+unfoldable pub nextIn : List ℕ → Place → Past → Addr → OldStep
+nextIn s key p named = nextRec s key p named (readAt s (p .page) 2 (p .slot))
 
 -- "a linked one in the step that yields its first record": it is named there
 abbrev pub nextLink : List ℕ → Place → ℕ → Addr → Opened → OldStep
-nextLink s key left a (Opened.Is b) = nextIn s key b 0 left a
+nextLink s key left a (Opened.Is b) = nextIn s key (pastOver b 0 left) a
 nextLink s key left a Opened.Bad = OldStep.Bad
 
 -- behind a page's last slot, the first of the page that it links to; no such page is 4
 unfoldable pub nextOld : List ℕ → Place → Past → OldStep
-nextOld s key p =
-    cond (eqb (p .page .kind) 2)
-    (cond (fitsIn (length s) (p .page))
-    (cond (eqb (p .slot) (p .page .elems)) (nextLink s key (p .left) (p .page .link) (historyAt s (p .page .link))) (nextIn s key (p .page) (p .slot) (p .left) (addr 0)))
-    OldStep.Bad)
-    OldStep.Bad
+nextOld s key p = cond (eqb (p .slot) (p .page .elems)) (nextLink s key (p .left) (p .link) (historyAt s (p .link))) (nextIn s key p (addr 0))
 
 -- "A walk's head step enters the history page: its headers, its kind and slot < elems are judged there"
 abbrev pub enterOf : ℕ → ℕ → Opened → Entered
-enterOf slot count (Opened.Is b) = cond (ltb slot (b .elems)) (Entered.Is (pastOf b slot count)) Entered.Bad
+enterOf slot count (Opened.Is b) = cond (ltb slot (b .elems)) (Entered.Is (pastOver b slot count)) Entered.Bad
 enterOf slot count Opened.Bad = Entered.Bad
 
 unfoldable pub enterAt : List ℕ → HistRef → Past → Entered
@@ -134,31 +163,22 @@ abbrev pub headPast : List ℕ → Walk → Rec → Entered → Step
 headPast s w r (Entered.Is past) = Step.Found (itemOf s (restOf r) r (r .hist .page)) (onOf w (restOf r) past)
 headPast s w r Entered.Bad = Step.Refused Refusal.BadFrame
 
+-- an index page's record: "its value is a page id u64"
+abbrev pub leadsTo : List ℕ → Walk → Rec → Step
+leadsTo s w r = Step.Leads (record { key = restOf r; page = pageId (leAt 8 s (r .«val_at»)) }) (onOf w (restOf r) (w .past))
+
 abbrev pub headRec : List ℕ → Walk → RecRead → Step
-headRec s w (RecRead.Is r) = headPast s w r (enterAt s (r .hist) (w .past))
+headRec s w (RecRead.Is r) = cond (eqb (w .way) 2) (leadsTo s w r) (headPast s w r (enterAt s (r .hist) (w .past)))
 headRec s w RecRead.Bad = Step.Refused Refusal.BadFrame
 
 unfoldable pub headStep : List ℕ → Walk → Step
-headStep s w = headRec s w (recAt s (w .page) (w .pos))
-
--- an index page's record: "its value is a page id u64"
-abbrev pub branchRec : List ℕ → Walk → RecRead → Step
-branchRec s w (RecRead.Is r) = Step.Leads (record { key = restOf r; page = pageId (leAt 8 s (r .«val_at»)) }) (onOf w (restOf r) (w .past))
-branchRec s w RecRead.Bad = Step.Refused Refusal.BadFrame
-
-unfoldable pub branchStep : List ℕ → Walk → Step
-branchStep s w = branchRec s w (recAt s (w .page) (w .pos))
+headStep s w = headRec s w (readAt s (w .page) (kindOfWay (w .way)) (w .pos))
 
 abbrev pub oldStep : Walk → OldStep → Step
 oldStep w (OldStep.Is x past) = Step.Found x (behindOf w past)
 oldStep w OldStep.Bad = Step.Refused Refusal.BadFrame
 
 -- "A walk's step takes the walk and hands back the record with the walk moved on": first what is left of the last head's history, newest
--- first, then the next head; a page that is no leaf or index page, or does not lie in the arena, is 4
+-- first, then the next head
 unfoldable pub stepAt : List ℕ → Walk → Step
-stepAt s w =
-    cond (ltb 0 (w .past .left)) (oldStep w (nextOld s (w .key) (w .past)))
-    (cond (eqb (w .heads) 0) Step.End
-    (cond (fitsIn (length s) (w .page))
-    (cond (eqb (w .page .kind) 0) (headStep s w) (cond (eqb (w .page .kind) 1) (branchStep s w) (Step.Refused Refusal.BadFrame)))
-    (Step.Refused Refusal.BadFrame)))
+stepAt s w = cond (ltb 0 (w .past .left)) (oldStep w (nextOld s (w .key) (w .past))) (cond (eqb (w .heads) 0) Step.End (headStep s w))

@@ -1,11 +1,9 @@
 // Walks over a page, forward and backward, each head followed by its older versions: by value, a step at a time.
-// The headers are judged when the walk is made; a step asks only that the body still lies in the lent arena.
+// The headers are judged when the walk is made; a step asks only that the page still lies in the lent arena.
 ghost use mathlib.Core.Path.{_≡_};
-ghost use Prim.Native.Nat.{_+_, _-_, _<_, _^_};
-ghost use lib.ListN.{length};
+ghost use Prim.Native.Nat.{_+_, _*_, _-_, _<_, _^_};
 ghost use Rattle.spans.specs.Span.{partOr};
-ghost use Rattle.frames.specs.Layout.{Inside};
-ghost use Rattle.walks.specs.Walk.{fitsIn, upRange, downRange, begunOf, forwardAt, backwardAt, movedOf, onOf, behindOf, nextIn, nextOld, enterAt, headStep, branchStep, stepAt};
+ghost use Rattle.walks.specs.Walk.{sheetOf, pastOver, upWay, fitsIn, bodyIn, readAt, kindOfWay, upRange, downRange, begunOf, forwardAt, backwardAt, movedOf, onOf, behindOf, nextIn, nextOld, enterAt, headStep, stepAt};
 use frames::Addr;
 use frames::BaseHeader;
 use frames::Body;
@@ -17,17 +15,27 @@ use pages::Place;
 use records::RecRead;
 use values::HistRef;
 
-// What is left of a head's history: the page that it stands in, the next slot there, how many are left.
+// A page as a walk carries it: where it stands, its slots, the boundaries behind them, its end.
+pub struct Sheet {
+    pub at: usize,
+    pub elems: usize,
+    pub front: usize,
+    pub end: usize,
+    pub prefix_len: usize,
+}
+
+// What is left of a head's history: the page that it stands in, the page linked to, the next slot, how many are left.
 pub struct Past {
-    pub page: Body,
+    pub page: Sheet,
+    pub link: Addr,
     pub slot: usize,
-    pub left: u32,
+    pub left: usize,
 }
 
 // A walk: its page, its way, the next head and how many are left; the last head's key rest and what is left of its history.
 pub struct Walk {
-    pub page: Body,
-    pub back: bool,
+    pub page: Sheet,
+    pub way: usize,
     pub pos: usize,
     pub heads: usize,
     pub key: Place,
@@ -103,24 +111,58 @@ fn down(start: i64, end: i64, elems: usize) -> Range
     Range::Heads(from, less(from, end as usize) + 1)
 }
 
-fn walk_over(b: Body, back: bool, r: Range) -> Begun
-    ensures { λ x. ⌜ x ≡ begunOf b back r ⌝ }
+fn sheet_of(b: Body) -> Sheet
+    requires { ⌜ b .«lo_len» + b .«hi_len» < 2 ^ 64 ⌝ }
+    ensures { λ r. ⌜ r ≡ sheetOf b ⌝ }
+{
+    Sheet {
+        at: b.at,
+        elems: b.elems,
+        front: b.lo_len + b.hi_len,
+        end: b.end,
+        prefix_len: b.prefix_len,
+    }
+}
+
+fn past_over(b: Body, slot: usize, left: usize) -> Past
+    requires { ⌜ b .«lo_len» + b .«hi_len» < 2 ^ 64 ⌝ }
+    ensures { λ r. ⌜ r ≡ pastOver b slot left ⌝ }
+{
+    let link = b.link;
+    Past {
+        page: sheet_of(b),
+        link: link,
+        slot: slot,
+        left: left,
+    }
+}
+
+fn walk_over(b: Body, way: usize, r: Range) -> Begun
+    requires { ⌜ b .«lo_len» + b .«hi_len» < 2 ^ 64 ⌝ }
+    ensures { λ x. ⌜ x ≡ begunOf b way r ⌝ }
 {
     let Range::Heads(pos, heads) = r else {
         return Begun::Refused(Refusal::BadFrame);
     };
     Begun::Is(Walk {
-        page: b,
-        back: back,
+        page: sheet_of(b),
+        way: way,
         pos: pos,
         heads: heads,
         key: Place { at: 0, len: 0 },
-        past: Past {
-            page: b,
-            slot: 0,
-            left: 0,
-        },
+        past: past_over(b, 0, 0),
     })
+}
+
+// The way up a page of this kind.
+fn up_way(kind: u8) -> usize
+    ensures { λ r. ⌜ r ≡ upWay kind ⌝ }
+{
+    if kind == Body::INDEX {
+        Walk::INDEX
+    } else {
+        Walk::UP
+    }
 }
 
 // A walk over the positions from begin to end of a leaf or index page.
@@ -133,7 +175,7 @@ pub fn forward(s: &[u8], a: Addr, begin: usize, end: usize) -> Begun
     if b.kind == Body::HISTORY {
         return Begun::Refused(Refusal::BadFrame);
     }
-    walk_over(b, false, up(begin, end, b.elems))
+    walk_over(b, up_way(b.kind), up(begin, end, b.elems))
 }
 
 // A walk from a signed start down to a signed end, both included, of a leaf.
@@ -146,81 +188,85 @@ pub fn backward(s: &[u8], a: Addr, start: i64, end: i64) -> Begun
     if b.kind != Body::LEAF {
         return Begun::Refused(Refusal::BadFrame);
     }
-    walk_over(b, true, down(start, end, b.elems))
+    walk_over(b, Walk::DOWN, down(start, end, b.elems))
 }
 
 // ---- stepping
 
-// Whether a body's places follow each other and lie in an arena of this length: no sum that could wrap.
-fn fits(len: usize, b: Body) -> bool
-    ensures { λ r. ⌜ r ≡ fitsIn len b ⌝ }
+// Whether a page's slots and boundaries stand before its end, and that in an arena of this length: no sum that could wrap.
+fn fits(len: usize, v: Sheet) -> bool
+    ensures { λ r. ⌜ r ≡ fitsIn len v ⌝ }
 {
-    let rising = (b.first <= b.end)
-        & (b.end <= b.tail)
-        & (b.tail <= len)
-        & (b.prefix_len <= b.lo_len);
-    if rising {
-        if b.first < b.at {
+    let within = (v.at <= v.end) & (v.end <= len) & (v.prefix_len <= v.front);
+    if within {
+        let room = v.end - v.at;
+        if room / 4 < v.elems {
             return false;
         }
-        let front = b.first - b.at;
-        if front < b.lo_len {
+        let rest = room - 4 * v.elems;
+        if rest < BaseHeader::HDR_LEN {
             return false;
         }
-        let low = front - b.lo_len;
-        if low < b.hi_len {
-            return false;
-        }
-        let slots = low - b.hi_len;
-        if slots / 4 < b.elems {
-            return false;
-        }
-        return slots - 4 * b.elems == BaseHeader::HDR_LEN;
+        return v.front <= rest - BaseHeader::HDR_LEN;
     }
     false
 }
 
-fn moved(back: bool, pos: usize) -> usize
-    requires { ⌜ pos + 1 < 2 ^ 64 ⌝ }
-    ensures { λ r. ⌜ r ≡ movedOf back pos ⌝ }
+fn body_in(v: Sheet, kind: u8) -> Body
+    requires { ⌜ v .at + 40 + 4 * v .elems + v .front < 2 ^ 64 ⌝ }
+    ensures { λ r. ⌜ r ≡ bodyIn v kind ⌝ }
 {
-    if back { less(pos, 1) } else { pos + 1 }
+    Body {
+        at: v.at,
+        end: v.end,
+        tail: v.end,
+        elems: v.elems,
+        first: v.at + BaseHeader::HDR_LEN + 4 * v.elems + v.front,
+        kind: kind,
+        prefix_len: v.prefix_len,
+        lo_len: v.front,
+        hi_len: 0,
+        sibling: PageId(0),
+        multi: 0,
+        link: Addr(0),
+    }
+}
+
+// The record of slot i of a page of this kind that a walk carries.
+fn read(s: &[u8], v: Sheet, kind: u8, i: usize) -> RecRead
+    ensures { λ r. ⌜ r ≡ readAt (now (s .entry)) v kind i ⌝ }
+{
+    if fits(s.len(), v) {
+        return records::rec_at(s, body_in(v, kind), i);
+    }
+    RecRead::Bad
+}
+
+fn moved(way: usize, pos: usize) -> usize
+    requires { ⌜ pos + 1 < 2 ^ 64 ⌝ }
+    ensures { λ r. ⌜ r ≡ movedOf way pos ⌝ }
+{
+    if way == Walk::DOWN {
+        less(pos, 1)
+    } else {
+        pos + 1
+    }
+}
+
+fn kind_of(way: usize) -> u8
+    ensures { λ r. ⌜ r ≡ kindOfWay way ⌝ }
+{
+    if way == Walk::INDEX {
+        Body::INDEX
+    } else {
+        Body::LEAF
+    }
 }
 
 // The next old version, with what is left behind it.
 pub enum OldStep {
     Is(Item, Past),
     Bad,
-}
-
-// The old version of slot i of a history page, the one of left many.
-fn old_in(s: &[u8], key: Place, b: Body, i: usize, left: u32, named: Addr) -> OldStep
-    requires { ⌜ Inside (now s) b ⌝ }
-    requires { ⌜ b .kind ≡ 2 ⌝ }
-    requires { ⌜ 0 < left ⌝ }
-    ensures { λ r. ⌜ r ≡ nextIn (now (s .entry)) key b i left named ⌝ }
-{
-    let RecRead::Is(r) = records::rec_at(s, b, i) else {
-        return OldStep::Bad;
-    };
-    let remote = r.remote;
-    OldStep::Is(
-        Item {
-            key: key,
-            ver: records::ver_at(s, r.ver_at),
-            value: Place {
-                at: r.val_at,
-                len: r.val_len,
-            },
-            remote: remote,
-            named: named,
-        },
-        Past {
-            page: b,
-            slot: i + 1,
-            left: left - 1,
-        },
-    )
 }
 
 // What a head's history leaves to walk: its page is entered.
@@ -241,40 +287,68 @@ fn enter(s: &[u8], h: HistRef, was: Past) -> Entered
     };
     let slot = h.slot as usize;
     if slot < b.elems {
-        return Entered::Is(Past {
-            page: b,
-            slot: slot,
-            left: h.count,
-        });
+        return Entered::Is(past_over(b, slot, h.count as usize));
     }
     Entered::Bad
 }
 
 impl Past {
-    // The old version at the slot, or, behind the page's last, the first of the page that it links to.
+    // The old version at the slot.
+    fn here(self, s: &[u8], key: Place, named: Addr) -> OldStep
+        requires { ⌜ 0 < self .left ⌝ }
+        ensures { λ r. ⌜ r ≡ nextIn (now (s .entry)) key self named ⌝ }
+    {
+        let page = self.page;
+        let RecRead::Is(r) = read(s, page, Body::HISTORY, self.slot) else {
+            return OldStep::Bad;
+        };
+        let remote = r.remote;
+        let link = self.link;
+        OldStep::Is(
+            Item {
+                key: key,
+                ver: records::ver_at(s, r.ver_at),
+                value: Place {
+                    at: r.val_at,
+                    len: r.val_len,
+                },
+                remote: remote,
+                named: named,
+            },
+            Past {
+                page: page,
+                link: link,
+                slot: self.slot + 1,
+                left: self.left - 1,
+            },
+        )
+    }
+
+    // The same, or, behind the page's last, the first of the page that it links to.
     fn next(self, s: &[u8], key: Place) -> OldStep
         requires { ⌜ 0 < self .left ⌝ }
         ensures { λ r. ⌜ r ≡ nextOld (now (s .entry)) key self ⌝ }
     {
-        let b = self.page;
-        if b.kind != Body::HISTORY {
+        let page = self.page;
+        if self.slot != page.elems {
+            return self.here(s, key, Addr(0));
+        }
+        let link = self.link;
+        let Opened::Is(d) = pages::history_at(s, link) else {
             return OldStep::Bad;
-        }
-        if fits(s.len(), b) {
-            if self.slot != b.elems {
-                return old_in(s, key, b, self.slot, self.left, Addr(0));
-            }
-            let link = b.link;
-            let Opened::Is(d) = pages::history_at(s, link) else {
-                return OldStep::Bad;
-            };
-            return old_in(s, key, d, 0, self.left, link);
-        }
-        OldStep::Bad
+        };
+        let first = past_over(d, 0, self.left);
+        first.here(s, key, link)
     }
 }
 
 impl Walk {
+    pub const UP: usize = 0;
+
+    pub const DOWN: usize = 1;
+
+    pub const INDEX: usize = 2;
+
     // The walk behind a head: the next position, the head's key and history.
     fn on(self, key: Place, past: Past) -> Walk
         requires { ⌜ self .pos + 1 < 2 ^ 64 ⌝ }
@@ -284,8 +358,8 @@ impl Walk {
         let page = self.page;
         Walk {
             page: page,
-            back: self.back,
-            pos: moved(self.back, self.pos),
+            way: self.way,
+            pos: moved(self.way, self.pos),
             heads: self.heads - 1,
             key: key,
             past: past,
@@ -300,7 +374,7 @@ impl Walk {
         let key = self.key;
         Walk {
             page: page,
-            back: self.back,
+            way: self.way,
             pos: self.pos,
             heads: self.heads,
             key: key,
@@ -308,25 +382,32 @@ impl Walk {
         }
     }
 
-    // The head at the walk's position of a leaf: its history page is entered with it.
+    // The head at the walk's position: on a leaf its history page is entered with it.
     fn head(self, s: &[u8]) -> Step
-        requires { ⌜ Inside (now s) (self .page) ⌝ }
-        requires { ⌜ self .page .kind ≡ 0 ⌝ }
         requires { ⌜ 0 < self .heads ⌝ }
         ensures { λ r. ⌜ r ≡ headStep (now (s .entry)) self ⌝ }
     {
-        let b = self.page;
-        let RecRead::Is(r) = records::rec_at(s, b, self.pos) else {
-            return Step::Refused(Refusal::BadFrame);
-        };
-        let h = r.hist;
+        let page = self.page;
         let was = self.past;
-        let Entered::Is(past) = enter(s, h, was) else {
+        let RecRead::Is(r) = read(s, page, kind_of(self.way), self.pos) else {
             return Step::Refused(Refusal::BadFrame);
         };
         let key = Place {
             at: r.rest_at,
             len: r.rest_len,
+        };
+        if self.way == Walk::INDEX {
+            return Step::Leads(
+                Branch {
+                    key: key,
+                    page: PageId(numbers::read_u64(s, r.val_at)),
+                },
+                self.on(key, was),
+            );
+        }
+        let h = r.hist;
+        let Entered::Is(past) = enter(s, h, was) else {
+            return Step::Refused(Refusal::BadFrame);
         };
         let remote = r.remote;
         let named = h.page;
@@ -340,31 +421,6 @@ impl Walk {
                 },
                 remote: remote,
                 named: named,
-            },
-            self.on(key, past),
-        )
-    }
-
-    // The record at the walk's position of an index page.
-    fn branch(self, s: &[u8]) -> Step
-        requires { ⌜ Inside (now s) (self .page) ⌝ }
-        requires { ⌜ self .page .kind ≡ 1 ⌝ }
-        requires { ⌜ 0 < self .heads ⌝ }
-        ensures { λ r. ⌜ r ≡ branchStep (now (s .entry)) self ⌝ }
-    {
-        let b = self.page;
-        let RecRead::Is(r) = records::rec_at(s, b, self.pos) else {
-            return Step::Refused(Refusal::BadFrame);
-        };
-        let key = Place {
-            at: r.rest_at,
-            len: r.rest_len,
-        };
-        let past = self.past;
-        Step::Leads(
-            Branch {
-                key: key,
-                page: PageId(numbers::read_u64(s, r.val_at)),
             },
             self.on(key, past),
         )
@@ -385,16 +441,7 @@ impl Walk {
         if self.heads == 0 {
             return Step::End;
         }
-        let b = self.page;
-        if fits(s.len(), b) {
-            if b.kind == Body::LEAF {
-                return self.head(s);
-            }
-            if b.kind == Body::INDEX {
-                return self.branch(s);
-            }
-        }
-        Step::Refused(Refusal::BadFrame)
+        self.head(s)
     }
 }
 

@@ -1,8 +1,13 @@
 -- `walks::backward` meets its contract. Assumes nothing.
+use native.Mathlib.Omega.{arith}
+use mathlib.Core.Path.{sym, _∙_}
+use denote.Ref.{now}
 use borrow.Author.Tests.{eq-eqb, ne-eqb}
 use mir.Syntax.{w64}
 use mir.ValLaws.{toZ-ofZ}
+use Rattle.frames.proofs.Frames.{open-inside}
 use Rattle.walks.specs.Walk.{backwardAt}
+use Rattle.walks.proofs.Lying.{front-few}
 use borrow.Author.Needs.{needs}
 use Rattle.walks.proofs.backward.Statement.{statement}
 use Rattle.walks.proofs.backward.Tie as tie
@@ -28,7 +33,9 @@ down-requires : tie.Need-down-requires
 down-requires c κs = search needs
 
 walk-over-requires : tie.Need-walk-over-requires
-walk-over-requires c κs = search needs
+walk-over-requires c κs =
+    let i = open-inside (now (c .before .before .before .before .before .before .before .before .args .s)) (c .before .before .before .before .before .before .before .before .args .a) (c .before .before .before .before .b .given .0 .0) (sym (c .before .before .before .before .before .before .open-at .ensures) ∙ c .before .before .before .before .b .given .1) .0 in
+    omega (arith, front-few (now (c .before .before .before .before .before .before .before .before .args .s)) (c .before .before .before .before .b .given .0 .0) i, c .before .before .before .before .before .before .before .before .good)
 
 returns-3 : tie.Need-returns-3
 unfolding backwardAt

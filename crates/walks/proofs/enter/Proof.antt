@@ -1,6 +1,11 @@
 -- `walks::enter` meets its contract. Assumes nothing.
+use native.Mathlib.Omega.{arith}
+use mathlib.Core.Path.{sym, _∙_}
+use denote.Ref.{now}
 use borrow.Author.Tests.{le-ltb, lt-ltb, eq-eqb, ne-eqb}
+use Rattle.pages.proofs.Olds.{history-inside}
 use Rattle.walks.specs.Walk.{enterAt}
+use Rattle.walks.proofs.Lying.{front-few}
 use borrow.Author.Needs.{needs}
 use Rattle.walks.proofs.enter.Statement.{statement}
 use Rattle.walks.proofs.enter.Tie as tie
@@ -25,9 +30,17 @@ returns-2 c = simp (ne-eqb _ _ (c .before .before .before .before .if1 .left), �
 cast-slot : tie.Need-cast-slot
 cast-slot c = search needs
 
+cast-past-over : tie.Need-cast-past-over
+cast-past-over c = search needs
+
+past-over-requires : tie.Need-past-over-requires
+past-over-requires c κs =
+    let h = history-inside (now (c .before .before .before .before .before .before .before .before .before .before .before .before .args .s)) (c .before .before .before .before .before .before .before .before .before .before .before .before .args .h .page) (c .before .before .before .before .before .b .given .0 .0) (sym (c .before .before .before .before .before .before .before .history-at .ensures) ∙ c .before .before .before .before .before .b .given .1) in
+    omega (arith, front-few (now (c .before .before .before .before .before .before .before .before .before .before .before .before .args .s)) (c .before .before .before .before .before .b .given .0 .0) (h .inside), c .before .before .before .before .before .before .before .before .before .before .before .before .good)
+
 returns-3 : tie.Need-returns-3
 unfolding enterAt
-returns-3 c = simp (ne-eqb _ _ (c .before .before .before .before .before .before .before .before .if1 .left), ← c .before .before .before .before .before .before .history-at .ensures, c .before .before .before .before .b .given .1, lt-ltb _ _ (c .if2 .taken))
+returns-3 c = simp (ne-eqb _ _ (c .before .before .before .before .before .before .before .before .before .before .if1 .left), ← c .before .before .before .before .before .before .before .before .history-at .ensures, c .before .before .before .before .before .before .b .given .1, lt-ltb _ _ (c .before .before .if2 .taken), c .past-over .ensures)
 
 returns-4 : tie.Need-returns-4
 unfolding enterAt
@@ -43,5 +56,7 @@ enter-spec =
     enum-told
     returns-2
     cast-slot
+    cast-past-over
+    past-over-requires
     returns-3
     returns-4)

@@ -1,6 +1,11 @@
 -- `walks::forward` meets its contract. Assumes nothing.
+use native.Mathlib.Omega.{arith}
+use mathlib.Core.Path.{sym, _∙_}
+use denote.Ref.{now}
 use borrow.Author.Tests.{eq-eqb, ne-eqb}
+use Rattle.frames.proofs.Frames.{open-inside}
 use Rattle.walks.specs.Walk.{forwardAt}
+use Rattle.walks.proofs.Lying.{front-few}
 use borrow.Author.Needs.{needs}
 use Rattle.walks.proofs.forward.Statement.{statement}
 use Rattle.walks.proofs.forward.Tie as tie
@@ -22,15 +27,20 @@ returns-2 : tie.Need-returns-2
 unfolding forwardAt
 returns-2 c = simp (← c .before .before .before .before .before .open-at .ensures, c .before .before .before .b .given .1, eq-eqb _ _ (c .if1 .taken))
 
+up-way-requires : tie.Need-up-way-requires
+up-way-requires c κs = search needs
+
 up-requires : tie.Need-up-requires
 up-requires c κs = search needs
 
 walk-over-requires : tie.Need-walk-over-requires
-walk-over-requires c κs = search needs
+walk-over-requires c κs =
+    let i = open-inside (now (c .before .before .before .before .before .before .before .before .before .args .s)) (c .before .before .before .before .before .before .before .before .before .args .a) (c .before .before .before .before .before .b .given .0 .0) (sym (c .before .before .before .before .before .before .before .open-at .ensures) ∙ c .before .before .before .before .before .b .given .1) .0 in
+    omega (arith, front-few (now (c .before .before .before .before .before .before .before .before .before .args .s)) (c .before .before .before .before .before .b .given .0 .0) i, c .before .before .before .before .before .before .before .before .before .good)
 
 returns-3 : tie.Need-returns-3
 unfolding forwardAt
-returns-3 c = simp (← c .before .before .before .before .before .before .before .open-at .ensures, c .before .before .before .before .before .b .given .1, ne-eqb _ _ (c .before .before .if1 .left), ← c .before .up .ensures, c .walk-over .ensures)
+returns-3 c = simp (← c .before .before .before .before .before .before .before .before .open-at .ensures, c .before .before .before .before .before .before .b .given .1, ne-eqb _ _ (c .before .before .before .if1 .left), ← c .before .up .ensures, ← c .before .before .up-way .ensures, c .walk-over .ensures)
 
 pub forward-spec : {M : Type 1} → statement M
 forward-spec =
@@ -41,6 +51,7 @@ forward-spec =
     enum-told
     returns
     returns-2
+    up-way-requires
     up-requires
     walk-over-requires
     returns-3)

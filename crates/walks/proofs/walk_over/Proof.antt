@@ -12,8 +12,16 @@ enum-told c = search needs
 returns : tie.Need-returns
 returns c = simp (c .enum-told .given .1)
 
+sheet-of-requires : tie.Need-sheet-of-requires
+sheet-of-requires c κs = search needs
+
+past-over-requires : tie.Need-past-over-requires
+past-over-requires c κs = search needs
+
 returns-2 : tie.Need-returns-2
-returns-2 c = simp (c .before .r .given .1)
+returns-2 c = simp (c .before .before .before .r .given .1, c .before .sheet-of .ensures, c .past-over .ensures)
 
 pub walk-over-spec : {M : Type 1} → statement M
-walk-over-spec = tie.close (tie.spec enum-known-r enum-told returns returns-2)
+walk-over-spec =
+    tie.close
+    (tie.spec enum-known-r enum-told returns sheet-of-requires past-over-requires returns-2)

@@ -1,0 +1,3 @@
+-- The crate's theorems.
+pub mod Rows
+pub mod Cases
