@@ -1,4 +1,4 @@
--- Whole images, computed from whole lists by the definitions, equal to the oracle's bytes. Made by `make-cases`; not edited by hand.
+-- Whole images, computed from whole lists by the definitions, equal to the oracle's bytes. Made by `tools/image-cases`; not edited by hand.
 -- Assumes nothing.
 use mathlib.Core.Path.{_≡_, refl}
 use mathlib.Core.List.{List, [], _∷_}

@@ -1,9 +1,9 @@
 -- The three searches on a page with a meaning: what they answer is what the meaning's rows say. None is refused with 4, and with 7 exactly
 -- where the probe lacks the prefix and the page has keys.
 -- Assumes nothing.
-use Prim.Native.Nat.{ℕ, zero, suc, _+_, _-_, _≤_, _<_}
+use Prim.Native.Nat.{ℕ, zero, suc, _-_, _≤_, _<_}
 use mathlib.Core.Path.{_≡_, refl, sym, ap, ap₂, _∙_, subst}
-use mathlib.Core.Bool.{Bool, true, false, cond, _||_, _&&_}
+use mathlib.Core.Bool.{Bool, true, false, cond}
 use mathlib.Core.List.{List}
 use native.Mathlib.Omega.{arith}
 use borrow.Author.Tests.{eq-eqb, ne-eqb, eqb-true, eqb-false, ltb-true, ltb-false}
@@ -16,7 +16,6 @@ use Rattle.order.specs.declared.Ver.{Ver}
 use Rattle.order.specs.Order.{cmpBytes, startsWith}
 use Rattle.order.proofs.Laws.{cmp-eq, cmp-same, starts-append, less-equal}
 use Rattle.frames.specs.declared.Addr.{Addr}
-use Rattle.frames.specs.declared.PageId.{PageId}
 use Rattle.frames.specs.declared.Body.{Body}
 use Rattle.frames.specs.declared.Opened.{Opened}
 use Rattle.frames.specs.declared.Refusal.{Refusal}
@@ -27,8 +26,8 @@ use Rattle.records.specs.declared.RecRead.{RecRead}
 use Rattle.records.specs.Records.{verIn, recAt}
 use Rattle.records.proofs.Inside.{val-part}
 use Rattle.pages.specs.Sound.{slotsOk}
-use Rattle.pages.specs.Meaning.{Head, Child, Rows, leaf, index, Page, Said, says, oldsFrom, prefixOf, keyOf, headOf, childOf, headsFrom, childrenFrom, pageSays, meaning}
-use Rattle.pages.specs.Edges.{place, partIn}
+use Rattle.pages.specs.Meaning.{Head, Child, Rows, leaf, index, Page, says, prefixOf, keyOf, headOf, childOf, headsFrom, childrenFrom, meaning}
+use Rattle.pages.specs.Edges.{place}
 use Rattle.pages.proofs.Given.{Sound, sound-given, every-slot}
 use Rattle.sst.specs.declared.Cmp.{Cmp}
 use Rattle.sst.specs.declared.Halved.{Halved}
@@ -39,10 +38,10 @@ use Rattle.sst.specs.declared.Bound.{Bound}
 use Rattle.sst.specs.declared.Floor.{Floor}
 use Rattle.sst.specs.declared.Found.{Found}
 use Rattle.sst.specs.Halve.{asked, lowered}
-use Rattle.sst.specs.Search.{rightKind, fitsPrefix, readyAt, halved, outcomeOf, outcomeAt, bound, boundIn, lowerOf, lowerAt, intl, pageRec, pageIn, floorIn, floorOf, floorAt, leaves, foundRec, headIn, foundIn, searchOf, searchAt}
-use Rattle.sst.specs.Says.{noHead, noChild, rowCount, rowKey, rowNewer, earlier, rowLess, Lacks, FirstNotLess, BoundSays, IsFloor, FloorSays, IsHead, FoundSays, MeetsAt}
-use Rattle.sst.proofs.Halving.{three, Rises, Finds}
-use Rattle.sst.proofs.Rising.{Sorted, asked-less, asked-equal, asked-greater, lowered-less, lowered-greater, lowered-equal, against, sorted-rises, lower-rises}
+use Rattle.sst.specs.Search.{rightKind, fitsPrefix, readyAt, halved, outcomeOf, outcomeAt, bound, boundIn, lowerOf, lowerAt, intl, pageIn, floorIn, floorOf, floorAt, leaves, headIn, foundIn, searchOf, searchAt}
+use Rattle.sst.specs.Says.{noHead, noChild, rowCount, rowKey, rowNewer, Lacks, FirstNotLess, BoundSays, FloorSays, IsHead, FoundSays, MeetsAt}
+use Rattle.sst.proofs.Halving.{three, Finds}
+use Rattle.sst.proofs.Rising.{Sorted, asked-equal, asked-greater, lowered-less, lowered-greater, lowered-equal, against, sorted-rises, lower-rises}
 use Rattle.sst.proofs.Opens.{open-empty, open-fits, open-other}
 use Rattle.sst.proofs.PageKeys.{rowsBy, rows-said, prefix-said, count-of, key-of, head-at, child-at, keys-sorted, fits-said, halved-finds, open-kind}
 

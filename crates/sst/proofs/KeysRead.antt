@@ -1,7 +1,7 @@
 -- The number of keys read: the halving's steps, and at most the bit length of elems. On every arena, sound or damaged.
 -- Assumes nothing.
 use Prim.Native.Nat.{ℕ, zero, suc, _+_, _≤_, _<_, _^_, zero-le}
-use mathlib.Core.Path.{_≡_, refl, sym, ap, _∙_, subst}
+use mathlib.Core.Path.{_≡_, refl, ap, _∙_, subst}
 use mathlib.Core.Bool.{Bool, true, false, cond}
 use mathlib.Core.List.{List, [], _∷_}
 use native.Mathlib.Omega.{arith}
@@ -21,14 +21,12 @@ use Rattle.sst.specs.declared.Halved.{Halved}
 use Rattle.sst.specs.declared.Want.{Want}
 use Rattle.sst.specs.declared.Outcome.{Outcome}
 use Rattle.sst.specs.declared.Bound.{Bound}
-use Rattle.sst.specs.declared.Floor.{Floor}
-use Rattle.sst.specs.declared.Found.{Found}
 use Rattle.sst.specs.Halve.{mid, halve, steps}
 use Rattle.sst.specs.Search.{halved, outcomeAt, bound, boundIn, lowerOf, lowerAt, intl, pageRec, pageIn, floorIn, floorOf, floorAt, leaves, foundRec, headIn, foundIn, searchOf, searchAt}
 use Rattle.sst.specs.Says.{boundReads, floorReads, foundReads}
 use Rattle.sst.proofs.Turns.{halve-less, halve-equal, halve-greater, halve-refuse, halve-end}
 use Rattle.sst.proofs.Halving.{readsOf, reads-few}
-use Rattle.sst.proofs.Opens.{IsReady, outcome-ready}
+use Rattle.sst.proofs.Opens.{outcome-ready}
 
 -- an answer's reads are none, or the halving's
 bound-reads : (n : ℕ) (x : Halved) → boundReads (boundIn n x) ≤ readsOf x

@@ -1,17 +1,13 @@
 -- What the meaning says of an answer fits one position only.
 -- Assumes nothing.
 use Prim.Native.Nat.{ℕ, _≤_, _<_}
-use mathlib.Core.Path.{_≡_, refl, sym, ap, _∙_, subst}
-use mathlib.Core.Bool.{Bool, true, false}
+use mathlib.Core.Path.{_≡_}
 use mathlib.Core.List.{List}
 use native.Mathlib.Omega.{arith}
-use lib.ListN.{length, getD}
-use Rattle.order.specs.declared.Order.{Order}
 use Rattle.order.specs.declared.Ver.{Ver}
-use Rattle.order.specs.Order.{cmpBytes}
 use Rattle.frames.specs.declared.PageId.{PageId}
 use Rattle.pages.specs.Meaning.{Child, Rows}
-use Rattle.sst.specs.Says.{noChild, rowCount, rowLess, FirstNotLess, IsFloor}
+use Rattle.sst.specs.Says.{rowCount, FirstNotLess, IsFloor}
 use Rattle.sst.proofs.Halving.{three}
 
 -- there is one first position not less

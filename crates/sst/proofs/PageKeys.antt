@@ -1,11 +1,10 @@
 -- On a sound page a search compares the whole keys of the meaning's rows, and they rise.
 -- Assumes nothing.
-use Prim.Native.Nat.{ℕ, zero, suc, _+_, _*_, _-_, _≤_, _<_}
-use mathlib.Core.Path.{_≡_, refl, sym, ap, ap₂, _∙_, subst}
-use mathlib.Core.Bool.{Bool, true, false, cond, _||_, _&&_}
-use mathlib.Core.List.{List, [], _∷_, _++_}
+use Prim.Native.Nat.{ℕ, zero, suc, _+_, _-_, _≤_, _<_}
+use mathlib.Core.Path.{_≡_, refl, sym, ap, ap₂, _∙_}
+use mathlib.Core.Bool.{Bool, true, false, cond}
+use mathlib.Core.List.{List, _++_}
 use native.Mathlib.Omega.{arith}
-use borrow.Author.Tests.{eqb-true, eqb-false}
 use lib.ListN.{length, drop, getD}
 use lib.Dec.{eqb}
 use Rattle.spans.specs.Span.{part}
@@ -16,30 +15,24 @@ use Rattle.order.specs.Version.{newerThan}
 use Rattle.order.proofs.Laws.{cmp-trans, cmp-front, starts-split}
 use Rattle.frames.specs.declared.Addr.{Addr}
 use Rattle.frames.specs.declared.Body.{Body}
-use Rattle.frames.specs.declared.BoxHeader.{BoxHeader}
-use Rattle.frames.specs.declared.BaseHeader.{BaseHeader}
 use Rattle.frames.specs.declared.PageRead.{PageRead}
 use Rattle.frames.specs.declared.Opened.{Opened}
 use Rattle.frames.specs.Layout.{pageAt, kindOf, bodyOf, openOf, openAt, Inside}
-use Rattle.frames.proofs.Frames.{open-inside}
-use Rattle.values.specs.declared.KeyRead.{KeyRead}
 use Rattle.records.specs.declared.Rec.{Rec}
 use Rattle.records.specs.declared.RecRead.{RecRead}
-use Rattle.records.specs.Records.{verIn, keyAtSlot, recAt}
-use Rattle.records.specs.Parts.{prefixIn}
+use Rattle.records.specs.Records.{recAt}
 use Rattle.records.proofs.Inside.{at-inside, prefix-part}
 use Rattle.pages.specs.Sound.{slotsOk}
 use Rattle.pages.specs.Meaning.{Head, Child, Rows, leaf, index, Page, prefixOf, keyOf, headOf, childOf, rowsFrom, headsFrom, childrenFrom, pageSays}
 use Rattle.pages.proofs.Given.{every-slot, keys-rise}
 use Rattle.pages.proofs.Rows.{rows-many}
 use Rattle.sst.specs.declared.Cmp.{Cmp}
-use Rattle.sst.specs.declared.Halved.{Halved}
 use Rattle.sst.specs.declared.Want.{Want}
-use Rattle.sst.specs.Halve.{asked, lowered, halve}
+use Rattle.sst.specs.Halve.{asked, lowered}
 use Rattle.sst.specs.Search.{newerAt, cmpRead, keyCmp, fitsPrefix, halved}
 use Rattle.sst.specs.Says.{noHead, noChild, rowCount, rowKey, rowNewer}
 use Rattle.sst.proofs.Halving.{Rises, Finds, halve-finds}
-use Rattle.sst.proofs.Rising.{Sorted, against, sorted-rises, rises-same, finds-same}
+use Rattle.sst.proofs.Rising.{Sorted, against, rises-same, finds-same}
 use Rattle.sst.proofs.Opens.{prefix-length}
 
 -- ---- rows

@@ -10,7 +10,7 @@ use Rattle.frames.specs.declared.Addr.{Addr}
 use Rattle.frames.specs.declared.Body.{Body}
 use Rattle.frames.specs.declared.Opened.{Opened}
 use Rattle.frames.specs.declared.Refusal.{Refusal}
-use Rattle.frames.specs.Layout.{openAt, Inside}
+use Rattle.frames.specs.Layout.{openAt}
 use Rattle.values.specs.declared.HistRef.{HistRef}
 use Rattle.records.specs.declared.Rec.{Rec}
 use Rattle.records.specs.declared.RecRead.{RecRead}

@@ -1,11 +1,9 @@
 -- One turn of the halving, by what the comparison says.
 -- Assumes nothing.
-use Prim.Native.Nat.{ℕ, zero, suc, _+_, _*_, _-_, _/_, _≤_, _<_}
-use mathlib.Core.Path.{_≡_, refl, sym, ap, _∙_}
-use mathlib.Core.Bool.{Bool, true, false, cond}
+use Prim.Native.Nat.{ℕ, zero, suc, _+_, _-_, _≤_, _<_}
+use mathlib.Core.Path.{_≡_, refl}
 use native.Mathlib.Omega.{arith}
 use borrow.Author.Tests.{lt-ltb, le-ltb}
-use lib.Dec.{ltb}
 use Rattle.sst.specs.declared.Cmp.{Cmp}
 use Rattle.sst.specs.declared.Cmp.the-variants.{Less, Equal, Greater, Refuse}
 use Rattle.sst.specs.declared.Halved.{Halved}

@@ -1,6 +1,6 @@
 -- The three searches, on every arena, address and probe.
 -- Assumes nothing.
-use Prim.Native.Nat.{ℕ, _+_, _-_}
+use Prim.Native.Nat.{ℕ, _-_}
 use mathlib.Core.List.{List}
 use mathlib.Core.Bool.{Bool, true, false, _&&_, _||_, cond}
 use lib.ListN.{drop}
@@ -16,7 +16,6 @@ use Rattle.frames.specs.declared.Opened.{Opened}
 use Rattle.frames.specs.declared.Refusal.{Refusal}
 use Rattle.frames.specs.Layout.{pageId, openAt}
 use Rattle.values.specs.declared.KeyRead.{KeyRead}
-use Rattle.records.specs.declared.Rec.{Rec}
 use Rattle.records.specs.declared.RecRead.{RecRead}
 use Rattle.records.specs.Records.{verIn, keyAtSlot, recAt}
 use Rattle.records.specs.Parts.{prefixIn}

@@ -1,40 +1,35 @@
 -- A walk over a page whose slots and histories are sound lists the rows along its way, upward or downward.
 -- Assumes nothing.
-use Prim.Native.Nat.{ℕ, zero, suc, _+_, _*_, _-_, _≤_, _<_}
-use mathlib.Core.Path.{_≡_, refl, sym, ap, _∙_, subst}
-use mathlib.Core.Bool.{Bool, true, false, cond, _||_}
+use Prim.Native.Nat.{ℕ, zero, suc, _+_, _-_, _≤_, _<_}
+use mathlib.Core.Path.{_≡_, refl, sym, ap, _∙_}
+use mathlib.Core.Bool.{Bool, true, false, _||_}
 use mathlib.Core.List.{List, [], _∷_, _++_, reverse, reverse-append}
 use native.Mathlib.Omega.{arith}
-use borrow.Author.Tests.{eq-eqb, ne-eqb, eqb-true, eqb-false}
-use lib.ListN.{length, take, drop}
+use borrow.Author.Tests.{ne-eqb, eqb-true, eqb-false}
 use lib.Dec.{eqb}
-use Rattle.spans.specs.Span.{part, partOr}
+use Rattle.spans.specs.Span.{part}
 use Rattle.numbers.specs.Number.{leAt}
 use Rattle.order.specs.declared.Ver.{Ver}
 use Rattle.frames.specs.declared.Addr.{Addr}
 use Rattle.frames.specs.declared.Body.{Body}
 use Rattle.frames.specs.declared.Opened.{Opened}
-use Rattle.frames.specs.Layout.{pageId, openAt, Inside}
-use Rattle.frames.proofs.Frames.{open-inside}
+use Rattle.frames.specs.Layout.{pageId, Inside}
 use Rattle.records.specs.declared.Rec.{Rec}
 use Rattle.records.specs.declared.RecRead.{RecRead}
 use Rattle.records.specs.Records.{recAt, verIn}
 use Rattle.records.proofs.Inside.{rest-part, val-part}
 use Rattle.pages.specs.declared.Place.{Place}
-use Rattle.pages.specs.Edges.{partIn, place}
+use Rattle.pages.specs.Edges.{partIn}
 use Rattle.pages.specs.Sound.{historyAt, chainFrom, entered, headOk}
-use Rattle.pages.specs.Meaning.{Older, Head, Child, Rows, leaf, index, Page, Said, says, oldsFrom, prefixOf, keyOf, headOf, childOf, rowsOf, rowsFrom, headsFrom, childrenFrom, pageSays, meaning}
-use Rattle.pages.proofs.Olds.{History, history-inside}
-use Rattle.pages.proofs.Given.{Sound, sound-given, head-given, Link, link-given}
-use Rattle.pages.proofs.Rows.{Good, slot-good, rows-more, rows-many, rows-drop, rows-take}
+use Rattle.pages.specs.Meaning.{oldsFrom, prefixOf, keyOf, headOf, childOf, rowsOf, rowsFrom}
+use Rattle.pages.proofs.Olds.{history-inside}
+use Rattle.pages.proofs.Given.{head-given, link-given}
+use Rattle.pages.proofs.Rows.{Good}
 use Rattle.walks.specs.declared.Past.{Past}
-use Rattle.walks.specs.declared.Walk.{Walk}
-use Rattle.walks.specs.declared.Item.{Item}
-use Rattle.walks.specs.declared.Step.{Step}
 use Rattle.walks.specs.declared.Entered.{Entered}
-use Rattle.walks.specs.Walk.{sheetOf, pastOver, walkOf, kindOfWay, movedOf, behindOf, itemOf, restOf, enterAt, stepAt}
+use Rattle.walks.specs.Walk.{sheetOf, pastOver, walkOf, kindOfWay, movedOf, behindOf, itemOf, restOf, enterAt}
 use Rattle.walks.specs.Listed.{Entry, entryOf, olderEntries, entriesOf, WalksTo, leadOf, LeadsTo}
-use Rattle.walks.proofs.Steps.{step-end, step-old, Next, next-old, enter-none, enter-in, step-head, step-branch}
+use Rattle.walks.proofs.Steps.{step-end, step-old, next-old, enter-none, enter-in, step-head, step-branch}
 
 -- ---- what an item says
 
@@ -135,26 +130,19 @@ module _ (s : List ℕ) (b : Body) (i : Inside s b) (good : (j : ℕ) → j < b 
 -- ---- the two ways
 
 -- upward, the rows of a stretch
-pub up-within : (e n p : ℕ) → p + n ≤ e → Within e 0 n p
-unfolding movedOf
-up-within e zero p l = tt
-up-within e (suc n) p l = (omega arith, up-within e n (p + 1) (omega arith))
+module _ (way : ℕ) (u : way ≡ 1 → ⊥) where
+  moved-up : (p : ℕ) → movedOf way p ≡ p + 1
+  unfolding movedOf
+  moved-up p = rw (ne-eqb way 1 u)
 
-pub up-rows : {A : Type 0} (f : Rec → A) (s : List ℕ) (b : Body) (n p : ℕ) → rowsWay f s b 0 n p ≡ rowsFrom f s b n p
-unfolding rowsWay rowsFrom movedOf
-up-rows f s b zero p = refl
-up-rows f s b (suc n) p = ap (λ (x : List _). rowsOf f x (recAt s b p)) (up-rows f s b n (p + 1))
+  pub up-within : (e n p : ℕ) → p + n ≤ e → Within e way n p
+  up-within e zero p l = tt
+  up-within e (suc n) p l = (omega arith, rw (moved-up p) (up-within e n (p + 1) (omega arith)))
 
--- and so on an index page
-pub up-within-index : (e n p : ℕ) → p + n ≤ e → Within e 2 n p
-unfolding movedOf
-up-within-index e zero p l = tt
-up-within-index e (suc n) p l = (omega arith, up-within-index e n (p + 1) (omega arith))
-
-pub up-rows-index : {A : Type 0} (f : Rec → A) (s : List ℕ) (b : Body) (n p : ℕ) → rowsWay f s b 2 n p ≡ rowsFrom f s b n p
-unfolding rowsWay rowsFrom movedOf
-up-rows-index f s b zero p = refl
-up-rows-index f s b (suc n) p = ap (λ (x : List _). rowsOf f x (recAt s b p)) (up-rows-index f s b n (p + 1))
+  pub up-rows : {A : Type 0} (f : Rec → A) (s : List ℕ) (b : Body) (n p : ℕ) → rowsWay f s b way n p ≡ rowsFrom f s b n p
+  unfolding rowsWay rowsFrom
+  up-rows f s b zero p = refl
+  up-rows f s b (suc n) p = rw (moved-up p) (ap (λ (x : List _). rowsOf f x (recAt s b p)) (up-rows f s b n (p + 1)))
 
 -- downward, the same from its end
 pub down-within : (e n p : ℕ) → n ≤ p + 1 → p < e → Within e 1 n p

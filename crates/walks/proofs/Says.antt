@@ -3,16 +3,14 @@
 use Prim.Native.Nat.{ℕ, _+_, _-_, _≤_, _<_}
 use mathlib.Core.Path.{_≡_, refl, sym, ap, _∙_, subst}
 use mathlib.Core.Bool.{Bool, true, false, cond}
-use mathlib.Core.List.{List, [], _∷_, reverse}
+use mathlib.Core.List.{List, [], reverse}
 use native.Mathlib.Omega.{arith}
 use borrow.Author.Tests.{eq-eqb, ne-eqb, eqb-true, eqb-false, le-leb, lt-leb, le-ltb, leb-true, leb-false}
-use lib.IntN.{ℤ, pos, natAbs}
+use lib.IntN.{ℤ, pos}
 use lib.Signed.{ltZ}
 use lib.ListN.{length, take, drop}
-use lib.Dec.{leb, ltb, eqb}
+use lib.Dec.{leb, eqb}
 use Rattle.frames.specs.declared.Addr.{Addr}
-use Rattle.frames.specs.declared.BoxHeader.{BoxHeader}
-use Rattle.frames.specs.declared.BaseHeader.{BaseHeader}
 use Rattle.frames.specs.declared.PageRead.{PageRead}
 use Rattle.frames.specs.declared.Body.{Body}
 use Rattle.frames.specs.declared.Opened.{Opened}
@@ -23,16 +21,15 @@ use Rattle.records.specs.declared.Rec.{Rec}
 use Rattle.records.specs.declared.RecRead.{RecRead}
 use Rattle.records.specs.Records.{recAt}
 use Rattle.pages.specs.Edges.{place}
-use Rattle.pages.specs.Meaning.{Head, Child, Rows, leaf, index, Page, says, prefixOf, headOf, childOf, rowsFrom, headsFrom, childrenFrom, pageSays, meaning}
+use Rattle.pages.specs.Meaning.{Head, Child, leaf, index, Page, says, prefixOf, headOf, childOf, rowsFrom, headsFrom, childrenFrom, pageSays, meaning}
 use Rattle.pages.proofs.Given.{Sound, sound-given, every-slot}
 use Rattle.pages.proofs.Rows.{Good, slot-good, rows-many, rows-drop, rows-take}
 use Rattle.walks.specs.declared.Walk.{Walk}
 use Rattle.walks.specs.declared.Begun.{Begun}
-use Rattle.walks.specs.declared.Range.{Range}
-use Rattle.walks.specs.Walk.{sheetOf, pastOver, walkOf, upWay, kindOfWay, upRange, downRange, begunOf, forwardAt, backwardAt}
+use Rattle.walks.specs.Walk.{sheetOf, pastOver, walkOf, upWay, kindOfWay, upRange, downRange, forwardAt, backwardAt}
 use Rattle.walks.specs.Listed.{Entry, entriesOf, WalksTo, LeadsTo, Lists, Leads}
 use Rattle.walks.proofs.Steps.{step-end}
-use Rattle.walks.proofs.Listing.{rowsWay, Within, heads-walk, branches-walk, up-within, up-rows, up-within-index, up-rows-index, down-within, down-rows}
+use Rattle.walks.proofs.Listing.{rowsWay, heads-walk, branches-walk, up-within, up-rows, down-within, down-rows}
 
 -- ---- the kind of a page that was opened (they belong to `frames`)
 
@@ -188,11 +185,11 @@ module _ (s : List ℕ) (a : Addr) (p : Page) (g : Sound s a p) where
 
   heads-up : g .body .kind ≡ 0 → (i n : ℕ) → i + n ≤ g .body .elems → WalksTo s (p .prefix) (begins (g .body) 0 i n) (entriesOf (take n (drop i (headsFrom s (g .body) (g .body .elems) 0))))
   unfolding begins
-  heads-up k i n l = rw (stretch (headOf s (g .body)) s (g .body) every i n l, ← prefix-is, ← up-rows (headOf s (g .body)) s (g .body) n i) (heads-walk s (g .body) inside good 0 (zero-kind k) (λ q. omega arith) n i (up-within (g .body .elems) n i l) (place 0 0) (pastOver (g .body) 0 0) refl)
+  heads-up k i n l = rw (stretch (headOf s (g .body)) s (g .body) every i n l, ← prefix-is, ← up-rows 0 (λ q. omega arith) (headOf s (g .body)) s (g .body) n i) (heads-walk s (g .body) inside good 0 (zero-kind k) (λ q. omega arith) n i (up-within 0 (λ q. omega arith) (g .body .elems) n i l) (place 0 0) (pastOver (g .body) 0 0) refl)
 
   children-up : g .body .kind ≡ 1 → (i n : ℕ) → i + n ≤ g .body .elems → LeadsTo s (p .prefix) (begins (g .body) 2 i n) (take n (drop i (childrenFrom s (g .body) (g .body .elems) 0)))
   unfolding begins
-  children-up k i n l = rw (stretch (childOf s (g .body)) s (g .body) every i n l, ← prefix-is, ← up-rows-index (childOf s (g .body)) s (g .body) n i) (branches-walk s (g .body) inside good 2 (one-kind k) refl n i (up-within-index (g .body .elems) n i l) (place 0 0) (pastOver (g .body) 0 0) refl)
+  children-up k i n l = rw (stretch (childOf s (g .body)) s (g .body) every i n l, ← prefix-is, ← up-rows 2 (λ q. omega arith) (childOf s (g .body)) s (g .body) n i) (branches-walk s (g .body) inside good 2 (one-kind k) refl n i (up-within 2 (λ q. omega arith) (g .body .elems) n i l) (place 0 0) (pastOver (g .body) 0 0) refl)
 
   heads-down : g .body .kind ≡ 0 → (i j : ℕ) → j ≤ i → i < g .body .elems → WalksTo s (p .prefix) (begins (g .body) 1 i (i - j + 1)) (entriesOf (reverse (take (i - j + 1) (drop j (headsFrom s (g .body) (g .body .elems) 0)))))
   unfolding begins

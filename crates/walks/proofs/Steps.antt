@@ -1,12 +1,11 @@
 -- A step of a walk over a page that was opened, case by case: its end, a leaf's head, an index page's record, an old version.
 -- Assumes nothing.
-use Prim.Native.Nat.{ℕ, zero, suc, _+_, _-_, _≤_, _<_}
-use mathlib.Core.Path.{_≡_, refl, sym, ap, _∙_}
+use Prim.Native.Nat.{ℕ, suc, _+_, _-_, _<_}
+use mathlib.Core.Path.{_≡_, refl, sym, ap}
 use mathlib.Core.Bool.{Bool, true, false, cond}
 use mathlib.Core.List.{List}
 use native.Mathlib.Omega.{arith}
-use borrow.Author.Tests.{eq-eqb, ne-eqb, eqb-true, lt-ltb, le-ltb}
-use lib.ListN.{length}
+use borrow.Author.Tests.{eq-eqb, ne-eqb, lt-ltb, le-ltb}
 use lib.Dec.{ltb, eqb}
 use Rattle.numbers.specs.Number.{leAt}
 use Rattle.frames.specs.declared.Addr.{Addr}
@@ -19,15 +18,15 @@ use Rattle.records.specs.declared.RecRead.{RecRead}
 use Rattle.records.specs.Records.{recAt}
 use Rattle.pages.specs.declared.Place.{Place}
 use Rattle.pages.specs.declared.OldRead.{OldRead}
-use Rattle.pages.specs.Sound.{historyAt, oldRec, oldIn, oldLink, oldOf, oldAt, enteredOf, entered}
-use Rattle.pages.proofs.Olds.{History, history-inside}
+use Rattle.pages.specs.Sound.{historyAt, oldRec, oldIn, oldLink, oldAt, enteredOf, entered}
+use Rattle.pages.proofs.Olds.{history-inside}
 use Rattle.walks.specs.declared.Past.{Past}
 use Rattle.walks.specs.declared.Walk.{Walk}
 use Rattle.walks.specs.declared.Item.{Item}
 use Rattle.walks.specs.declared.Step.{Step}
 use Rattle.walks.specs.declared.OldStep.{OldStep}
 use Rattle.walks.specs.declared.Entered.{Entered}
-use Rattle.walks.specs.Walk.{sheetOf, pastOver, walkOf, kindOfWay, movedOf, onOf, behindOf, itemOf, restOf, readAt, nextIn, nextOld, enterAt, headStep, oldStep, stepAt}
+use Rattle.walks.specs.Walk.{sheetOf, pastOver, walkOf, kindOfWay, movedOf, onOf, behindOf, itemOf, restOf, nextIn, nextOld, enterAt, headStep, stepAt}
 use Rattle.walks.proofs.Lying.{read-is}
 
 less-one : (k : ℕ) → suc k - 1 ≡ k

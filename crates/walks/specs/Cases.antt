@@ -10,14 +10,12 @@ use Rattle.numbers.specs.Number.{ofLe, leAt}
 use Rattle.order.specs.Version.{verOf}
 use Rattle.lengths.specs.Leb128.{carry, dec, within, readLen}
 use Rattle.frames.specs.declared.Addr.{Addr}
-use Rattle.frames.specs.declared.Refusal.{Refusal}
 use Rattle.frames.specs.Layout.{addr, boxFields, boxOk, boxAt, baseFields, baseOk, pageAt, kindOf, bodyOf, openAt, remoteAt}
 use Rattle.frames.specs.Cases.{p7}
 use Rattle.values.specs.Keys.{skipOf, keyAt}
 use Rattle.values.specs.Vals.{refAt, frontAt, valAt}
 use Rattle.records.specs.Records.{slotAt, verIn, keyIn, valIn, recIn, recAt}
 use Rattle.pages.specs.Sound.{historyAt}
-use Rattle.walks.specs.declared.Item.{Item}
 use Rattle.walks.specs.declared.Begun.{Begun}
 use Rattle.walks.specs.declared.Step.{Step}
 use Rattle.walks.specs.Walk.{upRange, downRange, upWay, kindOfWay, forwardAt, backwardAt, fitsIn, readAt, movedOf, onOf, behindOf, itemOf, nextIn, nextOld, enterAt, headStep, stepAt}

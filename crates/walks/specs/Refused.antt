@@ -1,7 +1,6 @@
 -- Document 01's number for each answer of the public calls: 0 where the call answers.
 -- Assumes nothing.
 use Prim.Native.Nat.{ℕ}
-use Rattle.frames.specs.declared.Refusal.{Refusal}
 use Rattle.frames.specs.Refusals.{numberOf}
 use Rattle.walks.specs.declared.Begun.{Begun}
 use Rattle.walks.specs.declared.Step.{Step}

@@ -2,7 +2,7 @@
 -- Assumes nothing.
 use Prim.Native.Nat.{ℕ, _+_, _*_, _-_}
 use mathlib.Core.List.{List}
-use mathlib.Core.Bool.{Bool, true, false, _&&_, cond}
+use mathlib.Core.Bool.{Bool, false, _&&_, cond}
 use lib.IntN.{ℤ, pos, natAbs}
 use lib.Signed.{ltZ}
 use lib.ListN.{length}
@@ -24,7 +24,6 @@ use Rattle.walks.specs.declared.Sheet.{Sheet}
 use Rattle.walks.specs.declared.Past.{Past}
 use Rattle.walks.specs.declared.Walk.{Walk}
 use Rattle.walks.specs.declared.Item.{Item}
-use Rattle.walks.specs.declared.Branch.{Branch}
 use Rattle.walks.specs.declared.Begun.{Begun}
 use Rattle.walks.specs.declared.Step.{Step}
 use Rattle.walks.specs.declared.Range.{Range}

@@ -73,7 +73,7 @@ pub enum Step {
 // ---- beginning
 
 // The first head and how many there are to walk.
-pub enum Range {
+enum Range {
     Heads(usize, usize),
     Outside,
 }
@@ -264,13 +264,13 @@ fn kind_of(way: usize) -> u8
 }
 
 // The next old version, with what is left behind it.
-pub enum OldStep {
+enum OldStep {
     Is(Item, Past),
     Bad,
 }
 
 // What a head's history leaves to walk: its page is entered.
-pub enum Entered {
+enum Entered {
     Is(Past),
     Bad,
 }
