@@ -4,3 +4,4 @@ pub mod Ahead
 pub mod Straight
 pub mod Passes
 pub mod Page
+pub mod Decided

@@ -1,7 +1,8 @@
 -- A step of a walk over a page that was opened, case by case: its end, a leaf's head, an index page's record, an old version.
 -- Assumes nothing.
 use Prim.Native.Nat.{ℕ, suc, _+_, _-_, _<_}
-use mathlib.Core.Path.{_≡_, refl, sym, ap}
+use mathlib.Core.Path.{_≡_, refl, sym, ap, _∙_}
+use mathlib.Core.Logic.{_⊎_, inl, inr}
 use mathlib.Core.Bool.{Bool, true, false, cond}
 use mathlib.Core.List.{List}
 use native.Mathlib.Omega.{arith}
@@ -44,12 +45,17 @@ pub step-old : (s : List ℕ) (w : Walk) (x : Item) (p : Past) → 0 < w .past .
 unfolding stepAt
 step-old s w x p l e = rw (lt-ltb 0 (w .past .left) l, e)
 
+-- a step names no page where it stays on the page h, and the page linked to where it enters that one (DECIDED 34)
+abbrev pub Names : Addr → Body → Addr → Addr → Type 0
+Names h b p names = ((p ≡ h) × (names ≡ addr 0)) ⊎ ((p ≡ b .link) × (names ≡ p))
+
 -- where the reader of old versions reads one, so does the walk that carries the page; and it carries on with that one's page
-pub record Next (s : List ℕ) (key : Place) (b : Body) (i k : ℕ) (p : Addr) (q : ℕ) (r : Rec) : Type 0 where
+pub record Next (s : List ℕ) (key : Place) (h : Addr) (b : Body) (i k : ℕ) (p : Addr) (q : ℕ) (r : Rec) : Type 0 where
   pub body : Body
   pub opened : historyAt s p ≡ Opened.Is body
   pub read : recAt s body q ≡ RecRead.Is r
   pub names : Addr
+  pub named : Names h b p names
   pub next : nextOld s key (pastOver b i (suc k)) ≡ OldStep.Is (itemOf s key r names) (pastOver body (q + 1) k)
 
 -- a record of a history page
@@ -68,35 +74,47 @@ module _ (s : List ℕ) (key : Place) (h : Addr) (b : Body) (o : historyAt s h �
   unfolding nextOld
   linked d r t u e = rw (t, u) (in-read s key (b .link) d u 0 k (b .link) r e)
 
-  pub next-old : (p : Addr) (q : ℕ) (r : Rec) → oldAt s h i ≡ OldRead.Old p q r → Next s key b i k p q r
+  pub next-old : (p : Addr) (q : ℕ) (r : Rec) → oldAt s h i ≡ OldRead.Old p q r → Next s key h b i k p q r
   unfolding oldAt oldIn
   next-old p q r e = by (eqb i (b .elems)) refl (rw o at e)
     where
       no : OldRead.Bad ≡ OldRead.Old p q r → ⊥
       no n = let z : _≡_ {A = ℕ} 0 1 = cc in omega arith
 
-      same : (a : Addr) (d : Body) (j : ℕ) (x : Rec) (n : Addr) → historyAt s a ≡ Opened.Is d → recAt s d j ≡ RecRead.Is x → OldRead.Old a j x ≡ OldRead.Old p q r → nextOld s key (pastOver b i (suc k)) ≡ OldStep.Is (itemOf s key x n) (pastOver d (j + 1) k) → Next s key b i k p q r
-      same a d j x n u v w y =
+      same : (a : Addr) (d : Body) (j : ℕ) (x : Rec) (n : Addr) → historyAt s a ≡ Opened.Is d → recAt s d j ≡ RecRead.Is x → OldRead.Old a j x ≡ OldRead.Old p q r → nextOld s key (pastOver b i (suc k)) ≡ OldStep.Is (itemOf s key x n) (pastOver d (j + 1) k) → Names h b a n → Next s key h b i k p q r
+      same a d j x n u v w y m =
           let e1 : a ≡ p = cc in
           let e2 : j ≡ q = cc in
           let e3 : x ≡ r = cc in
-          rw (← e1, ← e2, ← e3) (record { body = d; opened = u; read = v; names = n; next = y })
+          rw (← e1, ← e2, ← e3) (record { body = d; opened = u; read = v; names = n; named = m; next = y })
 
-      at : (x : RecRead) → recAt s b i ≡ x → eqb i (b .elems) ≡ false → oldRec h i x ≡ OldRead.Old p q r → Next s key b i k p q r
-      at (RecRead.Is x) v t w = same h b i x (addr 0) o v w (here x t v)
+      at : (x : RecRead) → recAt s b i ≡ x → eqb i (b .elems) ≡ false → oldRec h i x ≡ OldRead.Old p q r → Next s key h b i k p q r
+      at (RecRead.Is x) v t w = same h b i x (addr 0) o v w (here x t v) (inl (refl, refl))
       at RecRead.Bad v t w = absurd (no w)
 
-      far : (d : Body) → historyAt s (b .link) ≡ Opened.Is d → (x : RecRead) → recAt s d 0 ≡ x → eqb i (b .elems) ≡ true → oldRec (b .link) 0 x ≡ OldRead.Old p q r → Next s key b i k p q r
-      far d u (RecRead.Is x) v t w = same (b .link) d 0 x (b .link) u v w (linked d x t u v)
+      far : (d : Body) → historyAt s (b .link) ≡ Opened.Is d → (x : RecRead) → recAt s d 0 ≡ x → eqb i (b .elems) ≡ true → oldRec (b .link) 0 x ≡ OldRead.Old p q r → Next s key h b i k p q r
+      far d u (RecRead.Is x) v t w = same (b .link) d 0 x (b .link) u v w (linked d x t u v) (inr (refl, refl))
       far d u RecRead.Bad v t w = absurd (no w)
 
-      link : (x : Opened) → historyAt s (b .link) ≡ x → eqb i (b .elems) ≡ true → oldLink s (b .link) x ≡ OldRead.Old p q r → Next s key b i k p q r
+      link : (x : Opened) → historyAt s (b .link) ≡ x → eqb i (b .elems) ≡ true → oldLink s (b .link) x ≡ OldRead.Old p q r → Next s key h b i k p q r
       link (Opened.Is d) u t w = far d u (recAt s d 0) refl t w
       link Opened.Bad u t w = absurd (no w)
 
-      by : (t : Bool) → eqb i (b .elems) ≡ t → cond t (oldLink s (b .link) (historyAt s (b .link))) (oldIn s b h i) ≡ OldRead.Old p q r → Next s key b i k p q r
+      by : (t : Bool) → eqb i (b .elems) ≡ t → cond t (oldLink s (b .link) (historyAt s (b .link))) (oldIn s b h i) ≡ OldRead.Old p q r → Next s key h b i k p q r
       by true t w = link (historyAt s (b .link)) refl t w
       by false t w = at (recAt s b i) refl t w
+
+-- THE LAW of names: a walk that stands on the history page h, in the step that yields the old version of slot q of the page p
+pub old-names : (s : List ℕ) (w : Walk) (h : Addr) (b : Body) → historyAt s h ≡ Opened.Is b → (i k : ℕ) → w .past ≡ pastOver b i (suc k) → (p : Addr) (q : ℕ) (r : Rec) → oldAt s h i ≡ OldRead.Old p q r → (x : Item) × (w′ : Walk) × (stepAt s w ≡ Step.Found x w′) × Names h b p (x .named)
+unfolding itemOf
+old-names s w h b o i k e p q r f =
+    let g = next-old s (w .key) h b o i k p q r f in
+    let u : 0 < w .past .left = rw e (omega arith) in (
+      itemOf s (w .key) r (g .names),
+      behindOf w (pastOver (g .body) (q + 1) k),
+      step-old s w (itemOf s (w .key) r (g .names)) (pastOver (g .body) (q + 1) k) u (ap (λ (z : Past). nextOld s (w .key) z) e ∙ g .next),
+      g .named,
+    )
 
 -- ---- heads
 

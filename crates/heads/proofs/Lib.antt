@@ -1,0 +1,4 @@
+-- The crate's laws.
+pub mod Rests
+pub mod Runs
+pub mod Decided
