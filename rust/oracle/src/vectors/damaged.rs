@@ -126,7 +126,8 @@ fn damage(out: &mut Out, at: usize, bytes: &[u8], ask: &[String]) {
     out.put(at, &old);
 }
 
-/// Every byte once with a flipped bit and once with another value; the check and two readers.
+/// Every byte once with a flipped bit, read by the check and every reader, and once with another
+/// value, read by the check and one of them.
 fn every_byte(out: &mut Out, rng: &mut Prng) {
     for (about, build) in arenas() {
         let mut trial = Out::new();
@@ -145,8 +146,8 @@ fn every_byte(out: &mut Out, rng: &mut Prng) {
                 old ^ (1 << rng.below(8)),
                 rng.pick(&[0, 1, 2, 3, 0x7f, 0x80, 0xff, old.wrapping_add(1)]),
             ];
-            for value in values {
-                let mut ask = vec![rng.pick(&all)];
+            for (turn, value) in values.into_iter().enumerate() {
+                let mut ask = if turn == 0 { all.clone() } else { vec![rng.pick(&all)] };
                 if built.kind == "leaf" || built.kind == "index" {
                     ask.insert(0, format!("check {}", built.addr));
                 }
