@@ -1,4 +1,6 @@
 -- The crate's laws.
 pub mod Rests
 pub mod Runs
+pub mod Slots
+pub mod SlotPass
 pub mod Decided

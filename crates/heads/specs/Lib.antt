@@ -1,1 +1,2 @@
--- The crate has no definitions of its own.
+-- The crate's definitions.
+pub mod Steps

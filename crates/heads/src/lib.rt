@@ -3,13 +3,15 @@ use sources::Cursor;
 use sources::Item;
 use sources::Step;
 use values::HistRef;
+use values::Val;
 ghost use mathlib.Core.Path.{_≡_};
 ghost use Prim.Native.Nat.{_+_, _≤_};
 ghost use lib.ListN.{length, take, drop};
 ghost use Rattle.spans.specs.Span.{put};
 ghost use Rattle.sources.specs.Source.{Placed, entryOf, entries};
-ghost use Rattle.image.specs.Sizes.{oldRun};
-ghost use Rattle.image.specs.Image.{headRec};
+ghost use Rattle.image.specs.Sizes.{keyLen, oldRun};
+ghost use Rattle.image.specs.Image.{any, headRec, headSlots};
+ghost use Rattle.heads.specs.Steps.{slotIf, stepLen, steps, Long};
 
 // The key of an entry without its first p bytes, from at on; the address past it.
 fn put_rest(a: &mut [u8], low: usize, list: &[u8], i: Item, at: usize, p: usize) -> usize
@@ -83,6 +85,94 @@ pub fn old_run(list: &[u8], low: &[u8], from: Cursor) -> usize
             }
             Step::Bad => {
                 return n;
+            }
+        }
+    }
+}
+
+// Whether an old version stands in front.
+fn has_old(list: &[u8], low: &[u8], c: Cursor) -> bool
+    ensures { λ r. ⌜ r ≡ any (oldRun (entries (now (list .entry)) (now (low .entry)) c)) ⌝ }
+{
+    let st = sources::next(list, low, c);
+    match st {
+        Step::Got(i, _) => i.old,
+        Step::End => false,
+        Step::Bad => false,
+    }
+}
+
+// The size of a leaf key of n bytes in all, p of them the page's prefix.
+pub fn key_len(p: usize, n: usize) -> usize
+    requires { ⌜ (n ≤ 4096) × (p ≤ n) ⌝ }
+    ensures { λ r. ⌜ r ≡ keyLen p n ⌝ }
+{
+    let rest = n - p;
+    lengths::size((12 + rest) as u32) + (12 + rest)
+}
+
+// A head's slot; none for an old version. The address past it.
+fn put_slot(a: &mut [u8], at: usize, off: usize, old: bool) -> usize
+    requires { ⌜ at + length (slotIf old off) ≤ length (now a) ⌝ }
+    requires { ⌜ off ≤ 4294967295 ⌝ }
+    ensures { λ r. ⌜ r ≡ at + length (slotIf old off) ⌝ }
+    ensures { λ _. ⌜ now (a .exit) ≡ put (now (a .entry)) at (slotIf old off) ⌝ }
+{
+    if old {
+        return at;
+    }
+    numbers::put_u32(a, at, off as u32);
+    at + 4
+}
+
+// How far behind an entry's record the next head's stands; nothing for an old version.
+fn slot_step(list: &[u8], low: &[u8], i: Item, d: Cursor, p: usize, limit: usize) -> usize
+    requires { ⌜ Placed (now list) (now low) i ⌝ }
+    requires { ⌜ p ≤ i .key .plen + i .key .klen ⌝ }
+    ensures { λ r. ⌜ r ≡ stepLen limit p (entryOf (now (list .entry)) (now (low .entry)) i) (entries (now (list .entry)) (now (low .entry)) d) ⌝ }
+{
+    if i.old {
+        return 0;
+    }
+    let h = has_old(list, low, d);
+    key_len(p, i.key.plen + i.key.klen) + Val::calc_size(h, limit, i.vlen as u32)
+}
+
+// The slots of all heads; first is the first record's offset.
+pub fn head_slots(
+    a: &mut [u8],
+    low: usize,
+    list: &[u8],
+    from: Cursor,
+    at: usize,
+    first: usize,
+    p: usize,
+    limit: usize,
+)
+    requires { ⌜ low ≤ at ⌝ }
+    requires { ⌜ Long p (entries (now list) (take low (now a)) from) ⌝ }
+    requires { ⌜ at + length (headSlots limit p first (entries (now list) (take low (now a)) from)) ≤ length (now a) ⌝ }
+    requires { ⌜ first + steps limit p (entries (now list) (take low (now a)) from) ≤ 4294967295 ⌝ }
+    ensures { λ _. ⌜ now (a .exit) ≡ put (now (a .entry)) at (headSlots limit p first (entries (now (list .entry)) (take low (now (a .entry))) from)) ⌝ }
+{
+    let mut c = from;
+    let mut to = at;
+    let mut off = first;
+    loop {
+        let st = sources::next(list, &a[..low], c);
+        match st {
+            Step::Got(i, d) => {
+                let n = slot_step(list, &a[..low], i, d, p, limit);
+                let old = i.old;
+                to = put_slot(a, to, off, old);
+                off += n;
+                c = d;
+            }
+            Step::End => {
+                return;
+            }
+            Step::Bad => {
+                return;
             }
         }
     }
