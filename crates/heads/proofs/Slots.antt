@@ -65,11 +65,11 @@ slots-step limit p off e es = go (e .old) (keyLen p (length (e .key)) + sizeOf (
 -- ---- the step of one entry, in the words of its calls
 
 module _ (l w : List ℕ) (i : Item) (q : Placed l w i) (es : List Entry) (limit p : ℕ) where
-  key-is : length (entryOf l w i .key) ≡ i .key .plen + i .key .klen
+  pub key-is : length (entryOf l w i .key) ≡ i .key .plen + i .key .klen
   unfolding entryOf
   key-is = length-key (srcOf l w (i .low)) (i .key) (q .pre) (q .rest)
 
-  val-is : length (entryOf l w i .val) ≡ i .vlen
+  pub val-is : length (entryOf l w i .val) ≡ i .vlen
   unfolding entryOf
   val-is = length-part (srcOf l w (i .low)) (i .vat) (i .vlen) (q .val)
 

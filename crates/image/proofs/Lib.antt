@@ -1,3 +1,5 @@
 -- The crate's laws.
 pub mod Lengths
+pub mod Leaf
 pub mod Cases
+pub mod Index

@@ -3,9 +3,10 @@
 use mathlib.Core.Path.{_≡_, refl, sym, ap, _∙_}
 use mathlib.Core.List.{List, [], _∷_}
 use mathlib.Core.Bool.{Bool, true, false, cond}
-use Prim.Native.Nat.{ℕ, suc, _+_, _≤_, _<_}
+use Prim.Native.Nat.{ℕ, suc, _+_, _-_, _≤_, _<_}
 use native.Mathlib.Omega.{arith}
 use lib.ListN.{length}
+use lib.Dec.{eqb}
 use Rattle.order.specs.declared.Order.{Order}
 use Rattle.order.specs.declared.Order.the-variants.{Less, Equal, Greater}
 use Rattle.order.specs.Order.{cmpBytes, startsWith}
@@ -15,6 +16,8 @@ use Rattle.sources.specs.declared.Item.{Item}
 use Rattle.sources.specs.Keys.{keyBytes, srcOf}
 use Rattle.sources.specs.Source.{Entry, entryOf, entries, leftOf}
 use Rattle.sources.specs.Judged.{above, risingFrom, rising, prefixed}
+use Rattle.sources.specs.Pages.{pagesLeft}
+use Rattle.sources.proofs.Paged.{left-small}
 use Rattle.sources.proofs.Sourced.{Found}
 
 -- the key of an entry, by where it lies
@@ -88,7 +91,11 @@ module _ (l w : List ℕ) (c₀ c : Cursor) (n : ℕ) (h : Counting l w c₀ c n
   pub counting : (i : Item) (d : Cursor) → Found l w c i d → Counting l w c₀ d (n + 1)
   counting i d f = record { all = omega (arith, h .all, ap length (f .list)); left = omega (arith, h .left, f .falls) }
 
--- the count stays a number of the source's length
-pub left-long : (l w : List ℕ) (c : Cursor) → leftOf l w c ≤ length l + length w
+-- the count stays a number that a usize holds
+pub left-long : (l w : List ℕ) (c : Cursor) → leftOf l w c ≤ length l + 562949953421312
 unfolding leftOf
-left-long l w c = omega arith
+left-long l w c = go (eqb (c .kind) 2)
+  where
+    go : (t : Bool) → cond t (pagesLeft c) (length l - c .at) ≤ length l + 562949953421312
+    go true = omega (arith, left-small c)
+    go false = omega arith

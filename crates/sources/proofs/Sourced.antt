@@ -8,7 +8,7 @@ use native.Mathlib.Numerals.{sub-one}
 use native.Mathlib.Omega.{arith}
 use lib.ListN.{length, drop, length-append}
 use lib.Dec.{leb, eqb}
-use borrow.Author.Tests.{leb-true, leb-false, le-leb}
+use borrow.Author.Tests.{leb-true, leb-false, le-leb, eqb-true, eqb-false, ne-eqb}
 use Rattle.spans.specs.Span.{part, partOr}
 use Rattle.spans.proofs.Part.{length-part, partOr-in}
 use Rattle.spans.proofs.Tests.{ask}
@@ -24,8 +24,10 @@ use Rattle.sources.specs.declared.Pick.{Pick}
 use Rattle.sources.specs.declared.Pick.the-variants.{One, None}
 use Rattle.sources.specs.Keys.{keyBytes, srcOf}
 use Rattle.sources.specs.Lists.{recordAt, indexAt, spotAt, recordItem, indexItem, listKey}
-use Rattle.sources.specs.Source.{Entry, Placed, after, listF, wellF, nextOf, stepOf, pastOf, entryOf, leftOf, entries, wellFormed, only, wanted, Chosen, ChosenBy, Skipped}
+use Rattle.sources.specs.Source.{Entry, Placed, after, listF, wellF, listNext, nextOf, stepOf, pastOf, entryOf, leftOf, entries, wellFormed, only, wanted, Chosen, ChosenBy, Skipped}
+use Rattle.sources.specs.Pages.{pagesNext}
 use Rattle.sources.proofs.Walk.{list-step, well-step}
+use Rattle.sources.proofs.Paged.{pages-fall}
 
 -- ---- where an item of a list lies
 
@@ -94,15 +96,29 @@ stepped true c sp i d e = absurd (let z : _≡_ {A = ℕ} 0 1 = cc in omega arit
 stepped false c (At j past) i d e = (past, cc, cc)
 stepped false c Out i d e = absurd (let z : _≡_ {A = ℕ} 0 1 = cc in omega arith)
 
-went : (l w : List ℕ) (c : Cursor) (i : Item) (d : Cursor) → nextOf l w c ≡ Got i d → Went l w c i d
-unfolding nextOf leftOf
-went l w c i d e =
+list-went : (l w : List ℕ) (c : Cursor) (i : Item) (d : Cursor) → (c .kind ≡ 2 → ⊥) → listNext l c ≡ Got i d → Went l w c i d
+unfolding listNext leftOf
+list-went l w c i d n e =
     let g = stepped (leb (length l) (c .at)) c (spotAt l c) i d e in
     let s = spot-lies l c i (g .0) (g .1) in
     record {
       placed = record { pre = rw (s .same) (s .pre); rest = rw (s .same) (s .rest); val = rw (s .same) (s .val); ksmall = s .ksmall; vsmall = s .vsmall };
-      falls = rw (← g .2) (omega (arith, s .goes, s .ends));
+      falls = rw (← g .2, ne-eqb (c .kind) 2 n) (omega (arith, s .goes, s .ends));
     }
+
+pages-went : (l w : List ℕ) (c : Cursor) (i : Item) (d : Cursor) → c .kind ≡ 2 → pagesNext w c ≡ Got i d → Went l w c i d
+unfolding leftOf
+pages-went l w c i d k e =
+    let g = pages-fall l w c i d e in
+    record { placed = g .placed; falls = rw (g .kind, k) (g .falls) }
+
+went : (l w : List ℕ) (c : Cursor) (i : Item) (d : Cursor) → nextOf l w c ≡ Got i d → Went l w c i d
+unfolding nextOf
+went l w c i d e = go (eqb (c .kind) 2) refl e
+  where
+    go : (t : Bool) → eqb (c .kind) 2 ≡ t → cond t (pagesNext w c) (listNext l c) ≡ Got i d → Went l w c i d
+    go true t e = pages-went l w c i d (eqb-true (c .kind) 2 t) e
+    go false t e = list-went l w c i d (eqb-false (c .kind) 2 t) e
 
 -- ---- what a pass cites
 

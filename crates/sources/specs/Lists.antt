@@ -9,6 +9,9 @@ use Rattle.numbers.specs.Number.{beAt}
 use Rattle.order.specs.Order.{cmpBytes, isEqual}
 use Rattle.order.specs.Version.{verOf}
 use Rattle.frames.specs.Layout.{addr, pageId}
+use Rattle.pages.specs.Edges.{place}
+use Rattle.walks.specs.declared.Sheet.{Sheet}
+use Rattle.walks.specs.declared.Walk.{Walk}
 use Rattle.sources.specs.declared.Key.{Key}
 use Rattle.sources.specs.declared.Cursor.{Cursor}
 use Rattle.sources.specs.declared.Item.{Item}
@@ -16,13 +19,19 @@ use Rattle.sources.specs.declared.Begun.{Begun}
 use Rattle.sources.specs.declared.Spot.{Spot}
 use Rattle.sources.specs.Keys.{keyBytes}
 
+-- a list's cursor carries no walk
+abbrev pub noWalk : Walk
+noWalk =
+    let none : Sheet = record { at = 0; elems = 0; front = 0; end = 0; «prefix_len» = 0 } in
+    record { page = none; way = 0; pos = 0; heads = 0; key = place 0 0; past = record { page = none; link = addr 0; slot = 0; left = 0 } }
+
 -- a key of a list has no prefix of its own
 abbrev pub listKey : ℕ → ℕ → Key
 listKey at n = record { pat = 0; plen = 0; kat = at; klen = n }
 
--- in front of the first entry, of a record list (kind 0) or an index list (1)
+-- in front of the first entry, of a record list (kind 0), an index list (1) or pages (2)
 abbrev pub firstOf : ℕ → Cursor
-firstOf kind = record { kind = kind; at = 5; seen = false; key = listKey 0 0 }
+firstOf kind = record { kind = kind; seen = false; key = listKey 0 0; at = 5; walk = noWalk; pre = place 0 0; then = addr 0 }
 
 -- "version byte 1; u32 big-endian byte count of what follows"
 unfoldable pub begunOf : List ℕ → ℕ → Begun

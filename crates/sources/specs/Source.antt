@@ -6,7 +6,7 @@ use mathlib.Core.Path.{_≡_}
 use mathlib.Core.List.{List, [], _∷_}
 use mathlib.Core.Bool.{Bool, true, false, not, cond}
 use lib.ListN.{length, drop}
-use lib.Dec.{leb}
+use lib.Dec.{leb, eqb}
 use Rattle.spans.specs.Span.{part}
 use Rattle.order.specs.declared.Ver.{Ver}
 use Rattle.sources.specs.declared.Cursor.{Cursor}
@@ -16,6 +16,7 @@ use Rattle.sources.specs.declared.Step.{Step}
 use Rattle.sources.specs.declared.Pick.{Pick}
 use Rattle.sources.specs.Keys.{keyBytes, srcOf}
 use Rattle.sources.specs.Lists.{spotAt}
+use Rattle.sources.specs.Pages.{pagesNext, pagesLeft}
 
 -- a record: whole key, version, value; the address of a remote that is kept, or 0; in an index list the page id
 pub record Entry : Type 0 where
@@ -46,19 +47,24 @@ wellF nx (suc f) c = after (nx c) (λ i d. wellF nx f d) true false
 -- ---- the sources there are
 
 abbrev pub pastOf : Cursor → ℕ → Item → Cursor
-pastOf c past i = record { kind = c .kind; at = past; seen = true; key = i .key }
+pastOf c past i = record { kind = c .kind; seen = true; key = i .key; at = past; walk = c .walk; pre = c .pre; then = c .then }
 
 unfoldable pub stepOf : Cursor → Spot → Step
 stepOf c (Spot.At i past) = Step.Got i (pastOf c past i)
 stepOf c Spot.Out = Step.Bad
 
--- a list ends where its slice ends. (A page below the free address joins here, by the cursor's kind.)
-unfoldable pub nextOf : List ℕ → List ℕ → Cursor → Step
+-- a list ends where its slice ends
+unfoldable pub listNext : List ℕ → Cursor → Step
 unfolding stepOf spotAt
-nextOf l w c = cond (leb (length l) (c .at)) Step.End (stepOf c (spotAt l c))
+listNext l c = cond (leb (length l) (c .at)) Step.End (stepOf c (spotAt l c))
+
+unfoldable pub nextOf : List ℕ → List ℕ → Cursor → Step
+unfolding listNext pagesNext
+nextOf l w c = cond (eqb (c .kind) 2) (pagesNext w c) (listNext l c)
 
 unfoldable pub leftOf : List ℕ → List ℕ → Cursor → ℕ
-leftOf l w c = length l - c .at
+unfolding pagesLeft
+leftOf l w c = cond (eqb (c .kind) 2) (pagesLeft c) (length l - c .at)
 
 -- an item lies in its slice, and keeps document 01's lengths
 pub record Placed (l w : List ℕ) (i : Item) : Type 0 where

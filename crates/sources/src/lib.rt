@@ -1,18 +1,26 @@
-// Sources of entries: a record list or an index list, read by a cursor by value with a step. A pass over a source knows the step's
-// equation and the laws that follow from it, never the cursor, so a source that is added here (pages, a part of one) changes no pass.
-// `list` is the lent slice, `low` the arena below the next free address.
+// Sources of entries: a record list, an index list, or two pages one behind the other, read by a cursor by value with a step. A pass over
+// a source knows the step's equation and the laws that follow from it, never the cursor, so a source that is added here (a part of a
+// page, more pages) changes no pass. `list` is the lent slice, `low` the arena below the next free address.
 use frames::Addr;
+use frames::Opened;
 use frames::PageId;
+use frames::Refusal;
 use order::Order;
 use order::Ver;
+use pages::BoundsRead;
+use pages::Place;
+use walks::Past;
+use walks::Sheet;
+use walks::Walk;
 ghost use mathlib.Core.Path.{_≡_};
 ghost use mathlib.Core.List.{_++_};
 ghost use Prim.Native.Nat.{_+_, _≤_, _<_};
 ghost use lib.ListN.{length, getD};
 ghost use Rattle.order.specs.Order.{cmpBytes, startsWith};
 ghost use Rattle.sources.specs.Keys.{keyBytes};
-ghost use Rattle.sources.specs.Lists.{begunOf, sameKey, recordAt, indexAt, spotAt};
-ghost use Rattle.sources.specs.Source.{nextOf, entryOf, entries, wellFormed, wanted, ChosenBy, Skipped};
+ghost use Rattle.sources.specs.Lists.{noWalk, firstOf, begunOf, sameKey, recordAt, indexAt, spotAt};
+ghost use Rattle.sources.specs.Pages.{wholeAt, pageFirst, itemAt, walked, turned, pagesNext};
+ghost use Rattle.sources.specs.Source.{listNext, nextOf, entryOf, entries, wellFormed, wanted, ChosenBy, Skipped};
 ghost use Rattle.sources.specs.Judged.{above, risingFrom, rising, prefixed};
 
 // A key: its first bytes (a page's prefix; none in a list) and its rest, as places of one slice.
@@ -23,18 +31,23 @@ pub struct Key {
     pub klen: usize,
 }
 
-// Where reading stands: which source, a place in it, and the key of the entry before.
+// Where reading stands: which source, and the key of the entry before; a list's place; a page's walk and prefix, and the page behind.
 pub struct Cursor {
     pub kind: u8,
-    pub at: usize,
     pub seen: bool,
     pub key: Key,
+    pub at: usize,
+    pub walk: Walk,
+    pub pre: Place,
+    pub then: Addr,
 }
 
 impl Cursor {
     pub const RECORDS: u8 = 0;
 
     pub const INDEX: u8 = 1;
+
+    pub const PAGES: u8 = 2;
 }
 
 // Where an entry lies: below the free address (low) or in the lent slice. `old` says that its key is that of the entry before.
@@ -171,6 +184,59 @@ fn key_begins(list: &[u8], low: &[u8], i: Item, pre: &[u8]) -> bool
     begins_in(list, k, pre)
 }
 
+// ---- cursors
+
+// No walk: what a list's cursor carries.
+fn no_walk() -> Walk
+    ensures { λ r. ⌜ r ≡ noWalk ⌝ }
+{
+    Walk {
+        page: Sheet {
+            at: 0,
+            elems: 0,
+            front: 0,
+            end: 0,
+            prefix_len: 0,
+        },
+        way: 0,
+        pos: 0,
+        heads: 0,
+        key: Place { at: 0, len: 0 },
+        past: Past {
+            page: Sheet {
+                at: 0,
+                elems: 0,
+                front: 0,
+                end: 0,
+                prefix_len: 0,
+            },
+            link: Addr(0),
+            slot: 0,
+            left: 0,
+        },
+    }
+}
+
+// In front of a source's first entry.
+fn first_of(kind: u8) -> Cursor
+    ensures { λ r. ⌜ r ≡ firstOf kind ⌝ }
+{
+    Cursor {
+        kind: kind,
+        seen: false,
+        key: Key {
+            pat: 0,
+            plen: 0,
+            kat: 0,
+            klen: 0,
+        },
+        at: 5,
+        walk: no_walk(),
+        pre: Place { at: 0, len: 0 },
+        then: Addr(0),
+    }
+}
+
 // ---- lists
 
 // The five bytes before a list's entries: version 1, and the count of the bytes that follow.
@@ -187,17 +253,7 @@ fn begin(list: &[u8], kind: u8) -> Begun
     if numbers::read_u32_be(list, 1) as usize != n - 5 {
         return Begun::Bad;
     }
-    Begun::From(Cursor {
-        kind: kind,
-        at: 5,
-        seen: false,
-        key: Key {
-            pat: 0,
-            plen: 0,
-            kat: 0,
-            klen: 0,
-        },
-    })
+    Begun::From(first_of(kind))
 }
 
 // Opens a record list.
@@ -332,11 +388,9 @@ fn spot_at(s: &[u8], c: Cursor) -> Spot
     record_at(s, c)
 }
 
-// ---- the step
-
-// The entry at a cursor, and the cursor past it.
-pub fn next(list: &[u8], low: &[u8], c: Cursor) -> Step
-    ensures { λ r. ⌜ r ≡ nextOf (now (list .entry)) (now (low .entry)) c ⌝ }
+// The entry of a list at a cursor, and the cursor past it.
+fn list_next(list: &[u8], c: Cursor) -> Step
+    ensures { λ r. ⌜ r ≡ listNext (now (list .entry)) c ⌝ }
 {
     let at = c.at;
     if list.len() <= at {
@@ -346,15 +400,201 @@ pub fn next(list: &[u8], low: &[u8], c: Cursor) -> Step
         return Step::Bad;
     };
     let k = i.key;
+    let walk = c.walk;
+    let pre = c.pre;
+    let then = c.then;
     Step::Got(
         i,
         Cursor {
             kind: c.kind,
-            at: past,
             seen: true,
             key: k,
+            at: past,
+            walk: walk,
+            pre: pre,
+            then: then,
         },
     )
+}
+
+// ---- pages below the free address
+
+// A walk over a whole page.
+fn whole(low: &[u8], a: Addr) -> walks::Begun
+    ensures { λ r. ⌜ r ≡ wholeAt (now (low .entry)) a ⌝ }
+{
+    let Opened::Is(b) = frames::open_at(low, a) else {
+        return walks::Begun::Refused(Refusal::BadFrame);
+    };
+    walks::forward(low, a, 0, b.elems)
+}
+
+// The cursor in front of a page's first record, with another page behind it or none; the key before stays.
+fn page_first(low: &[u8], c: Cursor, a: Addr, then: Addr) -> Begun
+    ensures { λ r. ⌜ r ≡ pageFirst (now (low .entry)) c a then ⌝ }
+{
+    let walks::Begun::Is(v) = whole(low, a) else {
+        return Begun::Bad;
+    };
+    let BoundsRead::Is(e) = pages::bounds_at(low, a) else {
+        return Begun::Bad;
+    };
+    let key = c.key;
+    let pre = e.prefix;
+    Begun::From(Cursor {
+        kind: c.kind,
+        seen: c.seen,
+        key: key,
+        at: c.at,
+        walk: v,
+        pre: pre,
+        then: then,
+    })
+}
+
+// Opens two pages, the left one first.
+pub fn open_pages(low: &[u8], left: Addr, right: Addr) -> Begun
+    ensures { λ r. ⌜ r ≡ pageFirst (now (low .entry)) (firstOf 2) left right ⌝ }
+{
+    page_first(low, first_of(Cursor::PAGES), left, right)
+}
+
+// A walk's record as an entry, with the cursor past it; none where a place lies outside or keeps no length of document 01.
+fn item_at(
+    low: &[u8],
+    c: Cursor,
+    rest: Place,
+    ver: Ver,
+    value: Place,
+    kept: Addr,
+    page: PageId,
+    v: Walk,
+) -> Step
+    ensures { λ r. ⌜ r ≡ itemAt (now (low .entry)) c rest ver value kept page v ⌝ }
+{
+    let n = low.len();
+    let pre = c.pre;
+    let then = c.then;
+    if !spans::room(n, pre.at, pre.len) {
+        return Step::Bad;
+    }
+    if !spans::room(n, rest.at, rest.len) {
+        return Step::Bad;
+    }
+    if !spans::room(n, value.at, value.len) {
+        return Step::Bad;
+    }
+    if 4096 < pre.len + rest.len {
+        return Step::Bad;
+    }
+    if 65536 < value.len {
+        return Step::Bad;
+    }
+    let k = Key {
+        pat: pre.at,
+        plen: pre.len,
+        kat: rest.at,
+        klen: rest.len,
+    };
+    let old = same_key(low, c, k);
+    Step::Got(
+        Item {
+            low: true,
+            old: old,
+            key: k,
+            ver: ver,
+            vat: value.at,
+            vlen: value.len,
+            kept: kept,
+            page: page,
+        },
+        Cursor {
+            kind: c.kind,
+            seen: true,
+            key: k,
+            at: c.at,
+            walk: v,
+            pre: pre,
+            then: then,
+        },
+    )
+}
+
+// The next record of the page that a cursor walks; its counts are those of a page.
+fn walk_next(low: &[u8], c: Cursor) -> Step
+    ensures { λ r. ⌜ r ≡ walked (now (low .entry)) c ⌝ }
+{
+    let w = c.walk;
+    if 65535 < w.heads {
+        return Step::Bad;
+    }
+    if 4294967295 < w.past.left {
+        return Step::Bad;
+    }
+    let st = w.step(low);
+    match st {
+        walks::Step::Found(x, v) => {
+            let k = x.key;
+            let r = x.ver;
+            let p = x.value;
+            let f = x.remote;
+            item_at(low, c, k, r, p, f, PageId(0), v)
+        }
+        walks::Step::Leads(x, v) => {
+            let k = x.key;
+            let g = x.page;
+            item_at(
+                low,
+                c,
+                k,
+                Ver::new(0, 0),
+                Place { at: 0, len: 0 },
+                Addr(0),
+                g,
+                v,
+            )
+        }
+        walks::Step::End => Step::End,
+        walks::Step::Refused(_) => Step::Bad,
+    }
+}
+
+// The first record of the page behind.
+fn turn(low: &[u8], c: Cursor) -> Step
+    ensures { λ r. ⌜ r ≡ turned (now (low .entry)) c ⌝ }
+{
+    let then = c.then;
+    if then.0 == 0 {
+        return Step::End;
+    }
+    let Begun::From(d) = page_first(low, c, then, Addr(0)) else {
+        return Step::Bad;
+    };
+    walk_next(low, d)
+}
+
+// The next record of the pages.
+fn pages_next(low: &[u8], c: Cursor) -> Step
+    ensures { λ r. ⌜ r ≡ pagesNext (now (low .entry)) c ⌝ }
+{
+    let st = walk_next(low, c);
+    match st {
+        Step::Got(i, d) => Step::Got(i, d),
+        Step::End => turn(low, c),
+        Step::Bad => Step::Bad,
+    }
+}
+
+// ---- the step
+
+// The entry at a cursor, and the cursor past it.
+pub fn next(list: &[u8], low: &[u8], c: Cursor) -> Step
+    ensures { λ r. ⌜ r ≡ nextOf (now (list .entry)) (now (low .entry)) c ⌝ }
+{
+    if c.kind == Cursor::PAGES {
+        return pages_next(low, c);
+    }
+    list_next(list, c)
 }
 
 fn is_wanted(want: bool, old: bool) -> bool

@@ -1,11 +1,11 @@
 -- Every step makes a walk shorter, on every arena: the measure of a caller's loop.
 -- Assumes nothing.
-use Prim.Native.Nat.{ℕ, _+_, _*_, _-_, _<_}
+use Prim.Native.Nat.{ℕ, _+_, _*_, _-_, _≤_, _<_}
 use mathlib.Core.Path.{_≡_, refl, sym, subst}
 use mathlib.Core.Bool.{Bool, true, false, cond}
 use mathlib.Core.List.{List}
 use native.Mathlib.Omega.{arith}
-use borrow.Author.Tests.{ltb-true, ltb-false, eqb-false}
+use borrow.Author.Tests.{ltb-true, ltb-false, eqb-true, eqb-false}
 use lib.Dec.{ltb, eqb}
 use Rattle.frames.specs.declared.Addr.{Addr}
 use Rattle.frames.specs.declared.Opened.{Opened}
@@ -52,10 +52,14 @@ module _ (s : List ℕ) (key : Place) (x : Item) (q : Past) where
       go true e′ = link (historyAt s (p .link)) e′
       go false e′ = in-less p (addr 0) e′
 
--- a step that hands back a walk hands back a shorter one
+-- the walk behind a step has fewer heads left, or as many and fewer old versions
+pub record Moves (w w′ : Walk) : Type 0 where
+  pub fewer : w′ .heads ≤ w .heads
+  pub falls : w′ .heads ≡ w .heads → w′ .past .left < w .past .left
+
 abbrev After : Walk → Step → Type 0
-After w (Step.Found x w′) = w′ .past .left < 18446744073709551616 → leftOf w′ < leftOf w
-After w (Step.Leads x w′) = w′ .past .left < 18446744073709551616 → leftOf w′ < leftOf w
+After w (Step.Found x w′) = Moves w w′
+After w (Step.Leads x w′) = Moves w w′
 After w Step.End = Unit {0}
 After w (Step.Refused r) = Unit {0}
 
@@ -65,7 +69,7 @@ module _ (s : List ℕ) (w : Walk) where
   after-old h = go (nextOld s (w .key) (w .past)) refl
     where
       go : (o : OldStep) → nextOld s (w .key) (w .past) ≡ o → After w (oldStep w o)
-      go (OldStep.Is x q) e = λ l. let y = next-less s (w .key) x q (w .past) e in omega arith
+      go (OldStep.Is x q) e = let y = next-less s (w .key) x q (w .past) e in record { fewer = omega arith; falls = λ l. omega (arith, y, h) }
       go OldStep.Bad e = tt
 
   after-head : w .past .left ≡ 0 → (w .heads ≡ 0 → ⊥) → After w (headStep s w)
@@ -73,11 +77,11 @@ module _ (s : List ℕ) (w : Walk) where
   after-head z n = go (readAt s (w .page) (kindOfWay (w .way)) (w .pos))
     where
       past : (r : Rec) (e : Entered) → After w (headPast s w r e)
-      past r (Entered.Is q) = λ l. omega (arith, n, l)
+      past r (Entered.Is q) = record { fewer = omega arith; falls = λ l. absurd (omega (arith, n, l)) }
       past r Entered.Bad = tt
 
       either : (r : Rec) (t : Bool) → After w (cond t (leadsTo s w r) (headPast s w r (enterAt s (r .hist) (w .past))))
-      either r true = λ l. omega (arith, n, z)
+      either r true = record { fewer = omega arith; falls = λ l. absurd (omega (arith, n, l)) }
       either r false = past r (enterAt s (r .hist) (w .past))
 
       go : (r : RecRead) → After w (headRec s w r)
@@ -96,9 +100,22 @@ module _ (s : List ℕ) (w : Walk) where
       go true e = after-old (ltb-true 0 (w .past .left) e)
       go false e = let h = ltb-false 0 (w .past .left) e in ends (omega arith) (eqb (w .heads) 0) refl
 
-  -- THE LAW: the walk behind a step is shorter; what it counts is a usize, as every Walk's is
-  pub found-shorter : (x : Item) (w′ : Walk) → stepAt s w ≡ Step.Found x w′ → w′ .past .left < 18446744073709551616 → leftOf w′ < leftOf w
-  found-shorter x w′ e = subst (After w) e after
+  pub found-moves : (x : Item) (w′ : Walk) → stepAt s w ≡ Step.Found x w′ → Moves w w′
+  found-moves x w′ e = subst (After w) e after
 
-  pub leads-shorter : (x : Branch) (w′ : Walk) → stepAt s w ≡ Step.Leads x w′ → w′ .past .left < 18446744073709551616 → leftOf w′ < leftOf w
-  leads-shorter x w′ e = subst (After w) e after
+  pub leads-moves : (x : Branch) (w′ : Walk) → stepAt s w ≡ Step.Leads x w′ → Moves w w′
+  leads-moves x w′ e = subst (After w) e after
+
+-- THE LAW: the walk behind a step is shorter; what it counts is a usize, as every Walk's is
+shorter : (w w′ : Walk) → Moves w w′ → w′ .past .left < 18446744073709551616 → leftOf w′ < leftOf w
+shorter w w′ m l = go (eqb (w′ .heads) (w .heads)) refl
+  where
+    go : (t : Bool) → eqb (w′ .heads) (w .heads) ≡ t → leftOf w′ < leftOf w
+    go true e = let q = eqb-true (w′ .heads) (w .heads) e in omega (arith, q, m .falls q)
+    go false e = omega (arith, m .fewer, eqb-false (w′ .heads) (w .heads) e, l)
+
+pub found-shorter : (s : List ℕ) (w : Walk) (x : Item) (w′ : Walk) → stepAt s w ≡ Step.Found x w′ → w′ .past .left < 18446744073709551616 → leftOf w′ < leftOf w
+found-shorter s w x w′ e = shorter w w′ (found-moves s w x w′ e)
+
+pub leads-shorter : (s : List ℕ) (w : Walk) (x : Branch) (w′ : Walk) → stepAt s w ≡ Step.Leads x w′ → w′ .past .left < 18446744073709551616 → leftOf w′ < leftOf w
+leads-shorter s w x w′ e = shorter w w′ (leads-moves s w x w′ e)

@@ -6,6 +6,7 @@ use Rattle.sources.proofs.begin.Tie as tie
 use Rattle.sources.proofs.begin.Reads as reads
 use Rattle.sources.proofs.begin.Lts as lts
 use Rattle.numbers.proofs.read_u32_be.Reads as read-u32-be-reads
+use Rattle.sources.proofs.first_of.Reads as first-of-reads
 
 returns : tie.Need-returns
 unfolding begunOf
@@ -28,9 +29,12 @@ returns-3 : tie.Need-returns-3
 unfolding begunOf
 returns-3 c = simp (le-leb _ _ (c .before .before .before .before .if1 .left), eq-eqb _ _ (c .before .before .if2 .left), ← c .before .read-u32-be .ensures, ne-eqb _ _ (c .if3 .taken))
 
+first-of-requires : tie.Need-first-of-requires
+first-of-requires c κs = search needs
+
 returns-4 : tie.Need-returns-4
 unfolding begunOf
-returns-4 c = simp (le-leb _ _ (c .before .before .before .before .if1 .left), eq-eqb _ _ (c .before .before .if2 .left), ← c .before .read-u32-be .ensures, eq-eqb _ _ (c .if3 .left))
+returns-4 c = simp (le-leb _ _ (c .before .before .before .before .before .if1 .left), eq-eqb _ _ (c .before .before .before .if2 .left), ← c .before .before .read-u32-be .ensures, eq-eqb _ _ (c .before .if3 .left), c .first-of .ensures)
 
 pub begin-spec : {M : Type 1} → statement M
 begin-spec =
@@ -42,4 +46,5 @@ begin-spec =
     read-u32-be-requires
     cast-if3
     returns-3
+    first-of-requires
     returns-4)

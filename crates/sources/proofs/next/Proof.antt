@@ -1,34 +1,26 @@
-use borrow.Author.Tests.{le-leb, lt-leb}
-use mathlib.Core.Path.{_≡_, sym, ap, _∙_}
-use Rattle.sources.specs.Source.{nextOf, stepOf}
+use borrow.Author.Tests.{eq-eqb, ne-eqb}
+use Rattle.sources.specs.Source.{nextOf}
 use borrow.Author.Needs.{needs}
 use Rattle.sources.proofs.next.Statement.{statement}
 use Rattle.sources.proofs.next.Tie as tie
 use Rattle.sources.proofs.next.Reads as reads
 use Rattle.sources.proofs.next.Lts as lts
-use Rattle.sources.proofs.spot_at.Reads as spot-at-reads
+use Rattle.sources.proofs.list_next.Reads as list-next-reads
+use Rattle.sources.proofs.pages_next.Reads as pages-next-reads
+
+pages-next-requires : tie.Need-pages-next-requires
+pages-next-requires c κs = search needs
 
 returns : tie.Need-returns
-unfolding nextOf stepOf
-returns c = rw (le-leb _ _ (c .if1 .taken))
+unfolding nextOf
+returns c = rw (eq-eqb _ _ (c .before .if1 .taken)) (c .pages-next .ensures)
 
-spot-at-requires : tie.Need-spot-at-requires
-spot-at-requires c κs = search needs
-
-enum-known-i : tie.Need-enum-known-i
-enum-known-i c = search needs
-
-enum-told : tie.Need-enum-told
-enum-told c = search needs
+list-next-requires : tie.Need-list-next-requires
+list-next-requires c κs = search needs
 
 returns-2 : tie.Need-returns-2
-unfolding nextOf stepOf
-returns-2 c = rw (lt-leb _ _ (c .before .before .before .if1 .left)) (ap (stepOf (c .before .before .before .before .before .before .args .c)) (sym (c .enum-told .given .1) ∙ c .before .before .spot-at .ensures))
-
-returns-3 : tie.Need-returns-3
-unfolding nextOf stepOf
-returns-3 c = rw (lt-leb _ _ (c .before .before .before .before .before .if1 .left)) (ap (stepOf (c .before .before .before .before .before .before .before .before .args .c)) (sym (c .before .before .i .given .1) ∙ c .before .before .before .before .spot-at .ensures))
+unfolding nextOf
+returns-2 c = rw (ne-eqb _ _ (c .before .if1 .left)) (c .list-next .ensures)
 
 pub next-spec : {M : Type 1} → statement M
-next-spec =
-    tie.close (tie.spec returns spot-at-requires enum-known-i enum-told returns-2 returns-3)
+next-spec = tie.close (tie.spec pages-next-requires returns list-next-requires returns-2)

@@ -1,0 +1,57 @@
+-- What a build knows of its call and its entries before it writes: the hypotheses of the laws.
+-- Assumes nothing.
+use Prim.Native.Nat.{ℕ, _%_, _^_, _≤_, _<_}
+use mathlib.Core.Path.{_≡_}
+use mathlib.Core.List.{List, [], _∷_}
+use lib.ListN.{length}
+use Rattle.spans.specs.Span.{part}
+use Rattle.frames.specs.declared.RemoteRead.{RemoteRead}
+use Rattle.frames.specs.Layout.{addr, remoteAt}
+use Rattle.sources.specs.Source.{Entry}
+use Rattle.image.specs.declared.Call.{Call}
+use Rattle.image.specs.Image.{Bounds}
+
+-- each element has the property
+unfoldable pub Each : {A : Type 0} → (A → Type 0) → List A → Type 0
+Each P [] = Unit {0}
+Each P (x ∷ xs) = P x × Each P xs
+
+-- a remote frame at a holds these bytes
+pub record Held (s : List ℕ) (a : ℕ) (v : List ℕ) : Type 0 where
+  pub place : ℕ
+  pub read : remoteAt s (addr a) (length v) ≡ RemoteRead.At place
+  pub bytes : part s place (length v) ≡ v
+
+-- an entry: document 01's lengths; its numbers have their widths; a remote that it keeps holds its value
+pub record Fits (s : List ℕ) (limit : ℕ) (e : Entry) : Type 0 where
+  pub key : length (e .key) ≤ 4096
+  pub val : length (e .val) ≤ 65536
+  pub txid : e .ver .txid < 256 ^ 8
+  pub cmd : e .ver .cmd < 256 ^ 4
+  pub word : e .kept < 256 ^ 8
+  pub held : limit ≤ length (e .val) → (e .kept ≡ 0 → ⊥) → Held s (e .kept) (e .val)
+
+-- the numbers of the call's headers have their widths
+pub record Numbers (m : Call) : Type 0 where
+  pub group : m .group < 256
+  pub txid : m .txid < 256 ^ 8
+  pub lsn : m .lsn < 256 ^ 8
+
+-- "inline limit .. 1..65,536; budget .. 256..131,072"
+pub record CallFits (m : Call) : Type 0 where
+  pub limit : m .limit ≤ 65536
+  pub budget : m .budget ≤ 131072
+  pub numbers : Numbers m
+
+-- "lo or hi over 4,096" is refused; "prefix_len is at most lo_len"
+pub record BoundsFit (b : Bounds) : Type 0 where
+  pub lo : length (b .lo) ≤ 4096
+  pub hi : length (b .hi) ≤ 4096
+  pub prefix : b .prefix ≤ length (b .lo)
+  pub sibling : b .sibling < 256 ^ 8
+
+-- "An address is a frame's offset, a multiple of 8, at least 8"; an arena's length is a u64
+pub record Address (s : List ℕ) (at : ℕ) : Type 0 where
+  pub above : 8 ≤ at
+  pub even : at % 8 ≡ 0
+  pub word : length s < 256 ^ 8

@@ -1,0 +1,45 @@
+-- What an index build's page says, and what the build knows of its input.
+-- Assumes nothing.
+use Prim.Native.Nat.{ℕ, _^_, _≤_, _<_}
+use mathlib.Core.Path.{_≡_}
+use mathlib.Core.Bool.{true}
+use mathlib.Core.List.{List, [], _∷_}
+use lib.ListN.{length, take}
+use Rattle.order.specs.Version.{verOf}
+use Rattle.frames.specs.Layout.{pageId}
+use Rattle.pages.specs.Meaning.{Child, Page, index}
+use Rattle.sources.specs.Source.{Entry}
+use Rattle.sources.specs.Judged.{rising, prefixed}
+use Rattle.image.specs.declared.Call.{Call}
+use Rattle.image.specs.Image.{Bounds, indexSize}
+use Rattle.viewhist.specs.Fit.{Each, Numbers, BoundsFit, Address}
+
+-- a whole key and the page that it leads to
+abbrev pub childIs : Entry → Child
+childIs e = record { key = e .key; page = pageId (e .page) }
+
+unfoldable pub childrenOf : List Entry → List Child
+childrenOf [] = []
+childrenOf (e ∷ es) = childIs e ∷ childrenOf es
+
+-- the page that an index build is told to write
+unfoldable pub indexPage : Bounds → List Entry → Page
+unfolding childrenOf
+indexPage b es = record { lo = b .lo; hi = b .hi; prefix = take (b .prefix) (b .lo); sibling = pageId (b .sibling); rows = index (childrenOf es) }
+
+-- an entry of an index list: "key over 4,096" is refused; a page id is a u64; it has no version
+pub record Leads (e : Entry) : Type 0 where
+  pub key : length (e .key) ≤ 4096
+  pub page : e .page < 256 ^ 8
+  pub plain : e .ver ≡ verOf 0 0
+
+-- what the judge of an index build lets pass
+pub record IndexFit (s : List ℕ) (m : Call) (b : Bounds) (at : ℕ) (es : List Entry) : Type 0 where
+  pub address : Address s at
+  pub numbers : Numbers m
+  pub bounds : BoundsFit b
+  pub each : Each Leads es
+  pub rises : rising es ≡ true
+  pub begins : prefixed (take (b .prefix) (b .lo)) es ≡ true
+  pub few : length es ≤ 65535
+  pub small : indexSize b es ≤ 16777216
