@@ -1,6 +1,6 @@
--- No second answer fits the contract of a public call.
+-- No second answer fits the contract of a public call: answer, and arena afterwards where one is lent to be written.
 -- Assumes nothing.
-use mathlib.Core.Path.{_≡_}
+use mathlib.Core.Path.{_≡_, _∙_, sym}
 use mathlib.Core.List.{List}
 use Prim.Native.Nat.{ℕ}
 use contract.Lifetimes.{Lfts}
@@ -8,8 +8,17 @@ use denote.Ref.{RefT, now}
 use denote.Triple.Clauses.{AtExit}
 use Rattle.spans.specs.Only.{Decides, decides}
 use Rattle.image.specs.Prefix.{common}
+use Rattle.frames.specs.declared.PageId.{PageId}
+use Rattle.build.specs.declared.Built.{Built}
 use Rattle.base.proofs.calc_prefix as calc-fn
 use Rattle.base.proofs.calc_prefix.Reads as calc
+use Rattle.base.proofs.new_intl as intl-fn
+use Rattle.base.proofs.new_intl.Reads as intl
 
 pub calc-prefix-decided : (κs : Lfts 2) (lo hi : RefT (List ℕ)) (x : AtExit calc-fn.ended κs) → Decides (λ (r : ℕ). calc.Post κs (lo, (hi, tt)) r x) (λ (r : ℕ). r)
 calc-prefix-decided κs lo hi x = decides (λ (r : ℕ). r) (common (now lo) (now hi))
+
+pub new-intl-decided : (κs : Lfts 4) (a : RefT (List ℕ)) (next : ℕ) (l lo hi : RefT (List ℕ)) (s : PageId) (group txid lsn checkpoint : ℕ) (r r′ : Built) (x x′ : AtExit intl-fn.ended κs)
+    → intl.Post κs (a, (next, (l, (lo, (hi, (s, (group, (txid, (lsn, (checkpoint, tt)))))))))) r x
+    → intl.Post κs (a, (next, (l, (lo, (hi, (s, (group, (txid, (lsn, (checkpoint, tt)))))))))) r′ x′ → (r ≡ r′) × (now (x .0) ≡ now (x′ .0))
+new-intl-decided κs a next l lo hi s group txid lsn checkpoint r r′ x x′ h k = (h .0 ∙ sym (k .0), h .1 ∙ sym (k .1))

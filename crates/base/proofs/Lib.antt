@@ -1,3 +1,5 @@
 -- The crate's laws.
 pub mod Common
+pub mod Calls
+pub mod Refusing
 pub mod Decided

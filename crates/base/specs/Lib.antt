@@ -1,1 +1,2 @@
--- The crate has no definitions of its own yet.
+-- The crate's definitions.
+pub mod Calls

@@ -1,7 +1,14 @@
 // Building: a leaf or index page from a source of entries, judged on its whole input and then written strictly upward from the next free
-// address. Today its first part: the prefix.
+// address.
+use build::Built;
+use edges::Edges;
+use frames::PageId;
+use frames::Refusal;
+use image::Call;
+use sources::Begun;
 ghost use mathlib.Core.Path.{_≡_};
 ghost use Rattle.image.specs.Prefix.{common};
+ghost use Rattle.base.specs.Calls.{larger, callOf, boundsFrom, intlAnswer, intlArena};
 
 // The count of equal leading bytes of the boundaries; an empty hi is none.
 pub fn calc_prefix(lo: &[u8], hi: &[u8]) -> usize
@@ -22,4 +29,59 @@ pub fn calc_prefix(lo: &[u8], hi: &[u8]) -> usize
         }
         k += 1;
     }
+}
+
+fn larger(x: u64, y: u64) -> u64
+    ensures { λ r. ⌜ r ≡ larger x y ⌝ }
+{
+    if x < y { y } else { x }
+}
+
+// Builds an index page of an index list: its address and the new next free address, or a refusal that changes nothing.
+pub fn new_intl(
+    a: &mut [u8],
+    next: usize,
+    list: &[u8],
+    lo: &[u8],
+    hi: &[u8],
+    sibling: PageId,
+    group: u8,
+    txid: u64,
+    lsn: u64,
+    checkpoint: u64,
+) -> Built
+    ensures { λ r. ⌜ r ≡ intlAnswer (now (a .entry)) next (now (list .entry)) (callOf 0 0 group txid lsn checkpoint) (boundsFrom (now (lo .entry)) (now (hi .entry)) (sibling .0)) ⌝ }
+    ensures { λ _. ⌜ now (a .exit) ≡ intlArena (now (a .entry)) next (now (list .entry)) (callOf 0 0 group txid lsn checkpoint) (boundsFrom (now (lo .entry)) (now (hi .entry)) (sibling .0)) ⌝ }
+{
+    if !build::bounds_ok(lo, hi) {
+        return Built::Refused(Refusal::BadLimit);
+    }
+    let len = a.len();
+    if !build::next_ok(len, next) {
+        return Built::Refused(Refusal::BadArena);
+    }
+    let b = sources::open_index(list);
+    let Begun::From(c) = b else {
+        return Built::Refused(Refusal::BadList);
+    };
+    if !sources::well(list, &a[..next], c) {
+        return Built::Refused(Refusal::BadList);
+    }
+    let m = Call {
+        limit: 0,
+        budget: 0,
+        group: group,
+        txid: txid,
+        lsn: larger(lsn, checkpoint),
+    };
+    let x = edges::edge_of(lo);
+    let y = edges::edge_of(hi);
+    let p = calc_prefix(lo, hi);
+    let e = Edges {
+        lo: x,
+        hi: y,
+        prefix: p,
+        sibling: sibling,
+    };
+    build::build_index(a, next, list, c, m, lo, hi, e)
 }

@@ -1,0 +1,63 @@
+-- What new_intl answers and leaves, on every input: document 01's table first, then one store of one image.
+-- Assumes nothing.
+use Prim.Native.Nat.{ℕ}
+use mathlib.Core.List.{List, [], _∷_}
+use mathlib.Core.Bool.{Bool, true, false, cond, _&&_}
+use lib.ListN.{length, take}
+use lib.Dec.{ltb, leb, eqb}
+use Rattle.spans.specs.Span.{put}
+use Rattle.frames.specs.declared.Refusal.{Refusal}
+use Rattle.frames.specs.declared.Refusal.the-variants.{BadLimit, BadArena, BadList}
+use Rattle.frames.specs.Refusals.{numberOf}
+use Rattle.frames.specs.Layout.{addr}
+use Rattle.sources.specs.Lists.{begunOf, firstOf}
+use Rattle.sources.specs.Source.{Entry, entries, wellFormed}
+use Rattle.sources.specs.Judged.{rising, prefixed}
+use Rattle.image.specs.declared.Call.{Call}
+use Rattle.image.specs.Prefix.{common}
+use Rattle.image.specs.Image.{Bounds, indexSize, indexImage}
+use Rattle.build.specs.declared.Built.{Built}
+use Rattle.build.specs.declared.Built.the-variants.{At, Refused}
+use Rattle.build.specs.Table.{Row, row, judged, boundsOk, nextOk, listOk, entryRows}
+use Rattle.build.specs.Index.{indexEnd, indexRows}
+
+-- document 01's number of an answer: 0 where a page was built
+abbrev pub builtNumber : Built → ℕ
+builtNumber (At a n) = 0
+builtNumber (Refused r) = numberOf r
+
+-- "lsn is the larger of the given and the checkpoint's"
+unfoldable pub larger : ℕ → ℕ → ℕ
+larger x y = cond (ltb x y) y x
+
+abbrev pub callOf : ℕ → ℕ → ℕ → ℕ → ℕ → ℕ → Call
+callOf limit budget group txid lsn checkpoint = record { limit = limit; budget = budget; group = group; txid = txid; lsn = larger lsn checkpoint }
+
+-- "Prefix length: count of equal leading bytes of lo and hi"
+abbrev pub boundsFrom : List ℕ → List ℕ → ℕ → Bounds
+boundsFrom lo hi sibling = record { lo = lo; hi = hi; prefix = common lo hi; sibling = sibling }
+
+-- the entries of a list: 0 a record list, 1 an index list; w is what lies below the next free address
+abbrev pub listed : List ℕ → List ℕ → ℕ → List Entry
+listed l w kind = entries l w (firstOf kind)
+
+-- 1, 2, 3 (limits is what number 1 asks of the call), then the numbers of the entries
+abbrev pub listRows : Bool → List ℕ → ℕ → List ℕ → ℕ → List Row → List Row
+listRows limits a next l kind rows =
+    row limits BadLimit
+    ∷ row (nextOk (length a) next) BadArena
+    ∷ row (listOk l (take next a) kind) BadList
+    ∷ rows
+
+-- ---- new_intl
+
+abbrev pub intlRows : List ℕ → ℕ → List ℕ → Call → Bounds → List Row
+intlRows a next l m b = listRows (boundsOk (b .lo) (b .hi)) a next l 1 (indexRows (length a) next m b (listed l (take next a) 1))
+
+unfoldable pub intlAnswer : List ℕ → ℕ → List ℕ → Call → Bounds → Built
+unfolding begunOf wellFormed entries rising prefixed indexSize indexEnd
+intlAnswer a next l m b = judged (intlRows a next l m b) Refused (At (addr next) (indexEnd next m b (listed l (take next a) 1)))
+
+unfoldable pub intlArena : List ℕ → ℕ → List ℕ → Call → Bounds → List ℕ
+unfolding begunOf wellFormed entries rising prefixed indexSize indexEnd put indexImage
+intlArena a next l m b = judged (intlRows a next l m b) (λ r. a) (put a next (indexImage m b (listed l (take next a) 1)))

@@ -1,0 +1,4 @@
+-- The crate's laws.
+pub mod Tables
+pub mod Judging
+pub mod Exactly

@@ -1,0 +1,60 @@
+-- Document 01's table of refusals, for builds: "Each is judged on the whole input, lower numbers first".
+-- Assumes nothing.
+use Prim.Native.Nat.{ℕ, _%_}
+use mathlib.Core.List.{List, [], _∷_}
+use mathlib.Core.Bool.{Bool, true, false, cond, _&&_}
+use lib.ListN.{length}
+use lib.Dec.{leb, eqb}
+use Rattle.frames.specs.declared.Refusal.{Refusal}
+use Rattle.frames.specs.declared.Refusal.the-variants.{BadLimit, BadArena, BadList, OutOfOrder, WrongPrefix, TooBig, NoRoom}
+use Rattle.sources.specs.declared.Begun.{Begun}
+use Rattle.sources.specs.Lists.{begunOf, firstOf}
+use Rattle.sources.specs.Source.{Entry, wellFormed}
+use Rattle.sources.specs.Judged.{rising, prefixed}
+
+-- a row of the table: what must hold, else the refusal
+pub record Row : Type 0 where
+  pub holds : Bool
+  pub else : Refusal
+
+abbrev pub row : Bool → Refusal → Row
+row b r = record { holds = b; else = r }
+
+-- the first row that does not hold refuses; where all hold, the call answers
+abbrev pub judged {ℓ} : {X : Type ℓ} → List Row → (Refusal → X) → X → X
+judged [] stop go = go
+judged (r ∷ rs) stop go = cond (r .holds) (judged rs stop go) (stop (r .else))
+
+-- 1 BAD LIMIT: "inline limit not 1..65,536; budget not 256..131,072; lo or hi over 4,096"
+abbrev pub limitOk : ℕ → Bool
+limitOk limit = leb 1 limit && leb limit 65536
+
+abbrev pub budgetOk : ℕ → Bool
+budgetOk budget = leb 256 budget && leb budget 131072
+
+abbrev pub boundsOk : List ℕ → List ℕ → Bool
+boundsOk lo hi = leb (length lo) 4096 && leb (length hi) 4096
+
+-- 2 BAD ARENA: "next free address below 8, not a multiple of 8, or above the arena's length"
+abbrev pub nextOk : ℕ → ℕ → Bool
+nextOk len next = leb 8 next && eqb (next % 8) 0 && leb next len
+
+-- 3 BAD LIST: "version not 1, count not what remains, header or entry cut short, key over 4,096, value over 65,536"; w is what lies
+-- below the next free address
+abbrev pub isOpen : Begun → Bool
+isOpen (Begun.From c) = true
+isOpen Begun.Bad = false
+
+abbrev pub listOk : List ℕ → List ℕ → ℕ → Bool
+listOk l w kind = isOpen (begunOf l kind) && wellFormed l w (firstOf kind)
+
+-- 6 OUT OF ORDER: "an entry not above the one before"; 7 WRONG PREFIX: "a key .. does not begin with the page's prefix"; 8 TOO BIG: "over
+-- 65,535 entries .., or size plus hint room over 16,777,216" (the page's payload); 9 NO ROOM: "next plus all rounded frames exceeds the
+-- arena" (end, len)
+abbrev pub entryRows : List ℕ → List Entry → ℕ → ℕ → ℕ → List Row
+entryRows prefix es payload end len =
+    row (rising es) OutOfOrder
+    ∷ row (prefixed prefix es) WrongPrefix
+    ∷ row (leb (length es) 65535 && leb payload 16777216) TooBig
+    ∷ row (leb end len) NoRoom
+    ∷ []

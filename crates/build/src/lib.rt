@@ -1,0 +1,126 @@
+// Building from any source: the whole input is judged without writing, then written strictly upward from the next free address. The
+// numbers 6 to 9 are judged on the entries, whatever holds them; 1 to 3 are the calls' own (crate base).
+use edges::Edge;
+use edges::Edges;
+use frames::Addr;
+use frames::Refusal;
+use image::Call;
+use sources::Cursor;
+ghost use mathlib.Core.Path.{_≡_};
+ghost use Prim.Native.Nat.{_+_, _≤_};
+ghost use lib.ListN.{length, take};
+ghost use Rattle.frames.specs.Layout.{frameLen};
+ghost use Rattle.sources.specs.Source.{entries};
+ghost use Rattle.sources.specs.Judged.{prefixed};
+ghost use Rattle.edges.specs.Edges.{Within, Inside, edgeBytes, boundsOf};
+ghost use Rattle.build.specs.Table.{boundsOk, nextOk};
+ghost use Rattle.build.specs.Index.{Held, indexVerdict, indexAnswer, indexArena};
+
+// A page that was built: its address, and the new next free address.
+pub enum Built {
+    At(Addr, usize),
+    Refused(Refusal),
+}
+
+// What the judge of an index page finds: the count of its entries and its size.
+pub enum IndexVerdict {
+    Fits(usize, usize),
+    No(Refusal),
+}
+
+// ---- 1 and 2
+
+// "lo or hi over 4,096" is BAD LIMIT.
+pub fn bounds_ok(lo: &[u8], hi: &[u8]) -> bool
+    ensures { λ r. ⌜ r ≡ boundsOk (now (lo .entry)) (now (hi .entry)) ⌝ }
+{
+    (lo.len() <= 4096) & (hi.len() <= 4096)
+}
+
+// "next free address below 8, not a multiple of 8, or above the arena's length" is BAD ARENA.
+pub fn next_ok(len: usize, next: usize) -> bool
+    ensures { λ r. ⌜ r ≡ nextOk len next ⌝ }
+{
+    (8 <= next) & (next % 8 == 0) & (next <= len)
+}
+
+// ---- 7
+
+// Whether each key begins with the first p bytes of a boundary.
+pub fn begins_with(list: &[u8], low: &[u8], from: Cursor, lo: &[u8], e: Edge, p: usize) -> bool
+    requires { ⌜ Within (now lo) (now low) e ⌝ }
+    requires { ⌜ p ≤ e .len ⌝ }
+    ensures { λ r. ⌜ r ≡ prefixed (take p (edgeBytes (now (lo .entry)) (now (low .entry)) e)) (entries (now (list .entry)) (now (low .entry)) from) ⌝ }
+{
+    if e.low {
+        return sources::begins(list, low, from, spans::part_of(low, e.at, p));
+    }
+    sources::begins(list, low, from, spans::part_of(lo, e.at, p))
+}
+
+// ---- index pages
+
+// Judges the entries of an index page: 6, 7, 8, 9. It writes nothing.
+pub fn judge_index(
+    list: &[u8],
+    low: &[u8],
+    from: Cursor,
+    len: usize,
+    next: usize,
+    lo: &[u8],
+    e: Edges,
+) -> IndexVerdict
+    requires { ⌜ Held (now lo) (now low) e ⌝ }
+    requires { ⌜ next ≤ len ⌝ }
+    ensures { λ r. ⌜ r ≡ indexVerdict len next (take (e .prefix) (edgeBytes (now (lo .entry)) (now (low .entry)) (e .lo))) e (entries (now (list .entry)) (now (low .entry)) from) ⌝ }
+{
+    let x = e.lo;
+    let y = e.hi;
+    let p = e.prefix;
+    if !sources::rises(list, low, from) {
+        return IndexVerdict::No(Refusal::OutOfOrder);
+    }
+    if !begins_with(list, low, from, lo, x, p) {
+        return IndexVerdict::No(Refusal::WrongPrefix);
+    }
+    let n = sources::count(list, low, from);
+    if 65535 < n {
+        return IndexVerdict::No(Refusal::TooBig);
+    }
+    let size = 40 + 4 * n + x.len + y.len + intl::index_sums(list, low, from, p);
+    if 16777216 < size {
+        return IndexVerdict::No(Refusal::TooBig);
+    }
+    if !spans::room(len, next, frames::frame_len(size as u32)) {
+        return IndexVerdict::No(Refusal::NoRoom);
+    }
+    IndexVerdict::Fits(n, size)
+}
+
+// Builds an index page of the entries from a cursor on.
+pub fn build_index(
+    a: &mut [u8],
+    next: usize,
+    list: &[u8],
+    from: Cursor,
+    m: Call,
+    lo: &[u8],
+    hi: &[u8],
+    e: Edges,
+) -> Built
+    requires { ⌜ next ≤ length (now a) ⌝ }
+    requires { ⌜ Held (now lo) (take next (now a)) e ⌝ }
+    requires { ⌜ Inside (now lo) (now hi) (take next (now a)) e ⌝ }
+    ensures { λ r. ⌜ r ≡ indexAnswer (now (a .entry)) next m (boundsOf (now (lo .entry)) (now (hi .entry)) (take next (now (a .entry))) e) (entries (now (list .entry)) (take next (now (a .entry))) from) ⌝ }
+    ensures { λ _. ⌜ now (a .exit) ≡ indexArena (now (a .entry)) next m (boundsOf (now (lo .entry)) (now (hi .entry)) (take next (now (a .entry))) e) (entries (now (list .entry)) (take next (now (a .entry))) from) ⌝ }
+{
+    let len = a.len();
+    let v = judge_index(list, &a[..next], from, len, next, lo, e);
+    match v {
+        IndexVerdict::No(r) => Built::Refused(r),
+        IndexVerdict::Fits(n, size) => {
+            intl::write_index(a, next, list, from, next, m, n, size, lo, hi, e);
+            Built::At(Addr(next as u64), next + frames::frame_len(size as u32))
+        }
+    }
+}

@@ -1,0 +1,7 @@
+pub mod Lengths
+pub mod Straight
+pub mod Verdict
+pub mod Ends
+pub mod Exactly
+pub mod Back
+pub mod Decided

@@ -1,0 +1,134 @@
+-- Runs of stores: a remote frame, and a delta's frame for any key and value. One module a store.
+-- Assumes nothing.
+use mathlib.Core.Path.{_≡_, refl, sym, ap, _∙_}
+use mathlib.Core.List.{List, [], _∷_, _++_, append-nil}
+use Prim.Native.Nat.{ℕ, _+_, _-_, _≤_}
+use native.Mathlib.Omega.{arith}
+use lib.ListN.{length, replicate, length-replicate}
+use Rattle.spans.specs.Span.{put}
+use Rattle.spans.proofs.Put.{put-chain}
+use Rattle.spans.proofs.Writing.{Writing, begin, wrote, finished, front}
+use Rattle.numbers.specs.Number.{le}
+use Rattle.numbers.proofs.Numbers.{length-le}
+use Rattle.frames.specs.Layout.{boxLen, frameLen}
+use Rattle.frames.specs.Stored.{boxBytes}
+use Rattle.frames.proofs.Stores.{length-box}
+use Rattle.image.specs.declared.Call.{Call}
+use Rattle.image.specs.Sizes.{pad}
+use Rattle.image.specs.Image.{boxOf, remoteFrame}
+use Rattle.delta.specs.Deltas.{deltaHead, deltaFrame}
+use Rattle.delta.proofs.Lengths.{length-head}
+
+-- a piece of known length (it belongs in `spans`, beside `wrote`)
+module _ (a₀ : List ℕ) (low : ℕ) (whole a : List ℕ) (to : ℕ) (z x y : List ℕ) (h : Writing a₀ low whole a to z) (e : z ≡ x ++ y) (n : ℕ) (l : length x ≡ n) where
+  pub wrote-n : (a′ : List ℕ) → a′ ≡ put a to x → Writing a₀ low whole a′ (to + n) y
+  wrote-n a′ p = wrote a₀ low whole a to z x y a′ (to + n) h e p (ap (λ (k : ℕ). to + k) (sym l))
+
+  pub room-n : to + n ≤ length a
+  room-n = rw l at (front a₀ low whole a to z x y h e)
+
+-- ---- a remote frame
+
+module _ (a : List ℕ) (at : ℕ) (m : Call) (v : List ℕ) (room : at + length (remoteFrame m v) ≤ length a) where
+  abbrev box : List ℕ
+  box = boxBytes (boxOf m (8 + length v) 3 1 0 0 0)
+
+  abbrev far-whole : List ℕ
+  far-whole = put a at (remoteFrame m v)
+
+  far-bytes : remoteFrame m v ≡ box ++ (le 8 (length v) ++ (v ++ pad (8 + length v)))
+  unfolding remoteFrame
+  far-bytes = refl
+
+  f0 : Writing a 0 far-whole a at (remoteFrame m v)
+  f0 = begin a 0 at _ (omega arith) room
+
+  pub far-room : at + boxLen ≤ length a
+  far-room = room-n a 0 far-whole a at _ box _ f0 far-bytes boxLen (length-box (boxOf m (8 + length v) 3 1 0 0 0))
+
+  module _ (a₁ : List ℕ) (e₁ : a₁ ≡ put a at box) where
+    f1 : Writing a 0 far-whole a₁ (at + boxLen) (le 8 (length v) ++ (v ++ pad (8 + length v)))
+    f1 = wrote-n a 0 far-whole a at _ box _ f0 far-bytes boxLen (length-box (boxOf m (8 + length v) 3 1 0 0 0)) a₁ e₁
+
+    pub far-size-room : at + boxLen + 8 ≤ length a₁
+    far-size-room = room-n a 0 far-whole a₁ (at + boxLen) _ (le 8 (length v)) _ f1 refl 8 (length-le 8 (length v))
+
+    module _ (a₂ : List ℕ) (e₂ : a₂ ≡ put a₁ (at + boxLen) (le 8 (length v))) where
+      f2 : Writing a 0 far-whole a₂ (at + boxLen + 8) (v ++ pad (8 + length v))
+      f2 = wrote-n a 0 far-whole a₁ (at + boxLen) _ (le 8 (length v)) _ f1 refl 8 (length-le 8 (length v)) a₂ e₂
+
+      pub far-copy-room : at + boxLen + 8 + length v ≤ length a₂
+      far-copy-room = room-n a 0 far-whole a₂ (at + boxLen + 8) _ v _ f2 refl (length v) refl
+
+      module _ (a₃ : List ℕ) (e₃ : a₃ ≡ put a₂ (at + boxLen + 8) v) (r : ℕ) (e : r ≡ frameLen (8 + length v)) where
+        f3 : Writing a 0 far-whole a₃ (at + boxLen + 8 + length v) (pad (8 + length v))
+        f3 = wrote-n a 0 far-whole a₂ (at + boxLen + 8) _ v _ f2 refl (length v) refl a₃ e₃
+
+        zeros-are : pad (8 + length v) ≡ replicate (r - (32 + (8 + length v))) 0 ++ []
+        unfolding pad
+        zeros-are = rw e (sym (append-nil {A = ℕ} (replicate (frameLen (8 + length v) - (32 + (8 + length v))) 0)))
+
+        pub far-zeros-room : at + boxLen + 8 + length v + (r - (32 + (8 + length v))) ≤ length a₃
+        far-zeros-room = room-n a 0 far-whole a₃ (at + boxLen + 8 + length v) _ (replicate (r - (32 + (8 + length v))) 0) [] f3 zeros-are (r - (32 + (8 + length v))) (length-replicate {A = ℕ} (r - (32 + (8 + length v))) 0)
+
+        pub far-end : (a₄ : List ℕ) → a₄ ≡ put a₃ (at + boxLen + 8 + length v) (replicate (r - (32 + (8 + length v))) 0) → a₄ ≡ far-whole
+        far-end a₄ q =
+            finished a 0 far-whole a₄ (at + boxLen + 8 + length v + (r - (32 + (8 + length v)))) []
+            (wrote-n a 0 far-whole a₃ (at + boxLen + 8 + length v) _ (replicate (r - (32 + (8 + length v))) 0) [] f3 zeros-are (r - (32 + (8 + length v))) (length-replicate {A = ℕ} (r - (32 + (8 + length v))) 0) a₄ q) refl
+
+-- ---- a delta's box header and lengths
+
+pub head-end : (a : List ℕ) (at : ℕ) (m : Call) (node k v : ℕ) (a₁ a₂ a₃ : List ℕ) → a₁ ≡ put a at (boxBytes (boxOf m (8 + k + v) 2 node 0 0 (m .txid)))
+    → a₂ ≡ put a₁ (at + boxLen) (le 4 k) → a₃ ≡ put a₂ (at + boxLen + 4) (le 4 v) → a₃ ≡ put a at (deltaHead m node k v)
+unfolding deltaHead
+head-end a at m node k v a₁ a₂ a₃ e₁ e₂ e₃ =
+    let b = boxBytes (boxOf m (8 + k + v) 2 node 0 0 (m .txid)) in
+    put-chain a at b (le 4 k ++ le 4 v) e₁ (put-chain a₁ (at + boxLen) (le 4 k) (le 4 v) e₂ e₃ (ap (λ (j : ℕ). at + boxLen + j) (sym (length-le 4 k))))
+    (ap (λ (j : ℕ). at + j) (sym (length-box (boxOf m (8 + k + v) 2 node 0 0 (m .txid)))))
+
+-- ---- a delta's frame: k and n are the encoded sizes of its key and value, z the zeros that round it up
+
+module _ (a : List ℕ) (at : ℕ) (m : Call) (node : ℕ) (key val : List ℕ) (k n : ℕ) (ek : length key ≡ k) (en : length val ≡ n)
+    (room : at + length (deltaFrame m node key val) ≤ length a) (r : ℕ) (e : r ≡ frameLen (8 + k + n)) where
+  abbrev whole : List ℕ
+  whole = put a at (deltaFrame m node key val)
+
+  abbrev zeros : List ℕ
+  zeros = replicate (r - (32 + (8 + k + n))) 0
+
+  frame-bytes : deltaFrame m node key val ≡ deltaHead m node k n ++ (key ++ (val ++ (zeros ++ [])))
+  unfolding deltaFrame pad
+  frame-bytes = rw (ek, en, e, append-nil {A = ℕ} (replicate (frameLen (8 + k + n) - (32 + (8 + k + n))) 0)) refl
+
+  d0 : Writing a 0 whole a at (deltaFrame m node key val)
+  d0 = begin a 0 at _ (omega arith) room
+
+  pub frame-head-room : at + 40 ≤ length a
+  frame-head-room = room-n a 0 whole a at _ (deltaHead m node k n) _ d0 frame-bytes 40 (length-head m node k n)
+
+  module _ (a₁ : List ℕ) (e₁ : a₁ ≡ put a at (deltaHead m node k n)) where
+    d1 : Writing a 0 whole a₁ (at + 40) (key ++ (val ++ (zeros ++ [])))
+    d1 = wrote-n a 0 whole a at _ (deltaHead m node k n) _ d0 frame-bytes 40 (length-head m node k n) a₁ e₁
+
+    pub frame-key-room : at + 40 + length key ≤ length a₁
+    frame-key-room = room-n a 0 whole a₁ (at + 40) _ key _ d1 refl (length key) refl
+
+    module _ (a₂ : List ℕ) (e₂ : a₂ ≡ put a₁ (at + 40) key) where
+      d2 : Writing a 0 whole a₂ (at + 40 + k) (val ++ (zeros ++ []))
+      d2 = wrote-n a 0 whole a₁ (at + 40) _ key _ d1 refl k ek a₂ e₂
+
+      pub frame-val-room : at + 40 + k + length val ≤ length a₂
+      frame-val-room = room-n a 0 whole a₂ (at + 40 + k) _ val _ d2 refl (length val) refl
+
+      pub frame-fits : at + 40 + k + n ≤ length a
+      frame-fits = omega (arith, frame-val-room, en, d2 .long)
+
+      module _ (a₃ : List ℕ) (e₃ : a₃ ≡ put a₂ (at + 40 + k) val) where
+        d3 : Writing a 0 whole a₃ (at + 40 + k + n) (zeros ++ [])
+        d3 = wrote-n a 0 whole a₂ (at + 40 + k) _ val _ d2 refl n en a₃ e₃
+
+        pub frame-zeros-room : at + 40 + k + n + (r - (32 + (8 + k + n))) ≤ length a₃
+        frame-zeros-room = room-n a 0 whole a₃ (at + 40 + k + n) _ zeros [] d3 refl (r - (32 + (8 + k + n))) (length-replicate {A = ℕ} (r - (32 + (8 + k + n))) 0)
+
+        pub frame-end : (a₄ : List ℕ) → a₄ ≡ put a₃ (at + 40 + k + n) zeros → a₄ ≡ whole
+        frame-end a₄ q = finished a 0 whole a₄ (at + 40 + k + n + (r - (32 + (8 + k + n)))) [] (wrote-n a 0 whole a₃ (at + 40 + k + n) _ zeros [] d3 refl (r - (32 + (8 + k + n))) (length-replicate {A = ℕ} (r - (32 + (8 + k + n))) 0) a₄ q) refl

@@ -1,0 +1,117 @@
+use native.Mathlib.Omega.{arith}
+use Prim.Native.Nat.{ℕ, suc, _+_, _*_, _-_, _/_, _≤_, _<_}
+use mathlib.Core.Path.{_≡_, refl, sym, ap, _∙_}
+use mathlib.Core.Bool.{Bool, true, false}
+use mathlib.Core.List.{List}
+use denote.Ref.{now}
+use lib.ListN.{length, getD, take, drop}
+use lib.Dec.{leb, ltb, eqb}
+use borrow.Author.Tests.{le-leb, lt-leb, le-ltb, lt-ltb, eq-eqb, ne-eqb, leb-true}
+use borrow.Author.Tests.{eqb-true}
+use mathlib.Core.List.{_++_}
+use lib.Seq.{length-take-le}
+use Rattle.spans.specs.Span.{put, Stored}
+use Rattle.spans.proofs.Put.{stored-bytes, stored-count, put-chain, put-nil}
+use Rattle.numbers.specs.Number.{le}
+use Rattle.numbers.proofs.Numbers.{length-le}
+use Rattle.lengths.specs.Leb128.{uleb}
+use Rattle.lengths.proofs.Laws.{uleb-few}
+use Rattle.frames.specs.Layout.{boxLen, frameLen, deltaAt}
+use Rattle.frames.proofs.Frames.{DeltaInside, delta-inside}
+use Rattle.values.specs.declared.HistRef.{HistRef}
+use Rattle.values.specs.Keys.{leafKey, indexKey, keyAt}
+use Rattle.values.specs.Vals.{noHist, inlineBytes, remoteBytes, sizeOf, valAt}
+use Rattle.records.specs.Records.{valOf}
+use Rattle.records.proofs.Places.{key-place, inline-place, remote-place}
+use Rattle.image.specs.Image.{remoteFrame, boxOf}
+use Rattle.image.specs.Sizes.{farLen}
+use Rattle.image.proofs.Lengths.{size-some, far-most}
+use Rattle.delta.specs.Deltas.{larger, callOf, valueOf, farOf, deltaHead, deltaFrame, leafFrame, indexFrame, leafDelta, leafKeyLen, indexKeyLen, leafLen, indexLen}
+use Rattle.delta.specs.Built.{limitOk, arenaOk, lengthsOk, addressOr, judged, leafBuilt, indexBuilt}
+use Rattle.delta.specs.Read.{deltaIs, keyIn, leafKeyAt, indexKeyAt, valueTo, valIn, valueAt, childAt}
+use Rattle.delta.proofs.Lengths.{length-value, length-far, length-leaf-key, length-index-key, leaf-key-most, index-key-most, leaf-most, index-most}
+use Rattle.delta.proofs.Straight.{far-room, far-size-room, far-copy-room, far-zeros-room, far-end, head-end, frame-head-room, frame-key-room, frame-val-room, frame-fits, frame-zeros-room, frame-end}
+use Rattle.delta.proofs.Verdict.{not-true, not-false, limit-true, arena-true, lengths-true, placed-none, placed-is, address-some, address-zero, judged-2, judged-3, judged-9, judged-at, leaf-1, leaf-on, index-is, leaf-far-room, leaf-frame-room, leaf-stored, index-frame-room}
+use mathlib.Core.Path.{ap₂}
+use Rattle.frames.specs.Layout.{addr}
+use Rattle.delta.specs.declared.Built.{Built}
+use Rattle.delta.proofs.Ends.{key-ends, ver-ends, val-ends}
+use borrow.Author.Needs.{needs}
+use Rattle.delta.proofs.from_key_index.Statement.{statement}
+use Rattle.delta.proofs.from_key_index.Tie as tie
+use Rattle.delta.proofs.from_key_index.Reads as reads
+use Rattle.delta.proofs.from_key_index.Lts as lts
+use Rattle.delta.proofs.arena_ok.Reads as arena-ok-reads
+use Rattle.delta.proofs.index_len.Reads as index-len-reads
+use Rattle.delta.proofs.larger.Reads as larger-reads
+use Rattle.delta.proofs.lengths_ok.Reads as lengths-ok-reads
+use Rattle.delta.proofs.placed.Reads as placed-reads
+use Rattle.delta.proofs.put_index.Reads as put-index-reads
+
+arena-ok-requires : tie.Need-arena-ok-requires
+arena-ok-requires c κs = search needs
+
+returns : tie.Need-returns
+returns c = (sym (index-is (length (c .before .before .before .before .args .a .now)) (c .before .before .before .before .args .next) (length (c .before .before .before .before .args .key .now)) ∙ judged-2 _ _ _ _ _ _ (sym (c .before .arena-ok .ensures) ∙ not-true _ (c .if1 .taken))), refl)
+
+lengths-ok-requires : tie.Need-lengths-ok-requires
+lengths-ok-requires c κs = search needs
+
+returns-2 : tie.Need-returns-2
+returns-2 c = (sym (index-is (length (c .before .before .before .before .before .before .args .a .now)) (c .before .before .before .before .before .before .args .next) (length (c .before .before .before .before .before .before .args .key .now)) ∙ judged-3 _ _ _ _ _ _ (sym (c .before .before .before .arena-ok .ensures) ∙ not-false _ (c .before .before .if1 .left)) (sym (c .before .lengths-ok .ensures) ∙ not-true _ (c .if2 .taken))), refl)
+
+index-len-requires : tie.Need-index-len-requires
+index-len-requires c κs = lengths-true (length (c .before .before .before .before .before .before .args .key .now)) 0 (sym (c .before .lengths-ok .ensures) ∙ not-false _ (c .if2 .left)) .0
+
+placed-requires : tie.Need-placed-requires
+placed-requires c κs =
+    let l = lengths-true (length (c .before .before .before .before .before .before .before .args .key .now)) 0 (sym (c .before .before .lengths-ok .ensures) ∙ not-false _ (c .before .if2 .left)) in
+    (arena-true (c .before .before .before .before .before .before .before .args .next) (length (c .before .before .before .before .before .before .before .args .a .now)) (sym (c .before .before .before .before .arena-ok .ensures) ∙ not-false _ (c .before .before .before .if1 .left)) .0, omega (arith, c .index-len .ensures, index-most (length (c .before .before .before .before .before .before .before .args .key .now)) (l .0)))
+
+returns-3 : tie.Need-returns-3
+returns-3 c =
+    let h = address-zero (c .before .before .before .before .before .before .before .before .before .args .next) (length (c .before .before .before .before .before .before .before .before .before .args .a .now)) 0 (c .before .before .index-len .result) (c .before .placed .result) (arena-true (c .before .before .before .before .before .before .before .before .before .args .next) (length (c .before .before .before .before .before .before .before .before .before .args .a .now)) (sym (c .before .before .before .before .before .before .arena-ok .ensures) ∙ not-false _ (c .before .before .before .before .before .if1 .left)) .0) (c .before .placed .ensures) (c .if3 .taken) in
+    (sym (index-is (length (c .before .before .before .before .before .before .before .before .before .args .a .now)) (c .before .before .before .before .before .before .before .before .before .args .next) (length (c .before .before .before .before .before .before .before .before .before .args .key .now)) ∙ judged-9 (c .before .before .before .before .before .before .before .before .before .args .next) (length (c .before .before .before .before .before .before .before .before .before .args .a .now)) (length (c .before .before .before .before .before .before .before .before .before .args .key .now)) 0 0 (indexLen (length (c .before .before .before .before .before .before .before .before .before .args .key .now))) (sym (c .before .before .before .before .before .before .arena-ok .ensures) ∙ not-false _ (c .before .before .before .before .before .if1 .left)) (sym (c .before .before .before .before .lengths-ok .ensures) ∙ not-false _ (c .before .before .before .if2 .left)) (omega (arith, h, c .before .before .index-len .ensures))), refl)
+
+larger-requires : tie.Need-larger-requires
+larger-requires c κs = search needs
+
+put-index-requires : tie.Need-put-index-requires
+put-index-requires c κs =
+    let s = address-some (c .before .before .before .before .before .before .before .before .before .before .before .args .next) (length (c .before .before .before .before .before .before .before .before .before .before .before .args .a .now)) 0 (c .before .before .before .before .index-len .result) (c .before .before .before .placed .result) (c .before .before .before .placed .ensures) (c .before .before .if3 .left) in
+    let l = lengths-true (length (c .before .before .before .before .before .before .before .before .before .before .before .args .key .now)) 0 (sym (c .before .before .before .before .before .before .lengths-ok .ensures) ∙ not-false _ (c .before .before .before .before .before .if2 .left)) in
+    let q : c .before .before .before .before .before .before .before .before .before .before .before .args .next + 0 + indexLen (length (c .before .before .before .before .before .before .before .before .before .before .before .args .key .now)) ≤ length (c .before .before .before .before .before .before .before .before .before .before .before .args .a .now) = omega (arith, s .1, c .before .before .before .before .index-len .ensures) in
+    (l .0, index-frame-room (record { limit = 0; budget = 0; group = c .before .before .before .before .before .before .before .before .before .before .before .args .group; txid = c .before .before .before .before .before .before .before .before .before .before .before .args .txid; lsn = c .before .larger .result }) (c .before .before .before .before .before .before .before .before .before .before .before .args .a .now) (c .before .before .before .before .before .before .before .before .before .before .before .args .next) (c .before .before .before .before .before .before .before .before .before .before .before .args .key .now) (c .before .before .before .before .before .before .before .before .before .before .before .args .page) (c .before .before .before .placed .result) (s .0) q)
+
+add-t13 : tie.Need-add-t13
+add-t13 c =
+    let s = address-some (c .before .before .before .before .before .before .before .before .before .before .before .before .before .before .args .next) (length (c .before .before .before .before .before .before .before .before .before .before .before .before .before .before .args .a .now)) 0 (c .before .before .before .before .before .before .before .index-len .result) (c .before .before .before .before .before .before .placed .result) (c .before .before .before .before .before .before .placed .ensures) (c .before .before .before .before .before .if3 .left) in
+    omega (arith, s .0, s .1, c .before .before .before .before .before .before .before .before .before .before .before .before .before .before .good)
+
+same-length : tie.Need-same-length
+same-length c = search needs
+
+returns-4 : tie.Need-returns-4
+returns-4 c =
+    let s = address-some (c .before .before .before .before .before .before .before .before .before .before .before .before .before .before .args .next) (length (c .before .before .before .before .before .before .before .before .before .before .before .before .before .before .args .a .now)) 0 (c .before .before .before .before .before .before .before .index-len .result) (c .before .before .before .before .before .before .placed .result) (c .before .before .before .before .before .before .placed .ensures) (c .before .before .before .before .before .if3 .left) in
+    let q : c .before .before .before .before .before .before .before .before .before .before .before .before .before .before .args .next + 0 + indexLen (length (c .before .before .before .before .before .before .before .before .before .before .before .before .before .before .args .key .now)) ≤ length (c .before .before .before .before .before .before .before .before .before .before .before .before .before .before .args .a .now) = omega (arith, s .1, c .before .before .before .before .before .before .before .index-len .ensures) in
+    let at : c .before .before .before .before .before .before .placed .result ≡ c .before .before .before .before .before .before .before .before .before .before .before .before .before .before .args .next + 0 = s .0 in
+    let at′ : c .before .before .before .before .before .before .placed .result ≡ c .before .before .before .before .before .before .before .before .before .before .before .before .before .before .args .next = omega arith in
+    (ap₂ (λ (i n : ℕ). Built.At (addr i) (i + n)) at (c .before .before .before .before .before .before .before .index-len .ensures) ∙ sym (index-is (length (c .before .before .before .before .before .before .before .before .before .before .before .before .before .before .args .a .now)) (c .before .before .before .before .before .before .before .before .before .before .before .before .before .before .args .next) (length (c .before .before .before .before .before .before .before .before .before .before .before .before .before .before .args .key .now)) ∙ judged-at (c .before .before .before .before .before .before .before .before .before .before .before .before .before .before .args .next) (length (c .before .before .before .before .before .before .before .before .before .before .before .before .before .before .args .a .now)) (length (c .before .before .before .before .before .before .before .before .before .before .before .before .before .before .args .key .now)) 0 0 (indexLen (length (c .before .before .before .before .before .before .before .before .before .before .before .before .before .before .args .key .now))) (sym (c .before .before .before .before .before .before .before .before .before .before .before .arena-ok .ensures) ∙ not-false _ (c .before .before .before .before .before .before .before .before .before .before .if1 .left)) (sym (c .before .before .before .before .before .before .before .before .before .lengths-ok .ensures) ∙ not-false _ (c .before .before .before .before .before .before .before .before .if2 .left)) q), rw (← c .before .before .before .before .larger .ensures) (c .before .before .put-index .ensures ∙ ap (λ (i : ℕ). put (c .before .before .before .before .before .before .before .before .before .before .before .before .before .before .args .a .now) i (indexFrame (record { limit = 0; budget = 0; group = c .before .before .before .before .before .before .before .before .before .before .before .before .before .before .args .group; txid = c .before .before .before .before .before .before .before .before .before .before .before .before .before .before .args .txid; lsn = c .before .before .before .before .larger .result }) (c .before .before .before .before .before .before .before .before .before .before .before .before .before .before .args .key .now) (c .before .before .before .before .before .before .before .before .before .before .before .before .before .before .args .page))) at′))
+
+pub from-key-index-spec : {M : Type 1} → statement M
+from-key-index-spec =
+    tie.close
+    (tie.spec
+    arena-ok-requires
+    returns
+    lengths-ok-requires
+    returns-2
+    index-len-requires
+    placed-requires
+    returns-3
+    larger-requires
+    put-index-requires
+    add-t13
+    same-length
+    returns-4)

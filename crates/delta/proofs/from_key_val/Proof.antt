@@ -1,0 +1,149 @@
+use native.Mathlib.Omega.{arith}
+use Prim.Native.Nat.{ℕ, suc, _+_, _*_, _-_, _/_, _≤_, _<_}
+use mathlib.Core.Path.{_≡_, refl, sym, ap, _∙_}
+use mathlib.Core.Bool.{Bool, true, false}
+use mathlib.Core.List.{List}
+use denote.Ref.{now}
+use lib.ListN.{length, getD, take, drop}
+use lib.Dec.{leb, ltb, eqb}
+use borrow.Author.Tests.{le-leb, lt-leb, le-ltb, lt-ltb, eq-eqb, ne-eqb, leb-true}
+use borrow.Author.Tests.{eqb-true}
+use mathlib.Core.List.{_++_}
+use lib.Seq.{length-take-le}
+use Rattle.spans.specs.Span.{put, Stored}
+use Rattle.spans.proofs.Put.{stored-bytes, stored-count, put-chain, put-nil}
+use Rattle.numbers.specs.Number.{le}
+use Rattle.numbers.proofs.Numbers.{length-le}
+use Rattle.lengths.specs.Leb128.{uleb}
+use Rattle.lengths.proofs.Laws.{uleb-few}
+use Rattle.frames.specs.Layout.{boxLen, frameLen, deltaAt}
+use Rattle.frames.proofs.Frames.{DeltaInside, delta-inside}
+use Rattle.values.specs.declared.HistRef.{HistRef}
+use Rattle.values.specs.Keys.{leafKey, indexKey, keyAt}
+use Rattle.values.specs.Vals.{noHist, inlineBytes, remoteBytes, sizeOf, valAt}
+use Rattle.records.specs.Records.{valOf}
+use Rattle.records.proofs.Places.{key-place, inline-place, remote-place}
+use Rattle.image.specs.Image.{remoteFrame, boxOf}
+use Rattle.image.specs.Sizes.{farLen}
+use Rattle.image.proofs.Lengths.{size-some, far-most}
+use Rattle.delta.specs.Deltas.{larger, callOf, valueOf, farOf, deltaHead, deltaFrame, leafFrame, indexFrame, leafDelta, leafKeyLen, indexKeyLen, leafLen, indexLen}
+use Rattle.delta.specs.Built.{limitOk, arenaOk, lengthsOk, addressOr, judged, leafBuilt, indexBuilt}
+use Rattle.delta.specs.Read.{deltaIs, keyIn, leafKeyAt, indexKeyAt, valueTo, valIn, valueAt, childAt}
+use Rattle.delta.proofs.Lengths.{length-value, length-far, length-leaf-key, length-index-key, leaf-key-most, index-key-most, leaf-most, index-most}
+use Rattle.delta.proofs.Straight.{far-room, far-size-room, far-copy-room, far-zeros-room, far-end, head-end, frame-head-room, frame-key-room, frame-val-room, frame-fits, frame-zeros-room, frame-end}
+use Rattle.delta.proofs.Verdict.{not-true, not-false, limit-true, arena-true, lengths-true, placed-none, placed-is, address-some, address-zero, judged-2, judged-3, judged-9, judged-at, leaf-1, leaf-on, index-is, leaf-far-room, leaf-frame-room, leaf-stored, index-frame-room}
+use mathlib.Core.Path.{ap₂}
+use Rattle.frames.specs.Layout.{addr}
+use Rattle.delta.specs.declared.Built.{Built}
+use Rattle.delta.proofs.Ends.{key-ends, ver-ends, val-ends}
+use borrow.Author.Needs.{needs}
+use Rattle.delta.proofs.from_key_val.Statement.{statement}
+use Rattle.delta.proofs.from_key_val.Tie as tie
+use Rattle.delta.proofs.from_key_val.Reads as reads
+use Rattle.delta.proofs.from_key_val.Lts as lts
+use Rattle.delta.proofs.arena_ok.Reads as arena-ok-reads
+use Rattle.delta.proofs.larger.Reads as larger-reads
+use Rattle.delta.proofs.leaf_len.Reads as leaf-len-reads
+use Rattle.delta.proofs.lengths_ok.Reads as lengths-ok-reads
+use Rattle.delta.proofs.limit_ok.Reads as limit-ok-reads
+use Rattle.delta.proofs.placed.Reads as placed-reads
+use Rattle.delta.proofs.put_far.Reads as put-far-reads
+use Rattle.delta.proofs.put_leaf.Reads as put-leaf-reads
+use Rattle.image.proofs.far_len.Reads as far-len-reads
+
+limit-ok-requires : tie.Need-limit-ok-requires
+limit-ok-requires c κs = search needs
+
+returns : tie.Need-returns
+returns c = (sym (leaf-1 (callOf (c .before .before .before .before .before .args .limit) (c .before .before .before .before .before .args .group) (c .before .before .before .before .before .args .ver .txid) (c .before .before .before .before .before .args .lsn) (c .before .before .before .before .before .args .ckpt)) (length (c .before .before .before .before .before .args .a .now)) (c .before .before .before .before .before .args .next) (length (c .before .before .before .before .before .args .key .now)) (length (c .before .before .before .before .before .args .value .now)) (sym (c .before .limit-ok .ensures) ∙ not-true _ (c .if1 .taken))), refl)
+
+arena-ok-requires : tie.Need-arena-ok-requires
+arena-ok-requires c κs = search needs
+
+returns-2 : tie.Need-returns-2
+returns-2 c =
+    let m = callOf (c .before .before .before .before .before .before .before .args .limit) (c .before .before .before .before .before .before .before .args .group) (c .before .before .before .before .before .before .before .args .ver .txid) (c .before .before .before .before .before .before .before .args .lsn) (c .before .before .before .before .before .before .before .args .ckpt) in
+    (sym (leaf-on m (length (c .before .before .before .before .before .before .before .args .a .now)) (c .before .before .before .before .before .before .before .args .next) (length (c .before .before .before .before .before .before .before .args .key .now)) (length (c .before .before .before .before .before .before .before .args .value .now)) (sym (c .before .before .before .limit-ok .ensures) ∙ not-false _ (c .before .before .if1 .left)) ∙ judged-2 _ _ _ _ _ _ (sym (c .before .arena-ok .ensures) ∙ not-true _ (c .if2 .taken))), refl)
+
+lengths-ok-requires : tie.Need-lengths-ok-requires
+lengths-ok-requires c κs = search needs
+
+returns-3 : tie.Need-returns-3
+returns-3 c =
+    let m = callOf (c .before .before .before .before .before .before .before .before .before .args .limit) (c .before .before .before .before .before .before .before .before .before .args .group) (c .before .before .before .before .before .before .before .before .before .args .ver .txid) (c .before .before .before .before .before .before .before .before .before .args .lsn) (c .before .before .before .before .before .before .before .before .before .args .ckpt) in
+    (sym (leaf-on m (length (c .before .before .before .before .before .before .before .before .before .args .a .now)) (c .before .before .before .before .before .before .before .before .before .args .next) (length (c .before .before .before .before .before .before .before .before .before .args .key .now)) (length (c .before .before .before .before .before .before .before .before .before .args .value .now)) (sym (c .before .before .before .before .before .limit-ok .ensures) ∙ not-false _ (c .before .before .before .before .if1 .left)) ∙ judged-3 _ _ _ _ _ _ (sym (c .before .before .before .arena-ok .ensures) ∙ not-false _ (c .before .before .if2 .left)) (sym (c .before .lengths-ok .ensures) ∙ not-true _ (c .if3 .taken))), refl)
+
+far-len-requires : tie.Need-far-len-requires
+far-len-requires c κs = lengths-true (length (c .before .before .before .before .before .before .before .before .before .args .key .now)) (length (c .before .before .before .before .before .before .before .before .before .args .value .now)) (sym (c .before .lengths-ok .ensures) ∙ not-false _ (c .if3 .left)) .1
+
+leaf-len-requires : tie.Need-leaf-len-requires
+leaf-len-requires c κs =
+    let l = lengths-true (length (c .before .before .before .before .before .before .before .before .before .before .args .key .now)) (length (c .before .before .before .before .before .before .before .before .before .before .args .value .now)) (sym (c .before .before .lengths-ok .ensures) ∙ not-false _ (c .before .if3 .left)) in
+    (l .0, l .1, limit-true (c .before .before .before .before .before .before .before .before .before .before .args .limit) (sym (c .before .before .before .before .before .before .limit-ok .ensures) ∙ not-false _ (c .before .before .before .before .before .if1 .left)) .1)
+
+placed-requires : tie.Need-placed-requires
+placed-requires c κs =
+    let l = lengths-true (length (c .before .before .before .before .before .before .before .before .before .before .before .args .key .now)) (length (c .before .before .before .before .before .before .before .before .before .before .before .args .value .now)) (sym (c .before .before .before .lengths-ok .ensures) ∙ not-false _ (c .before .before .if3 .left)) in (
+      arena-true (c .before .before .before .before .before .before .before .before .before .before .before .args .next) (length (c .before .before .before .before .before .before .before .before .before .before .before .args .a .now)) (sym (c .before .before .before .before .before .arena-ok .ensures) ∙ not-false _ (c .before .before .before .before .if2 .left)) .0,
+      omega (arith, c .before .far-len .ensures, far-most (c .before .before .before .before .before .before .before .before .before .before .before .args .limit) (length (c .before .before .before .before .before .before .before .before .before .before .before .args .value .now)) 0, c .leaf-len .ensures, l .1, leaf-most (c .before .before .before .before .before .before .before .before .before .before .before .args .limit) (length (c .before .before .before .before .before .before .before .before .before .before .before .args .key .now)) (length (c .before .before .before .before .before .before .before .before .before .before .before .args .value .now)) (l .0) (limit-true (c .before .before .before .before .before .before .before .before .before .before .before .args .limit) (sym (c .before .before .before .before .before .before .before .limit-ok .ensures) ∙ not-false _ (c .before .before .before .before .before .before .if1 .left)) .1)),
+    )
+
+returns-4 : tie.Need-returns-4
+returns-4 c =
+    let m = callOf (c .before .before .before .before .before .before .before .before .before .before .before .before .before .args .limit) (c .before .before .before .before .before .before .before .before .before .before .before .before .before .args .group) (c .before .before .before .before .before .before .before .before .before .before .before .before .before .args .ver .txid) (c .before .before .before .before .before .before .before .before .before .before .before .before .before .args .lsn) (c .before .before .before .before .before .before .before .before .before .before .before .before .before .args .ckpt) in
+    let h = address-zero (c .before .before .before .before .before .before .before .before .before .before .before .before .before .args .next) (length (c .before .before .before .before .before .before .before .before .before .before .before .before .before .args .a .now)) (c .before .before .before .far-len .result) (c .before .before .leaf-len .result) (c .before .placed .result) (arena-true (c .before .before .before .before .before .before .before .before .before .before .before .before .before .args .next) (length (c .before .before .before .before .before .before .before .before .before .before .before .before .before .args .a .now)) (sym (c .before .before .before .before .before .before .before .arena-ok .ensures) ∙ not-false _ (c .before .before .before .before .before .before .if2 .left)) .0) (c .before .placed .ensures) (c .if4 .taken) in
+    (sym (leaf-on m (length (c .before .before .before .before .before .before .before .before .before .before .before .before .before .args .a .now)) (c .before .before .before .before .before .before .before .before .before .before .before .before .before .args .next) (length (c .before .before .before .before .before .before .before .before .before .before .before .before .before .args .key .now)) (length (c .before .before .before .before .before .before .before .before .before .before .before .before .before .args .value .now)) (sym (c .before .before .before .before .before .before .before .before .before .limit-ok .ensures) ∙ not-false _ (c .before .before .before .before .before .before .before .before .if1 .left)) ∙ judged-9 (c .before .before .before .before .before .before .before .before .before .before .before .before .before .args .next) (length (c .before .before .before .before .before .before .before .before .before .before .before .before .before .args .a .now)) (length (c .before .before .before .before .before .before .before .before .before .before .before .before .before .args .key .now)) (length (c .before .before .before .before .before .before .before .before .before .before .before .before .before .args .value .now)) (farLen (c .before .before .before .before .before .before .before .before .before .before .before .before .before .args .limit) (length (c .before .before .before .before .before .before .before .before .before .before .before .before .before .args .value .now)) 0) (leafLen (c .before .before .before .before .before .before .before .before .before .before .before .before .before .args .limit) (length (c .before .before .before .before .before .before .before .before .before .before .before .before .before .args .key .now)) (length (c .before .before .before .before .before .before .before .before .before .before .before .before .before .args .value .now))) (sym (c .before .before .before .before .before .before .before .arena-ok .ensures) ∙ not-false _ (c .before .before .before .before .before .before .if2 .left)) (sym (c .before .before .before .before .before .lengths-ok .ensures) ∙ not-false _ (c .before .before .before .before .if3 .left)) (omega (arith, h, c .before .before .before .far-len .ensures, c .before .before .leaf-len .ensures))), refl)
+
+larger-requires : tie.Need-larger-requires
+larger-requires c κs = search needs
+
+put-far-requires : tie.Need-put-far-requires
+put-far-requires c κs =
+    let s = address-some (c .before .before .before .before .before .before .before .before .before .before .before .before .before .before .before .args .next) (length (c .before .before .before .before .before .before .before .before .before .before .before .before .before .before .before .args .a .now)) (c .before .before .before .before .before .far-len .result) (c .before .before .before .before .leaf-len .result) (c .before .before .before .placed .result) (c .before .before .before .placed .ensures) (c .before .before .if4 .left) in
+    let l = lengths-true (length (c .before .before .before .before .before .before .before .before .before .before .before .before .before .before .before .args .key .now)) (length (c .before .before .before .before .before .before .before .before .before .before .before .before .before .before .before .args .value .now)) (sym (c .before .before .before .before .before .before .before .lengths-ok .ensures) ∙ not-false _ (c .before .before .before .before .before .before .if3 .left)) in
+    let q : c .before .before .before .before .before .before .before .before .before .before .before .before .before .before .before .args .next + farLen (c .before .before .before .before .before .before .before .before .before .before .before .before .before .before .before .args .limit) (length (c .before .before .before .before .before .before .before .before .before .before .before .before .before .before .before .args .value .now)) 0 + leafLen (c .before .before .before .before .before .before .before .before .before .before .before .before .before .before .before .args .limit) (length (c .before .before .before .before .before .before .before .before .before .before .before .before .before .before .before .args .key .now)) (length (c .before .before .before .before .before .before .before .before .before .before .before .before .before .before .before .args .value .now)) ≤ length (c .before .before .before .before .before .before .before .before .before .before .before .before .before .before .before .args .a .now) = omega (arith, s .1, c .before .before .before .before .before .far-len .ensures, c .before .before .before .before .leaf-len .ensures) in
+    (l .1, leaf-far-room (record { limit = c .before .before .before .before .before .before .before .before .before .before .before .before .before .before .before .args .limit; budget = 0; group = c .before .before .before .before .before .before .before .before .before .before .before .before .before .before .before .args .group; txid = c .before .before .before .before .before .before .before .before .before .before .before .before .before .before .before .args .ver .txid; lsn = c .before .larger .result }) (c .before .before .before .before .before .before .before .before .before .before .before .before .before .before .before .args .a .now) (c .before .before .before .before .before .before .before .before .before .before .before .before .before .before .before .args .next) (c .before .before .before .before .before .before .before .before .before .before .before .before .before .before .before .args .ver) (c .before .before .before .before .before .before .before .before .before .before .before .before .before .before .before .args .key .now) (c .before .before .before .before .before .before .before .before .before .before .before .before .before .before .before .args .value .now) (c .before .before .before .before .before .before .before .before .before .before .before .before .before .before .before .args .next + farLen (c .before .before .before .before .before .before .before .before .before .before .before .before .before .before .before .args .limit) (length (c .before .before .before .before .before .before .before .before .before .before .before .before .before .before .before .args .value .now)) 0) refl q)
+
+put-leaf-requires : tie.Need-put-leaf-requires
+put-leaf-requires c κs =
+    let s = address-some (c .before .before .before .before .before .before .before .before .before .before .before .before .before .before .before .before .before .before .before .args .next) (length (c .before .before .before .before .before .before .before .before .before .before .before .before .before .before .before .before .before .before .before .args .a .now)) (c .before .before .before .before .before .before .before .before .before .far-len .result) (c .before .before .before .before .before .before .before .before .leaf-len .result) (c .before .before .before .before .before .before .before .placed .result) (c .before .before .before .before .before .before .before .placed .ensures) (c .before .before .before .before .before .before .if4 .left) in
+    let l = lengths-true (length (c .before .before .before .before .before .before .before .before .before .before .before .before .before .before .before .before .before .before .before .args .key .now)) (length (c .before .before .before .before .before .before .before .before .before .before .before .before .before .before .before .before .before .before .before .args .value .now)) (sym (c .before .before .before .before .before .before .before .before .before .before .before .lengths-ok .ensures) ∙ not-false _ (c .before .before .before .before .before .before .before .before .before .before .if3 .left)) in
+    let q : c .before .before .before .before .before .before .before .before .before .before .before .before .before .before .before .before .before .before .before .args .next + farLen (c .before .before .before .before .before .before .before .before .before .before .before .before .before .before .before .before .before .before .before .args .limit) (length (c .before .before .before .before .before .before .before .before .before .before .before .before .before .before .before .before .before .before .before .args .value .now)) 0 + leafLen (c .before .before .before .before .before .before .before .before .before .before .before .before .before .before .before .before .before .before .before .args .limit) (length (c .before .before .before .before .before .before .before .before .before .before .before .before .before .before .before .before .before .before .before .args .key .now)) (length (c .before .before .before .before .before .before .before .before .before .before .before .before .before .before .before .before .before .before .before .args .value .now)) ≤ length (c .before .before .before .before .before .before .before .before .before .before .before .before .before .before .before .before .before .before .before .args .a .now) = omega (arith, s .1, c .before .before .before .before .before .before .before .before .before .far-len .ensures, c .before .before .before .before .before .before .before .before .leaf-len .ensures) in
+    ((l .0, l .1, limit-true (c .before .before .before .before .before .before .before .before .before .before .before .before .before .before .before .before .before .before .before .args .limit) (sym (c .before .before .before .before .before .before .before .before .before .before .before .before .before .before .before .limit-ok .ensures) ∙ not-false _ (c .before .before .before .before .before .before .before .before .before .before .before .before .before .before .if1 .left)) .1), leaf-frame-room (record { limit = c .before .before .before .before .before .before .before .before .before .before .before .before .before .before .before .before .before .before .before .args .limit; budget = 0; group = c .before .before .before .before .before .before .before .before .before .before .before .before .before .before .before .before .before .before .before .args .group; txid = c .before .before .before .before .before .before .before .before .before .before .before .before .before .before .before .before .before .before .before .args .ver .txid; lsn = c .before .before .before .before .before .larger .result }) (c .before .before .before .before .before .before .before .before .before .before .before .before .before .before .before .before .before .before .before .args .a .now) (c .before .before .before .before .before .before .before .before .before .before .before .before .before .before .before .before .before .before .before .args .next) (c .before .before .before .before .before .before .before .before .before .before .before .before .before .before .before .before .before .before .before .args .ver) (c .before .before .before .before .before .before .before .before .before .before .before .before .before .before .before .before .before .before .before .args .key .now) (c .before .before .before .before .before .before .before .before .before .before .before .before .before .before .before .before .before .before .before .args .value .now) (c .before .before .before .before .before .before .before .placed .result) (s .0 ∙ ap (λ (k : ℕ). c .before .before .before .before .before .before .before .before .before .before .before .before .before .before .before .before .before .before .before .args .next + k) (c .before .before .before .before .before .before .before .before .before .far-len .ensures)) q _ (c .before .before .before .put-far .ensures))
+
+add-t19 : tie.Need-add-t19
+add-t19 c =
+    let s = address-some (c .before .before .before .before .before .before .before .before .before .before .before .before .before .before .before .before .before .before .before .before .before .before .args .next) (length (c .before .before .before .before .before .before .before .before .before .before .before .before .before .before .before .before .before .before .before .before .before .before .args .a .now)) (c .before .before .before .before .before .before .before .before .before .before .before .before .far-len .result) (c .before .before .before .before .before .before .before .before .before .before .before .leaf-len .result) (c .before .before .before .before .before .before .before .before .before .before .placed .result) (c .before .before .before .before .before .before .before .before .before .before .placed .ensures) (c .before .before .before .before .before .before .before .before .before .if4 .left) in
+    omega (arith, s .0, s .1, c .before .before .before .before .before .before .before .before .before .before .before .before .before .before .before .before .before .before .before .before .before .before .good)
+
+same-length : tie.Need-same-length
+same-length c = search needs
+
+returns-5 : tie.Need-returns-5
+returns-5 c =
+    let m = callOf (c .before .before .before .before .before .before .before .before .before .before .before .before .before .before .before .before .before .before .before .before .before .before .args .limit) (c .before .before .before .before .before .before .before .before .before .before .before .before .before .before .before .before .before .before .before .before .before .before .args .group) (c .before .before .before .before .before .before .before .before .before .before .before .before .before .before .before .before .before .before .before .before .before .before .args .ver .txid) (c .before .before .before .before .before .before .before .before .before .before .before .before .before .before .before .before .before .before .before .before .before .before .args .lsn) (c .before .before .before .before .before .before .before .before .before .before .before .before .before .before .before .before .before .before .before .before .before .before .args .ckpt) in
+    let s = address-some (c .before .before .before .before .before .before .before .before .before .before .before .before .before .before .before .before .before .before .before .before .before .before .args .next) (length (c .before .before .before .before .before .before .before .before .before .before .before .before .before .before .before .before .before .before .before .before .before .before .args .a .now)) (c .before .before .before .before .before .before .before .before .before .before .before .before .far-len .result) (c .before .before .before .before .before .before .before .before .before .before .before .leaf-len .result) (c .before .before .before .before .before .before .before .before .before .before .placed .result) (c .before .before .before .before .before .before .before .before .before .before .placed .ensures) (c .before .before .before .before .before .before .before .before .before .if4 .left) in
+    let q : c .before .before .before .before .before .before .before .before .before .before .before .before .before .before .before .before .before .before .before .before .before .before .args .next + farLen (c .before .before .before .before .before .before .before .before .before .before .before .before .before .before .before .before .before .before .before .before .before .before .args .limit) (length (c .before .before .before .before .before .before .before .before .before .before .before .before .before .before .before .before .before .before .before .before .before .before .args .value .now)) 0 + leafLen (c .before .before .before .before .before .before .before .before .before .before .before .before .before .before .before .before .before .before .before .before .before .before .args .limit) (length (c .before .before .before .before .before .before .before .before .before .before .before .before .before .before .before .before .before .before .before .before .before .before .args .key .now)) (length (c .before .before .before .before .before .before .before .before .before .before .before .before .before .before .before .before .before .before .before .before .before .before .args .value .now)) ≤ length (c .before .before .before .before .before .before .before .before .before .before .before .before .before .before .before .before .before .before .before .before .before .before .args .a .now) = omega (arith, s .1, c .before .before .before .before .before .before .before .before .before .before .before .before .far-len .ensures, c .before .before .before .before .before .before .before .before .before .before .before .leaf-len .ensures) in
+    let at : c .before .before .before .before .before .before .before .before .before .before .placed .result ≡ c .before .before .before .before .before .before .before .before .before .before .before .before .before .before .before .before .before .before .before .before .before .before .args .next + farLen (c .before .before .before .before .before .before .before .before .before .before .before .before .before .before .before .before .before .before .before .before .before .before .args .limit) (length (c .before .before .before .before .before .before .before .before .before .before .before .before .before .before .before .before .before .before .before .before .before .before .args .value .now)) 0 = s .0 ∙ ap (λ (k : ℕ). c .before .before .before .before .before .before .before .before .before .before .before .before .before .before .before .before .before .before .before .before .before .before .args .next + k) (c .before .before .before .before .before .before .before .before .before .before .before .before .far-len .ensures) in
+    (ap₂ (λ (i n : ℕ). Built.At (addr i) (i + n)) at (c .before .before .before .before .before .before .before .before .before .before .before .leaf-len .ensures) ∙ sym (leaf-on m (length (c .before .before .before .before .before .before .before .before .before .before .before .before .before .before .before .before .before .before .before .before .before .before .args .a .now)) (c .before .before .before .before .before .before .before .before .before .before .before .before .before .before .before .before .before .before .before .before .before .before .args .next) (length (c .before .before .before .before .before .before .before .before .before .before .before .before .before .before .before .before .before .before .before .before .before .before .args .key .now)) (length (c .before .before .before .before .before .before .before .before .before .before .before .before .before .before .before .before .before .before .before .before .before .before .args .value .now)) (sym (c .before .before .before .before .before .before .before .before .before .before .before .before .before .before .before .before .before .before .limit-ok .ensures) ∙ not-false _ (c .before .before .before .before .before .before .before .before .before .before .before .before .before .before .before .before .before .if1 .left)) ∙ judged-at (c .before .before .before .before .before .before .before .before .before .before .before .before .before .before .before .before .before .before .before .before .before .before .args .next) (length (c .before .before .before .before .before .before .before .before .before .before .before .before .before .before .before .before .before .before .before .before .before .before .args .a .now)) (length (c .before .before .before .before .before .before .before .before .before .before .before .before .before .before .before .before .before .before .before .before .before .before .args .key .now)) (length (c .before .before .before .before .before .before .before .before .before .before .before .before .before .before .before .before .before .before .before .before .before .before .args .value .now)) (farLen (c .before .before .before .before .before .before .before .before .before .before .before .before .before .before .before .before .before .before .before .before .before .before .args .limit) (length (c .before .before .before .before .before .before .before .before .before .before .before .before .before .before .before .before .before .before .before .before .before .before .args .value .now)) 0) (leafLen (c .before .before .before .before .before .before .before .before .before .before .before .before .before .before .before .before .before .before .before .before .before .before .args .limit) (length (c .before .before .before .before .before .before .before .before .before .before .before .before .before .before .before .before .before .before .before .before .before .before .args .key .now)) (length (c .before .before .before .before .before .before .before .before .before .before .before .before .before .before .before .before .before .before .before .before .before .before .args .value .now))) (sym (c .before .before .before .before .before .before .before .before .before .before .before .before .before .before .before .before .arena-ok .ensures) ∙ not-false _ (c .before .before .before .before .before .before .before .before .before .before .before .before .before .before .before .if2 .left)) (sym (c .before .before .before .before .before .before .before .before .before .before .before .before .before .before .lengths-ok .ensures) ∙ not-false _ (c .before .before .before .before .before .before .before .before .before .before .before .before .before .if3 .left)) q), rw (← c .before .before .before .before .before .before .before .before .larger .ensures) (leaf-stored (record { limit = c .before .before .before .before .before .before .before .before .before .before .before .before .before .before .before .before .before .before .before .before .before .before .args .limit; budget = 0; group = c .before .before .before .before .before .before .before .before .before .before .before .before .before .before .before .before .before .before .before .before .before .before .args .group; txid = c .before .before .before .before .before .before .before .before .before .before .before .before .before .before .before .before .before .before .before .before .before .before .args .ver .txid; lsn = c .before .before .before .before .before .before .before .before .larger .result }) (c .before .before .before .before .before .before .before .before .before .before .before .before .before .before .before .before .before .before .before .before .before .before .args .a .now) (c .before .before .before .before .before .before .before .before .before .before .before .before .before .before .before .before .before .before .before .before .before .before .args .next) (c .before .before .before .before .before .before .before .before .before .before .before .before .before .before .before .before .before .before .before .before .before .before .args .ver) (c .before .before .before .before .before .before .before .before .before .before .before .before .before .before .before .before .before .before .before .before .before .before .args .key .now) (c .before .before .before .before .before .before .before .before .before .before .before .before .before .before .before .before .before .before .before .before .before .before .args .value .now) (c .before .before .before .before .before .before .before .before .before .before .placed .result) at q _ _ (c .before .before .before .before .before .before .put-far .ensures) (c .before .before .put-leaf .ensures)))
+
+pub from-key-val-spec : {M : Type 1} → statement M
+from-key-val-spec =
+    tie.close
+    (tie.spec
+    limit-ok-requires
+    returns
+    arena-ok-requires
+    returns-2
+    lengths-ok-requires
+    returns-3
+    far-len-requires
+    leaf-len-requires
+    placed-requires
+    returns-4
+    larger-requires
+    put-far-requires
+    put-leaf-requires
+    add-t19
+    same-length
+    returns-5)

@@ -1,0 +1,13 @@
+use mathlib.Core.Path.{refl}
+use Rattle.delta.specs.Built.{lengthsOk}
+use Rattle.delta.proofs.lengths_ok.Statement.{statement}
+use Rattle.delta.proofs.lengths_ok.Tie as tie
+use Rattle.delta.proofs.lengths_ok.Reads as reads
+use Rattle.delta.proofs.lengths_ok.Lts as lts
+
+returns : tie.Need-returns
+unfolding lengthsOk
+returns c = refl
+
+pub lengths-ok-spec : {M : Type 1} → statement M
+lengths-ok-spec = tie.close (tie.spec returns)

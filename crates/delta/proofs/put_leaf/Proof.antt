@@ -1,0 +1,137 @@
+use native.Mathlib.Omega.{arith}
+use Prim.Native.Nat.{ℕ, suc, _+_, _*_, _-_, _/_, _≤_, _<_}
+use mathlib.Core.Path.{_≡_, refl, sym, ap, _∙_}
+use mathlib.Core.Bool.{Bool, true, false}
+use mathlib.Core.List.{List}
+use denote.Ref.{now}
+use lib.ListN.{length, getD, take, drop}
+use lib.Dec.{leb, ltb, eqb}
+use borrow.Author.Tests.{le-leb, lt-leb, le-ltb, lt-ltb, eq-eqb, ne-eqb, leb-true}
+use borrow.Author.Tests.{eqb-true}
+use mathlib.Core.List.{_++_}
+use lib.Seq.{length-take-le}
+use Rattle.spans.specs.Span.{put, Stored}
+use Rattle.spans.proofs.Put.{stored-bytes, stored-count, put-chain, put-nil}
+use Rattle.numbers.specs.Number.{le}
+use Rattle.numbers.proofs.Numbers.{length-le}
+use Rattle.lengths.specs.Leb128.{uleb}
+use Rattle.lengths.proofs.Laws.{uleb-few}
+use Rattle.frames.specs.Layout.{boxLen, frameLen, deltaAt}
+use Rattle.frames.proofs.Frames.{DeltaInside, delta-inside}
+use Rattle.values.specs.declared.HistRef.{HistRef}
+use Rattle.values.specs.Keys.{leafKey, indexKey, keyAt}
+use Rattle.values.specs.Vals.{noHist, inlineBytes, remoteBytes, sizeOf, valAt}
+use Rattle.records.specs.Records.{valOf}
+use Rattle.records.proofs.Places.{key-place, inline-place, remote-place}
+use Rattle.image.specs.Image.{remoteFrame, boxOf}
+use Rattle.image.specs.Sizes.{farLen}
+use Rattle.image.proofs.Lengths.{size-some, far-most}
+use Rattle.delta.specs.Deltas.{larger, callOf, valueOf, farOf, deltaHead, deltaFrame, leafFrame, indexFrame, leafDelta, leafKeyLen, indexKeyLen, leafLen, indexLen}
+use Rattle.delta.specs.Built.{limitOk, arenaOk, lengthsOk, addressOr, judged, leafBuilt, indexBuilt}
+use Rattle.delta.specs.Read.{deltaIs, keyIn, leafKeyAt, indexKeyAt, valueTo, valIn, valueAt, childAt}
+use Rattle.delta.proofs.Lengths.{length-value, length-far, length-leaf-key, length-index-key, leaf-key-most, index-key-most, leaf-most, index-most}
+use Rattle.delta.proofs.Straight.{far-room, far-size-room, far-copy-room, far-zeros-room, far-end, head-end, frame-head-room, frame-key-room, frame-val-room, frame-fits, frame-zeros-room, frame-end}
+use Rattle.delta.proofs.Verdict.{limit-true, arena-true, lengths-true, placed-none, placed-is, address-some, address-zero, judged-2, judged-3, judged-9, judged-at, leaf-1, leaf-on, index-is, leaf-far-room, leaf-frame-room, leaf-stored, index-frame-room}
+use borrow.Author.Needs.{needs}
+use Rattle.delta.proofs.put_leaf.Statement.{statement}
+use Rattle.delta.proofs.put_leaf.Tie as tie
+use Rattle.delta.proofs.put_leaf.Reads as reads
+use Rattle.delta.proofs.put_leaf.Lts as lts
+use Rattle.delta.proofs.leaf_key_len.Reads as leaf-key-len-reads
+use Rattle.delta.proofs.put_head.Reads as put-head-reads
+use Rattle.delta.proofs.put_value.Reads as put-value-reads
+use Rattle.frames.proofs.frame_len.Reads as frame-len-reads
+use Rattle.spans.proofs.zeros.Reads as zeros-reads
+use Rattle.values.proofs.Val.calc_size.Reads as calc-size-reads
+use Rattle.values.proofs.write_leaf_key.Reads as write-leaf-key-reads
+
+leaf-key-len-requires : tie.Need-leaf-key-len-requires
+leaf-key-len-requires c κs = search needs
+
+cast-calc-size : tie.Need-cast-calc-size
+cast-calc-size c = search needs
+
+calc-size-requires : tie.Need-calc-size-requires
+calc-size-requires c κs = search needs
+
+add-frame-len : tie.Need-add-frame-len
+add-frame-len c = omega (arith, c .before .leaf-key-len .ensures, leaf-key-most (length (c .before .before .before .before .before .args .key .now)), c .calc-size .ensures, size-some (c .before .before .before .before .before .args .m .limit) (length (c .before .before .before .before .before .args .v .now)) .1)
+
+add-frame-len-2 : tie.Need-add-frame-len-2
+add-frame-len-2 c = omega (arith, c .before .leaf-key-len .ensures, leaf-key-most (length (c .before .before .before .before .before .args .key .now)), c .calc-size .ensures, size-some (c .before .before .before .before .before .args .m .limit) (length (c .before .before .before .before .before .args .v .now)) .1)
+
+cast-frame-len : tie.Need-cast-frame-len
+cast-frame-len c = omega (arith, c .before .leaf-key-len .ensures, leaf-key-most (length (c .before .before .before .before .before .args .key .now)), c .calc-size .ensures, size-some (c .before .before .before .before .before .args .m .limit) (length (c .before .before .before .before .before .args .v .now)) .1)
+
+frame-len-requires : tie.Need-frame-len-requires
+frame-len-requires c κs = search needs
+
+add-z : tie.Need-add-z
+add-z c = search needs
+
+add-z-2 : tie.Need-add-z-2
+add-z-2 c = search needs
+
+add-z-3 : tie.Need-add-z-3
+add-z-3 c = search needs
+
+sub-z : tie.Need-sub-z
+sub-z c = search needs
+
+put-head-requires : tie.Need-put-head-requires
+unfolding leafFrame
+put-head-requires c κs = (frame-head-room (c .before .before .before .before .before .before .before .args .a .now) (c .before .before .before .before .before .before .before .args .at) (c .before .before .before .before .before .before .before .args .m) 1 (leafKey (c .before .before .before .before .before .before .before .args .ver) (c .before .before .before .before .before .before .before .args .key .now)) (valueOf (c .before .before .before .before .before .before .before .args .m .limit) (c .before .before .before .before .before .before .before .args .far) (c .before .before .before .before .before .before .before .args .v .now)) _ _ (length-leaf-key (c .before .before .before .before .before .before .before .args .ver) (c .before .before .before .before .before .before .before .args .key .now) ∙ sym (c .before .before .before .leaf-key-len .ensures)) (length-value (c .before .before .before .before .before .before .before .args .m .limit) (c .before .before .before .before .before .before .before .args .far) (c .before .before .before .before .before .before .before .args .v .now) ∙ sym (c .before .before .calc-size .ensures)) (c .before .before .before .before .before .before .before .pre .1) _ (c .before .frame-len .ensures), omega (arith, c .before .before .before .leaf-key-len .ensures, leaf-key-most (length (c .before .before .before .before .before .before .before .args .key .now)), c .before .before .calc-size .ensures, size-some (c .before .before .before .before .before .before .before .args .m .limit) (length (c .before .before .before .before .before .before .before .args .v .now)) .1))
+
+add-p : tie.Need-add-p
+add-p c = search needs
+
+write-leaf-key-requires : tie.Need-write-leaf-key-requires
+write-leaf-key-requires c κs = search needs
+
+add-q : tie.Need-add-q
+unfolding leafFrame
+add-q c = omega (arith, frame-fits (c .before .before .before .before .before .before .before .before .before .before .before .before .before .before .args .a .now) (c .before .before .before .before .before .before .before .before .before .before .before .before .before .before .args .at) (c .before .before .before .before .before .before .before .before .before .before .before .before .before .before .args .m) 1 (leafKey (c .before .before .before .before .before .before .before .before .before .before .before .before .before .before .args .ver) (c .before .before .before .before .before .before .before .before .before .before .before .before .before .before .args .key .now)) (valueOf (c .before .before .before .before .before .before .before .before .before .before .before .before .before .before .args .m .limit) (c .before .before .before .before .before .before .before .before .before .before .before .before .before .before .args .far) (c .before .before .before .before .before .before .before .before .before .before .before .before .before .before .args .v .now)) _ _ (length-leaf-key (c .before .before .before .before .before .before .before .before .before .before .before .before .before .before .args .ver) (c .before .before .before .before .before .before .before .before .before .before .before .before .before .before .args .key .now) ∙ sym (c .before .before .before .before .before .before .before .before .before .before .leaf-key-len .ensures)) (length-value (c .before .before .before .before .before .before .before .before .before .before .before .before .before .before .args .m .limit) (c .before .before .before .before .before .before .before .before .before .before .before .before .before .before .args .far) (c .before .before .before .before .before .before .before .before .before .before .before .before .before .before .args .v .now) ∙ sym (c .before .before .before .before .before .before .before .before .before .calc-size .ensures)) (c .before .before .before .before .before .before .before .before .before .before .before .before .before .before .pre .1) _ (c .before .before .before .before .before .before .before .before .frame-len .ensures) _ (c .before .before .before .before .before .before .put-head .ensures) _ (stored-bytes _ _ _ _ _ _ (c .before .before .write-leaf-key .ensures) (le-leb _ _ (c .before .before .before .before .before .before .before .before .before .before .before .before .before .before .pre .0 .0)) (frame-key-room (c .before .before .before .before .before .before .before .before .before .before .before .before .before .before .args .a .now) (c .before .before .before .before .before .before .before .before .before .before .before .before .before .before .args .at) (c .before .before .before .before .before .before .before .before .before .before .before .before .before .before .args .m) 1 (leafKey (c .before .before .before .before .before .before .before .before .before .before .before .before .before .before .args .ver) (c .before .before .before .before .before .before .before .before .before .before .before .before .before .before .args .key .now)) (valueOf (c .before .before .before .before .before .before .before .before .before .before .before .before .before .before .args .m .limit) (c .before .before .before .before .before .before .before .before .before .before .before .before .before .before .args .far) (c .before .before .before .before .before .before .before .before .before .before .before .before .before .before .args .v .now)) _ _ (length-leaf-key (c .before .before .before .before .before .before .before .before .before .before .before .before .before .before .args .ver) (c .before .before .before .before .before .before .before .before .before .before .before .before .before .before .args .key .now) ∙ sym (c .before .before .before .before .before .before .before .before .before .before .leaf-key-len .ensures)) (length-value (c .before .before .before .before .before .before .before .before .before .before .before .before .before .before .args .m .limit) (c .before .before .before .before .before .before .before .before .before .before .before .before .before .before .args .far) (c .before .before .before .before .before .before .before .before .before .before .before .before .before .before .args .v .now) ∙ sym (c .before .before .before .before .before .before .before .before .before .calc-size .ensures)) (c .before .before .before .before .before .before .before .before .before .before .before .before .before .before .pre .1) _ (c .before .before .before .before .before .before .before .before .frame-len .ensures) _ (c .before .before .before .before .before .before .put-head .ensures))), c .before .before .before .before .before .before .before .before .before .before .before .before .before .before .good)
+
+put-value-requires : tie.Need-put-value-requires
+unfolding leafFrame
+put-value-requires c κs = (c .before .before .before .before .before .before .before .before .before .before .before .before .before .before .before .pre .0 .1, frame-val-room (c .before .before .before .before .before .before .before .before .before .before .before .before .before .before .before .args .a .now) (c .before .before .before .before .before .before .before .before .before .before .before .before .before .before .before .args .at) (c .before .before .before .before .before .before .before .before .before .before .before .before .before .before .before .args .m) 1 (leafKey (c .before .before .before .before .before .before .before .before .before .before .before .before .before .before .before .args .ver) (c .before .before .before .before .before .before .before .before .before .before .before .before .before .before .before .args .key .now)) (valueOf (c .before .before .before .before .before .before .before .before .before .before .before .before .before .before .before .args .m .limit) (c .before .before .before .before .before .before .before .before .before .before .before .before .before .before .before .args .far) (c .before .before .before .before .before .before .before .before .before .before .before .before .before .before .before .args .v .now)) _ _ (length-leaf-key (c .before .before .before .before .before .before .before .before .before .before .before .before .before .before .before .args .ver) (c .before .before .before .before .before .before .before .before .before .before .before .before .before .before .before .args .key .now) ∙ sym (c .before .before .before .before .before .before .before .before .before .before .before .leaf-key-len .ensures)) (length-value (c .before .before .before .before .before .before .before .before .before .before .before .before .before .before .before .args .m .limit) (c .before .before .before .before .before .before .before .before .before .before .before .before .before .before .before .args .far) (c .before .before .before .before .before .before .before .before .before .before .before .before .before .before .before .args .v .now) ∙ sym (c .before .before .before .before .before .before .before .before .before .before .calc-size .ensures)) (c .before .before .before .before .before .before .before .before .before .before .before .before .before .before .before .pre .1) _ (c .before .before .before .before .before .before .before .before .before .frame-len .ensures) _ (c .before .before .before .before .before .before .before .put-head .ensures) _ (stored-bytes _ _ _ _ _ _ (c .before .before .before .write-leaf-key .ensures) (le-leb _ _ (c .before .before .before .before .before .before .before .before .before .before .before .before .before .before .before .pre .0 .0)) (frame-key-room (c .before .before .before .before .before .before .before .before .before .before .before .before .before .before .before .args .a .now) (c .before .before .before .before .before .before .before .before .before .before .before .before .before .before .before .args .at) (c .before .before .before .before .before .before .before .before .before .before .before .before .before .before .before .args .m) 1 (leafKey (c .before .before .before .before .before .before .before .before .before .before .before .before .before .before .before .args .ver) (c .before .before .before .before .before .before .before .before .before .before .before .before .before .before .before .args .key .now)) (valueOf (c .before .before .before .before .before .before .before .before .before .before .before .before .before .before .before .args .m .limit) (c .before .before .before .before .before .before .before .before .before .before .before .before .before .before .before .args .far) (c .before .before .before .before .before .before .before .before .before .before .before .before .before .before .before .args .v .now)) _ _ (length-leaf-key (c .before .before .before .before .before .before .before .before .before .before .before .before .before .before .before .args .ver) (c .before .before .before .before .before .before .before .before .before .before .before .before .before .before .before .args .key .now) ∙ sym (c .before .before .before .before .before .before .before .before .before .before .before .leaf-key-len .ensures)) (length-value (c .before .before .before .before .before .before .before .before .before .before .before .before .before .before .before .args .m .limit) (c .before .before .before .before .before .before .before .before .before .before .before .before .before .before .before .args .far) (c .before .before .before .before .before .before .before .before .before .before .before .before .before .before .before .args .v .now) ∙ sym (c .before .before .before .before .before .before .before .before .before .before .calc-size .ensures)) (c .before .before .before .before .before .before .before .before .before .before .before .before .before .before .before .pre .1) _ (c .before .before .before .before .before .before .before .before .before .frame-len .ensures) _ (c .before .before .before .before .before .before .before .put-head .ensures))))
+
+add-e : tie.Need-add-e
+unfolding leafFrame
+add-e c = omega (arith, frame-fits (c .before .before .before .before .before .before .before .before .before .before .before .before .before .before .before .before .before .before .args .a .now) (c .before .before .before .before .before .before .before .before .before .before .before .before .before .before .before .before .before .before .args .at) (c .before .before .before .before .before .before .before .before .before .before .before .before .before .before .before .before .before .before .args .m) 1 (leafKey (c .before .before .before .before .before .before .before .before .before .before .before .before .before .before .before .before .before .before .args .ver) (c .before .before .before .before .before .before .before .before .before .before .before .before .before .before .before .before .before .before .args .key .now)) (valueOf (c .before .before .before .before .before .before .before .before .before .before .before .before .before .before .before .before .before .before .args .m .limit) (c .before .before .before .before .before .before .before .before .before .before .before .before .before .before .before .before .before .before .args .far) (c .before .before .before .before .before .before .before .before .before .before .before .before .before .before .before .before .before .before .args .v .now)) _ _ (length-leaf-key (c .before .before .before .before .before .before .before .before .before .before .before .before .before .before .before .before .before .before .args .ver) (c .before .before .before .before .before .before .before .before .before .before .before .before .before .before .before .before .before .before .args .key .now) ∙ sym (c .before .before .before .before .before .before .before .before .before .before .before .before .before .before .leaf-key-len .ensures)) (length-value (c .before .before .before .before .before .before .before .before .before .before .before .before .before .before .before .before .before .before .args .m .limit) (c .before .before .before .before .before .before .before .before .before .before .before .before .before .before .before .before .before .before .args .far) (c .before .before .before .before .before .before .before .before .before .before .before .before .before .before .before .before .before .before .args .v .now) ∙ sym (c .before .before .before .before .before .before .before .before .before .before .before .before .before .calc-size .ensures)) (c .before .before .before .before .before .before .before .before .before .before .before .before .before .before .before .before .before .before .pre .1) _ (c .before .before .before .before .before .before .before .before .before .before .before .before .frame-len .ensures) _ (c .before .before .before .before .before .before .before .before .before .before .put-head .ensures) _ (stored-bytes _ _ _ _ _ _ (c .before .before .before .before .before .before .write-leaf-key .ensures) (le-leb _ _ (c .before .before .before .before .before .before .before .before .before .before .before .before .before .before .before .before .before .before .pre .0 .0)) (frame-key-room (c .before .before .before .before .before .before .before .before .before .before .before .before .before .before .before .before .before .before .args .a .now) (c .before .before .before .before .before .before .before .before .before .before .before .before .before .before .before .before .before .before .args .at) (c .before .before .before .before .before .before .before .before .before .before .before .before .before .before .before .before .before .before .args .m) 1 (leafKey (c .before .before .before .before .before .before .before .before .before .before .before .before .before .before .before .before .before .before .args .ver) (c .before .before .before .before .before .before .before .before .before .before .before .before .before .before .before .before .before .before .args .key .now)) (valueOf (c .before .before .before .before .before .before .before .before .before .before .before .before .before .before .before .before .before .before .args .m .limit) (c .before .before .before .before .before .before .before .before .before .before .before .before .before .before .before .before .before .before .args .far) (c .before .before .before .before .before .before .before .before .before .before .before .before .before .before .before .before .before .before .args .v .now)) _ _ (length-leaf-key (c .before .before .before .before .before .before .before .before .before .before .before .before .before .before .before .before .before .before .args .ver) (c .before .before .before .before .before .before .before .before .before .before .before .before .before .before .before .before .before .before .args .key .now) ∙ sym (c .before .before .before .before .before .before .before .before .before .before .before .before .before .before .leaf-key-len .ensures)) (length-value (c .before .before .before .before .before .before .before .before .before .before .before .before .before .before .before .before .before .before .args .m .limit) (c .before .before .before .before .before .before .before .before .before .before .before .before .before .before .before .before .before .before .args .far) (c .before .before .before .before .before .before .before .before .before .before .before .before .before .before .before .before .before .before .args .v .now) ∙ sym (c .before .before .before .before .before .before .before .before .before .before .before .before .before .calc-size .ensures)) (c .before .before .before .before .before .before .before .before .before .before .before .before .before .before .before .before .before .before .pre .1) _ (c .before .before .before .before .before .before .before .before .before .before .before .before .frame-len .ensures) _ (c .before .before .before .before .before .before .before .before .before .before .put-head .ensures))), c .before .before .before .before .before .before .before .before .before .before .before .before .before .before .before .before .before .before .good)
+
+zeros-requires : tie.Need-zeros-requires
+unfolding leafFrame
+zeros-requires c κs = frame-zeros-room (c .before .before .before .before .before .before .before .before .before .before .before .before .before .before .before .before .before .before .before .args .a .now) (c .before .before .before .before .before .before .before .before .before .before .before .before .before .before .before .before .before .before .before .args .at) (c .before .before .before .before .before .before .before .before .before .before .before .before .before .before .before .before .before .before .before .args .m) 1 (leafKey (c .before .before .before .before .before .before .before .before .before .before .before .before .before .before .before .before .before .before .before .args .ver) (c .before .before .before .before .before .before .before .before .before .before .before .before .before .before .before .before .before .before .before .args .key .now)) (valueOf (c .before .before .before .before .before .before .before .before .before .before .before .before .before .before .before .before .before .before .before .args .m .limit) (c .before .before .before .before .before .before .before .before .before .before .before .before .before .before .before .before .before .before .before .args .far) (c .before .before .before .before .before .before .before .before .before .before .before .before .before .before .before .before .before .before .before .args .v .now)) _ _ (length-leaf-key (c .before .before .before .before .before .before .before .before .before .before .before .before .before .before .before .before .before .before .before .args .ver) (c .before .before .before .before .before .before .before .before .before .before .before .before .before .before .before .before .before .before .before .args .key .now) ∙ sym (c .before .before .before .before .before .before .before .before .before .before .before .before .before .before .before .leaf-key-len .ensures)) (length-value (c .before .before .before .before .before .before .before .before .before .before .before .before .before .before .before .before .before .before .before .args .m .limit) (c .before .before .before .before .before .before .before .before .before .before .before .before .before .before .before .before .before .before .before .args .far) (c .before .before .before .before .before .before .before .before .before .before .before .before .before .before .before .before .before .before .before .args .v .now) ∙ sym (c .before .before .before .before .before .before .before .before .before .before .before .before .before .before .calc-size .ensures)) (c .before .before .before .before .before .before .before .before .before .before .before .before .before .before .before .before .before .before .before .pre .1) _ (c .before .before .before .before .before .before .before .before .before .before .before .before .before .frame-len .ensures) _ (c .before .before .before .before .before .before .before .before .before .before .before .put-head .ensures) _ (stored-bytes _ _ _ _ _ _ (c .before .before .before .before .before .before .before .write-leaf-key .ensures) (le-leb _ _ (c .before .before .before .before .before .before .before .before .before .before .before .before .before .before .before .before .before .before .before .pre .0 .0)) (frame-key-room (c .before .before .before .before .before .before .before .before .before .before .before .before .before .before .before .before .before .before .before .args .a .now) (c .before .before .before .before .before .before .before .before .before .before .before .before .before .before .before .before .before .before .before .args .at) (c .before .before .before .before .before .before .before .before .before .before .before .before .before .before .before .before .before .before .before .args .m) 1 (leafKey (c .before .before .before .before .before .before .before .before .before .before .before .before .before .before .before .before .before .before .before .args .ver) (c .before .before .before .before .before .before .before .before .before .before .before .before .before .before .before .before .before .before .before .args .key .now)) (valueOf (c .before .before .before .before .before .before .before .before .before .before .before .before .before .before .before .before .before .before .before .args .m .limit) (c .before .before .before .before .before .before .before .before .before .before .before .before .before .before .before .before .before .before .before .args .far) (c .before .before .before .before .before .before .before .before .before .before .before .before .before .before .before .before .before .before .before .args .v .now)) _ _ (length-leaf-key (c .before .before .before .before .before .before .before .before .before .before .before .before .before .before .before .before .before .before .before .args .ver) (c .before .before .before .before .before .before .before .before .before .before .before .before .before .before .before .before .before .before .before .args .key .now) ∙ sym (c .before .before .before .before .before .before .before .before .before .before .before .before .before .before .before .leaf-key-len .ensures)) (length-value (c .before .before .before .before .before .before .before .before .before .before .before .before .before .before .before .before .before .before .before .args .m .limit) (c .before .before .before .before .before .before .before .before .before .before .before .before .before .before .before .before .before .before .before .args .far) (c .before .before .before .before .before .before .before .before .before .before .before .before .before .before .before .before .before .before .before .args .v .now) ∙ sym (c .before .before .before .before .before .before .before .before .before .before .before .before .before .before .calc-size .ensures)) (c .before .before .before .before .before .before .before .before .before .before .before .before .before .before .before .before .before .before .before .pre .1) _ (c .before .before .before .before .before .before .before .before .before .before .before .before .before .frame-len .ensures) _ (c .before .before .before .before .before .before .before .before .before .before .before .put-head .ensures))) _ (c .before .before .before .put-value .ensures)
+
+same-length : tie.Need-same-length
+same-length c = search needs
+
+returns : tie.Need-returns
+unfolding leafFrame
+returns c = frame-end (c .before .before .before .before .before .before .before .before .before .before .before .before .before .before .before .before .before .before .before .before .before .before .args .a .now) (c .before .before .before .before .before .before .before .before .before .before .before .before .before .before .before .before .before .before .before .before .before .before .args .at) (c .before .before .before .before .before .before .before .before .before .before .before .before .before .before .before .before .before .before .before .before .before .before .args .m) 1 (leafKey (c .before .before .before .before .before .before .before .before .before .before .before .before .before .before .before .before .before .before .before .before .before .before .args .ver) (c .before .before .before .before .before .before .before .before .before .before .before .before .before .before .before .before .before .before .before .before .before .before .args .key .now)) (valueOf (c .before .before .before .before .before .before .before .before .before .before .before .before .before .before .before .before .before .before .before .before .before .before .args .m .limit) (c .before .before .before .before .before .before .before .before .before .before .before .before .before .before .before .before .before .before .before .before .before .before .args .far) (c .before .before .before .before .before .before .before .before .before .before .before .before .before .before .before .before .before .before .before .before .before .before .args .v .now)) _ _ (length-leaf-key (c .before .before .before .before .before .before .before .before .before .before .before .before .before .before .before .before .before .before .before .before .before .before .args .ver) (c .before .before .before .before .before .before .before .before .before .before .before .before .before .before .before .before .before .before .before .before .before .before .args .key .now) ∙ sym (c .before .before .before .before .before .before .before .before .before .before .before .before .before .before .before .before .before .before .leaf-key-len .ensures)) (length-value (c .before .before .before .before .before .before .before .before .before .before .before .before .before .before .before .before .before .before .before .before .before .before .args .m .limit) (c .before .before .before .before .before .before .before .before .before .before .before .before .before .before .before .before .before .before .before .before .before .before .args .far) (c .before .before .before .before .before .before .before .before .before .before .before .before .before .before .before .before .before .before .before .before .before .before .args .v .now) ∙ sym (c .before .before .before .before .before .before .before .before .before .before .before .before .before .before .before .before .before .calc-size .ensures)) (c .before .before .before .before .before .before .before .before .before .before .before .before .before .before .before .before .before .before .before .before .before .before .pre .1) _ (c .before .before .before .before .before .before .before .before .before .before .before .before .before .before .before .before .frame-len .ensures) _ (c .before .before .before .before .before .before .before .before .before .before .before .before .before .before .put-head .ensures) _ (stored-bytes _ _ _ _ _ _ (c .before .before .before .before .before .before .before .before .before .before .write-leaf-key .ensures) (le-leb _ _ (c .before .before .before .before .before .before .before .before .before .before .before .before .before .before .before .before .before .before .before .before .before .before .pre .0 .0)) (frame-key-room (c .before .before .before .before .before .before .before .before .before .before .before .before .before .before .before .before .before .before .before .before .before .before .args .a .now) (c .before .before .before .before .before .before .before .before .before .before .before .before .before .before .before .before .before .before .before .before .before .before .args .at) (c .before .before .before .before .before .before .before .before .before .before .before .before .before .before .before .before .before .before .before .before .before .before .args .m) 1 (leafKey (c .before .before .before .before .before .before .before .before .before .before .before .before .before .before .before .before .before .before .before .before .before .before .args .ver) (c .before .before .before .before .before .before .before .before .before .before .before .before .before .before .before .before .before .before .before .before .before .before .args .key .now)) (valueOf (c .before .before .before .before .before .before .before .before .before .before .before .before .before .before .before .before .before .before .before .before .before .before .args .m .limit) (c .before .before .before .before .before .before .before .before .before .before .before .before .before .before .before .before .before .before .before .before .before .before .args .far) (c .before .before .before .before .before .before .before .before .before .before .before .before .before .before .before .before .before .before .before .before .before .before .args .v .now)) _ _ (length-leaf-key (c .before .before .before .before .before .before .before .before .before .before .before .before .before .before .before .before .before .before .before .before .before .before .args .ver) (c .before .before .before .before .before .before .before .before .before .before .before .before .before .before .before .before .before .before .before .before .before .before .args .key .now) ∙ sym (c .before .before .before .before .before .before .before .before .before .before .before .before .before .before .before .before .before .before .leaf-key-len .ensures)) (length-value (c .before .before .before .before .before .before .before .before .before .before .before .before .before .before .before .before .before .before .before .before .before .before .args .m .limit) (c .before .before .before .before .before .before .before .before .before .before .before .before .before .before .before .before .before .before .before .before .before .before .args .far) (c .before .before .before .before .before .before .before .before .before .before .before .before .before .before .before .before .before .before .before .before .before .before .args .v .now) ∙ sym (c .before .before .before .before .before .before .before .before .before .before .before .before .before .before .before .before .before .calc-size .ensures)) (c .before .before .before .before .before .before .before .before .before .before .before .before .before .before .before .before .before .before .before .before .before .before .pre .1) _ (c .before .before .before .before .before .before .before .before .before .before .before .before .before .before .before .before .frame-len .ensures) _ (c .before .before .before .before .before .before .before .before .before .before .before .before .before .before .put-head .ensures))) _ (c .before .before .before .before .before .before .put-value .ensures) _ (c .before .before .zeros .ensures)
+
+pub put-leaf-spec : {M : Type 1} → statement M
+put-leaf-spec =
+    tie.close
+    (tie.spec
+    leaf-key-len-requires
+    cast-calc-size
+    calc-size-requires
+    add-frame-len
+    add-frame-len-2
+    cast-frame-len
+    frame-len-requires
+    add-z
+    add-z-2
+    add-z-3
+    sub-z
+    put-head-requires
+    add-p
+    write-leaf-key-requires
+    add-q
+    put-value-requires
+    add-e
+    zeros-requires
+    same-length
+    returns)

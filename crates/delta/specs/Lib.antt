@@ -1,0 +1,4 @@
+pub mod Deltas
+pub mod Built
+pub mod Read
+pub mod Refused

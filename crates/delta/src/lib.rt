@@ -1,0 +1,481 @@
+// Deltas: one change of a page as a frame of its own. A leaf delta holds a key with its version and a value, an index delta a key and a
+// page id. A call judges its input, then stores all its frames, the remote frame first; readers take any buffer and any address.
+use frames::Addr;
+use frames::BoxHeader;
+use frames::Delta;
+use frames::DeltaRead;
+use frames::PageId;
+use frames::Refusal;
+use frames::RemoteRead;
+use image::Call;
+use order::Ver;
+use pages::Place;
+use values::HistRef;
+use values::KeyRead;
+use values::Val;
+ghost use mathlib.Core.Path.{_≡_};
+ghost use mathlib.Core.Bool.{true, cond};
+ghost use Prim.Native.Nat.{_+_, _≤_, _<_};
+ghost use lib.Dec.{leb};
+ghost use lib.ListN.{length};
+ghost use Rattle.spans.specs.Span.{put};
+ghost use Rattle.frames.specs.Layout.{frameLen};
+ghost use Rattle.image.specs.Image.{remoteFrame};
+ghost use Rattle.delta.specs.Deltas.{larger, callOf, valueOf, farOf, deltaHead, leafFrame, indexFrame, leafDelta, leafKeyLen, indexKeyLen, leafLen, indexLen};
+ghost use Rattle.delta.specs.Built.{limitOk, arenaOk, lengthsOk, addressOr, leafBuilt, indexBuilt, afterwards};
+ghost use Rattle.delta.specs.Read.{deltaIs, keyIn, leafKeyAt, indexKeyAt, valueTo, valIn, valueAt, childAt};
+
+// Where a delta stands, and the next free address; or why it is refused.
+pub enum Built {
+    At(Addr, usize),
+    Refused(Refusal),
+}
+
+// ---- judging
+
+// "inline limit not 1..65,536" is 1.
+fn limit_ok(limit: usize) -> bool
+    ensures { λ r. ⌜ r ≡ limitOk limit ⌝ }
+{
+    (1 <= limit) & (limit <= 65536)
+}
+
+// "next free address below 8, not a multiple of 8, or above the arena's length" is 2.
+fn arena_ok(next: usize, len: usize) -> bool
+    ensures { λ r. ⌜ r ≡ arenaOk next len ⌝ }
+{
+    (8 <= next) & (next % 8 == 0) & (next <= len)
+}
+
+// "A delta's key and value over their limits are 3".
+fn lengths_ok(key: usize, value: usize) -> bool
+    ensures { λ r. ⌜ r ≡ lengthsOk key value ⌝ }
+{
+    (key <= 4096) & (value <= 65536)
+}
+
+fn larger(a: u64, b: u64) -> u64
+    ensures { λ r. ⌜ r ≡ larger a b ⌝ }
+{
+    if a < b { b } else { a }
+}
+
+// A leaf key's encoded size.
+fn leaf_key_len(n: usize) -> usize
+    requires { ⌜ n ≤ 4096 ⌝ }
+    ensures { λ r. ⌜ r ≡ leafKeyLen n ⌝ }
+{
+    lengths::size((12 + n) as u32) + 12 + n
+}
+
+// An index key's.
+fn index_key_len(n: usize) -> usize
+    requires { ⌜ n ≤ 4096 ⌝ }
+    ensures { λ r. ⌜ r ≡ indexKeyLen n ⌝ }
+{
+    lengths::size(n as u32) + n
+}
+
+// A leaf delta's frame, rounded.
+fn leaf_len(limit: usize, key: usize, value: usize) -> usize
+    requires { ⌜ (key ≤ 4096) × (value ≤ 65536) × (limit ≤ 65536) ⌝ }
+    ensures { λ r. ⌜ r ≡ leafLen limit key value ⌝ }
+{
+    let k = leaf_key_len(key);
+    let v = Val::calc_size(false, limit, value as u32);
+    frames::frame_len((8 + k + v) as u32)
+}
+
+// An index delta's frame, rounded.
+fn index_len(key: usize) -> usize
+    requires { ⌜ key ≤ 4096 ⌝ }
+    ensures { λ r. ⌜ r ≡ indexLen key ⌝ }
+{
+    let k = index_key_len(key);
+    frames::frame_len((8 + k + 8) as u32)
+}
+
+// A delta's address behind its remote frame; 0 where the clerk has no room for both.
+fn placed(next: usize, limit: usize, far: usize, len: usize) -> usize
+    requires { ⌜ (8 ≤ next) × (far + len ≤ 1000000) ⌝ }
+    ensures { λ r. ⌜ r ≡ addressOr next limit far len ⌝ }
+{
+    let t = clerks::alloc_from(Addr(next as u64), limit as u64, far as u64);
+    if t.addr.0 == 0 {
+        return 0;
+    }
+    let c = t.clerk;
+    let mark = c.next;
+    let d = clerks::alloc_from(mark, c.limit, len as u64);
+    d.addr.0 as usize
+}
+
+// ---- writing
+
+// A remote frame that holds v.
+fn put_remote(a: &mut [u8], at: usize, m: Call, v: &[u8])
+    requires { ⌜ length (now v) ≤ 65536 ⌝ }
+    requires { ⌜ at + length (remoteFrame m (now v)) ≤ length (now a) ⌝ }
+    ensures { λ _. ⌜ now (a .exit) ≡ put (now (a .entry)) at (remoteFrame m (now (v .entry))) ⌝ }
+{
+    let n = v.len();
+    let payload = (8 + n) as u32;
+    let h = BoxHeader {
+        payload_size: payload,
+        kind: 3,
+        node_type: 1,
+        flag: 0,
+        group: m.group,
+        link: Addr(0),
+        txid: 0,
+        lsn: m.lsn,
+    };
+    frames::put_box(a, at, h);
+    let s = at + BoxHeader::HDR_LEN;
+    numbers::put_u64(a, s, n as u64);
+    let p = s + 8;
+    spans::copy(a, p, v);
+    let z = p + n;
+    let k = frames::frame_len(payload) - (32 + (8 + n));
+    spans::zeros(a, z, k);
+}
+
+// The same for a value at or above the limit; nothing below it.
+fn put_far(a: &mut [u8], at: usize, m: Call, v: &[u8])
+    requires { ⌜ length (now v) ≤ 65536 ⌝ }
+    requires { ⌜ at + length (farOf m (now v)) ≤ length (now a) ⌝ }
+    ensures { λ _. ⌜ now (a .exit) ≡ put (now (a .entry)) at (farOf m (now (v .entry))) ⌝ }
+{
+    if v.len() < m.limit {
+        return;
+    }
+    put_remote(a, at, m, v);
+}
+
+// A value: its bytes, or the address of its remote frame.
+fn put_value(a: &mut [u8], at: usize, limit: usize, far: usize, v: &[u8])
+    requires { ⌜ length (now v) ≤ 65536 ⌝ }
+    requires { ⌜ at + length (valueOf limit far (now v)) ≤ length (now a) ⌝ }
+    ensures { λ _. ⌜ now (a .exit) ≡ put (now (a .entry)) at (valueOf limit far (now (v .entry))) ⌝ }
+{
+    let h = HistRef {
+        page: Addr(0),
+        slot: 0,
+        count: 0,
+    };
+    let n = v.len();
+    if n < limit {
+        let i = Val::encode_inline(a, at, h, v);
+    } else {
+        let r = Val::encode_remote(a, at, h, n, Addr(far as u64));
+    }
+}
+
+// A delta's box header and its two lengths.
+fn put_head(a: &mut [u8], at: usize, m: Call, node: u8, k: usize, v: usize)
+    requires { ⌜ at + 40 ≤ length (now a) ⌝ }
+    requires { ⌜ k + v ≤ 1000000 ⌝ }
+    ensures { λ _. ⌜ now (a .exit) ≡ put (now (a .entry)) at (deltaHead m node k v) ⌝ }
+{
+    let h = BoxHeader {
+        payload_size: (8 + k + v) as u32,
+        kind: 2,
+        node_type: node,
+        flag: 0,
+        group: m.group,
+        link: Addr(0),
+        txid: m.txid,
+        lsn: m.lsn,
+    };
+    frames::put_box(a, at, h);
+    let p = at + BoxHeader::HDR_LEN;
+    numbers::put_u32(a, p, k as u32);
+    numbers::put_u32(a, p + 4, v as u32);
+}
+
+// A leaf delta's frame; far is its remote frame's address.
+fn put_leaf(a: &mut [u8], at: usize, m: Call, far: usize, ver: Ver, key: &[u8], v: &[u8])
+    requires { ⌜ (length (now key) ≤ 4096) × (length (now v) ≤ 65536) × (m .limit ≤ 65536) ⌝ }
+    requires { ⌜ at + length (leafFrame m far ver (now key) (now v)) ≤ length (now a) ⌝ }
+    ensures { λ _. ⌜ now (a .exit) ≡ put (now (a .entry)) at (leafFrame m far ver (now (key .entry)) (now (v .entry))) ⌝ }
+{
+    let k = leaf_key_len(key.len());
+    let n = Val::calc_size(false, m.limit, v.len() as u32);
+    let z = frames::frame_len((8 + k + n) as u32) - (32 + (8 + k + n));
+    put_head(a, at, m, 1, k, n);
+    let p = at + 40;
+    let w = values::write_leaf_key(a, p, ver, key);
+    let q = p + k;
+    put_value(a, q, m.limit, far, v);
+    let e = q + n;
+    spans::zeros(a, e, z);
+}
+
+// An index delta's frame.
+fn put_index(a: &mut [u8], at: usize, m: Call, key: &[u8], page: PageId)
+    requires { ⌜ length (now key) ≤ 4096 ⌝ }
+    requires { ⌜ at + length (indexFrame m (now key) page) ≤ length (now a) ⌝ }
+    ensures { λ _. ⌜ now (a .exit) ≡ put (now (a .entry)) at (indexFrame m (now (key .entry)) page) ⌝ }
+{
+    let k = index_key_len(key.len());
+    let z = frames::frame_len((8 + k + 8) as u32) - (32 + (8 + k + 8));
+    put_head(a, at, m, 2, k, 8);
+    let p = at + 40;
+    let w = values::write_index_key(a, p, key);
+    let q = p + k;
+    numbers::put_u64(a, q, page.0);
+    let e = q + 8;
+    spans::zeros(a, e, z);
+}
+
+// ---- the two calls
+
+// A leaf delta: a key with its version and a value, written from the next free address on.
+pub fn from_key_val(
+    a: &mut [u8],
+    next: usize,
+    limit: usize,
+    group: u8,
+    lsn: u64,
+    ckpt: u64,
+    ver: Ver,
+    key: &[u8],
+    value: &[u8],
+) -> Built
+    ensures { λ r. ⌜ r ≡ leafBuilt (callOf limit group (ver .txid) lsn ckpt) (length (now (a .entry))) next (length (now (key .entry))) (length (now (value .entry))) ⌝ }
+    ensures { λ r. ⌜ now (a .exit) ≡ afterwards r (now (a .entry)) next (leafDelta (callOf limit group (ver .txid) lsn ckpt) next ver (now (key .entry)) (now (value .entry))) ⌝ }
+{
+    if !limit_ok(limit) {
+        return Built::Refused(Refusal::BadLimit);
+    }
+    if !arena_ok(next, a.len()) {
+        return Built::Refused(Refusal::BadArena);
+    }
+    if !lengths_ok(key.len(), value.len()) {
+        return Built::Refused(Refusal::BadList);
+    }
+    let far = image::far_len(limit, value.len(), Addr(0));
+    let len = leaf_len(limit, key.len(), value.len());
+    let at = placed(next, a.len(), far, len);
+    if at == 0 {
+        return Built::Refused(Refusal::NoRoom);
+    }
+    let m = Call {
+        limit: limit,
+        budget: 0,
+        group: group,
+        txid: ver.txid,
+        lsn: larger(lsn, ckpt),
+    };
+    put_far(a, next, m, value);
+    put_leaf(a, at, m, next, ver, key, value);
+    Built::At(Addr(at as u64), at + len)
+}
+
+// An index delta: a key and a page id, written from the next free address on.
+pub fn from_key_index(
+    a: &mut [u8],
+    next: usize,
+    txid: u64,
+    group: u8,
+    lsn: u64,
+    ckpt: u64,
+    key: &[u8],
+    page: PageId,
+) -> Built
+    ensures { λ r. ⌜ r ≡ indexBuilt (length (now (a .entry))) next (length (now (key .entry))) ⌝ }
+    ensures { λ r. ⌜ now (a .exit) ≡ afterwards r (now (a .entry)) next (indexFrame (callOf 0 group txid lsn ckpt) (now (key .entry)) page) ⌝ }
+{
+    if !arena_ok(next, a.len()) {
+        return Built::Refused(Refusal::BadArena);
+    }
+    if !lengths_ok(key.len(), 0) {
+        return Built::Refused(Refusal::BadList);
+    }
+    let len = index_len(key.len());
+    let at = placed(next, a.len(), 0, len);
+    if at == 0 {
+        return Built::Refused(Refusal::NoRoom);
+    }
+    let m = Call {
+        limit: 0,
+        budget: 0,
+        group: group,
+        txid: txid,
+        lsn: larger(lsn, ckpt),
+    };
+    put_index(a, at, m, key, page);
+    Built::At(Addr(at as u64), at + len)
+}
+
+// ---- readers
+
+// A leaf delta's key: its version, and where the key stands.
+pub enum LeafKey {
+    Is { ver: Ver, key: Place },
+    Refused(Refusal),
+}
+
+// Where an index delta's key stands.
+pub enum IndexKey {
+    Is(Place),
+    Refused(Refusal),
+}
+
+// Where a leaf delta's value stands: in the delta, or in its remote frame.
+pub enum Value {
+    Is(Place),
+    Refused(Refusal),
+}
+
+// The page that an index delta names.
+pub enum Child {
+    Is(PageId),
+    Refused(Refusal),
+}
+
+// The delta at an address whose node type is the wanted one: 1 leaf, 2 index.
+fn delta_of(s: &[u8], a: Addr, node: u8) -> DeltaRead
+    ensures { λ r. ⌜ r ≡ deltaIs (now (s .entry)) a node ⌝ }
+{
+    let DeltaRead::Is(d) = frames::delta_at(s, a) else {
+        return DeltaRead::Bad;
+    };
+    if d.node_type == node {
+        return DeltaRead::Is(d);
+    }
+    DeltaRead::Bad
+}
+
+// A delta's key, which fills its length: of a leaf (0) or an index delta (1).
+fn key_in(s: &[u8], d: Delta, kind: u8) -> KeyRead
+    requires { ⌜ d .«val_at» ≤ length (now s) ⌝ }
+    ensures { λ r. ⌜ r ≡ keyIn (now (s .entry)) d kind ⌝ }
+{
+    let e = d.val_at;
+    let KeyRead::Key {
+        ver_at,
+        rest_at,
+        rest_len,
+    } = values::key_at(&s[..e], d.key_at, kind)
+    else {
+        return KeyRead::Bad;
+    };
+    if 4096 < rest_len {
+        return KeyRead::Bad;
+    }
+    if rest_at + rest_len != e {
+        return KeyRead::Bad;
+    }
+    KeyRead::Key {
+        ver_at: ver_at,
+        rest_at: rest_at,
+        rest_len: rest_len,
+    }
+}
+
+// The key of the leaf delta at an address; `pages::part_at` lends it on.
+pub fn key(s: &[u8], a: Addr) -> LeafKey
+    ensures { λ r. ⌜ r ≡ leafKeyAt (now (s .entry)) a ⌝ }
+{
+    let DeltaRead::Is(d) = delta_of(s, a, 1) else {
+        return LeafKey::Refused(Refusal::BadFrame);
+    };
+    let KeyRead::Key {
+        ver_at,
+        rest_at,
+        rest_len,
+    } = key_in(s, d, 0)
+    else {
+        return LeafKey::Refused(Refusal::BadFrame);
+    };
+    let v = records::ver_at(s, ver_at);
+    let p = Place {
+        at: rest_at,
+        len: rest_len,
+    };
+    LeafKey::Is { ver: v, key: p }
+}
+
+// The key of the index delta at an address.
+pub fn index_key(s: &[u8], a: Addr) -> IndexKey
+    ensures { λ r. ⌜ r ≡ indexKeyAt (now (s .entry)) a ⌝ }
+{
+    let DeltaRead::Is(d) = delta_of(s, a, 2) else {
+        return IndexKey::Refused(Refusal::BadFrame);
+    };
+    let KeyRead::Key {
+        ver_at: _,
+        rest_at,
+        rest_len,
+    } = key_in(s, d, 1)
+    else {
+        return IndexKey::Refused(Refusal::BadFrame);
+    };
+    IndexKey::Is(Place {
+        at: rest_at,
+        len: rest_len,
+    })
+}
+
+// A value's place, if what was read ends where the delta ends.
+fn value_to(at: usize, len: usize, next: usize, end: usize) -> Value
+    ensures { λ r. ⌜ r ≡ valueTo at len next end ⌝ }
+{
+    if next == end {
+        return Value::Is(Place { at: at, len: len });
+    }
+    Value::Refused(Refusal::BadFrame)
+}
+
+// A leaf delta's value, which fills its length, and its remote frame judged with it.
+fn val_in(s: &[u8], d: Delta) -> Value
+    requires { ⌜ d .end ≤ length (now s) ⌝ }
+    ensures { λ r. ⌜ r ≡ valIn (now (s .entry)) d ⌝ }
+{
+    let e = d.end;
+    match Val::decode_from(&s[..e], d.val_at, false) {
+        Val::Inline {
+            hist: _,
+            at,
+            size,
+            next,
+        } => value_to(at, size, next, e),
+        Val::Remote {
+            hist: _,
+            addr,
+            size,
+            next,
+        } => {
+            let RemoteRead::At(p) = frames::remote_at(s, addr, size as u32) else {
+                return Value::Refused(Refusal::BadFrame);
+            };
+            value_to(p, size, next, e)
+        }
+        Val::Bad => Value::Refused(Refusal::BadFrame),
+    }
+}
+
+// The value of the leaf delta at an address; `pages::part_at` lends it on.
+pub fn val(s: &[u8], a: Addr) -> Value
+    ensures { λ r. ⌜ r ≡ valueAt (now (s .entry)) a ⌝ }
+{
+    let DeltaRead::Is(d) = delta_of(s, a, 1) else {
+        return Value::Refused(Refusal::BadFrame);
+    };
+    val_in(s, d)
+}
+
+// The page id of the index delta at an address.
+pub fn index(s: &[u8], a: Addr) -> Child
+    ensures { λ r. ⌜ r ≡ childAt (now (s .entry)) a ⌝ }
+{
+    let DeltaRead::Is(d) = delta_of(s, a, 2) else {
+        return Child::Refused(Refusal::BadFrame);
+    };
+    let p = d.val_at;
+    if d.end == p + 8 {
+        return Child::Is(PageId(numbers::read_u64(s, p)));
+    }
+    Child::Refused(Refusal::BadFrame)
+}
