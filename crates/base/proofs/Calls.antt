@@ -21,17 +21,20 @@ use Rattle.sources.specs.Lists.{begunOf, firstOf}
 use Rattle.sources.specs.Source.{Entry, entries, wellFormed}
 use Rattle.image.specs.declared.Call.{Call}
 use Rattle.image.specs.Prefix.{common}
-use Rattle.image.specs.Image.{Bounds, indexImage}
+use Rattle.image.specs.Image.{Bounds, leafImage, indexImage}
 use Rattle.edges.specs.declared.Edge.{Edge}
 use Rattle.edges.specs.declared.Edges.{Edges}
 use Rattle.edges.specs.Edges.{Within, Inside, edgeBytes, edgeOf, boundsOf}
 use Rattle.edges.proofs.Laws.{edge-whole, edge-within}
 use Rattle.build.specs.declared.Built.{Built}
 use Rattle.build.specs.declared.Built.the-variants.{At, Refused}
-use Rattle.build.specs.Table.{Row, row, judged, boundsOk, nextOk, isOpen, listOk}
+use Rattle.history.specs.Runs.{Sane}
+use Rattle.totals.specs.Totals.{leafAt}
+use Rattle.build.specs.Table.{Row, row, judged, limitOk, budgetOk, boundsOk, leafLimits, nextOk, isOpen, listOk}
+use Rattle.build.specs.Leaf.{leafEnd, leafAnswer, leafArena, leafRows}
 use Rattle.build.specs.Index.{Held, indexEnd, indexAnswer, indexArena, indexRows}
 use Rattle.frames.specs.declared.PageId.{PageId}
-use Rattle.base.specs.Calls.{callOf, boundsFrom, listed, listRows, intlRows, intlAnswer, intlArena}
+use Rattle.base.specs.Calls.{callOf, boundsFrom, listed, listRows, intlRows, intlAnswer, intlArena, newRows, newAnswer, newArena}
 
 -- ---- the first three rows
 
@@ -188,3 +191,55 @@ module _ (a : List ℕ) (next : ℕ) (l : List ℕ) (m : Call) (b : Bounds) wher
           (ea
           ∙ ap (λ (x : Call). indexArena a next x b′ (entries l (take next a) c)) em
           ∙ ap₂ (λ (x : Bounds) (y : Cursor). indexArena a next m x (entries l (take next a) y)) eb ec)
+
+-- ---- new_leaf
+
+module _ (limit budget : ℕ) (lo hi : List ℕ) (t : Bool) (e : t ≡ leafLimits limit budget lo hi) (h : t ≡ true) where
+  limits-all : (limitOk limit && budgetOk budget ≡ true) × (boundsOk lo hi ≡ true)
+  limits-all = and-both (limitOk limit && budgetOk budget) (boundsOk lo hi) (sym e ∙ h)
+
+  pub bounds-ok : true ≡ boundsOk lo hi
+  bounds-ok = sym (limits-all .1)
+
+  pub sane : (group txid lsn : ℕ) → Sane (record { limit = limit; budget = budget; group = group; txid = txid; lsn = lsn })
+  sane group txid lsn =
+      let z = and-both (limitOk limit) (budgetOk budget) (limits-all .0) in
+      let x : limit ≤ 65536 = leb-true limit 65536 (and-both (leb 1 limit) (leb limit 65536) (z .0) .1) in
+      let y : budget ≤ 131072 = leb-true budget 131072 (and-both (leb 256 budget) (leb budget 131072) (z .1) .1) in
+      record { limit = x; budget = y }
+
+module _ (a : List ℕ) (next : ℕ) (l : List ℕ) (m : Call) (b : Bounds) where
+  abbrev les : List Entry
+  les = listed l (take next a) 0
+
+  abbrev lims : Bool
+  lims = leafLimits (m .limit) (m .budget) (b .lo) (b .hi)
+
+  abbrev lrows : List Row
+  lrows = leafRows (length a) next m b les
+
+  pub new-one : (t : Bool) → t ≡ leafLimits (m .limit) (m .budget) (b .lo) (b .hi) → t ≡ false → (Refused BadLimit ≡ newAnswer a next l m b) × (a ≡ newArena a next l m b)
+  unfolding newAnswer newArena
+  new-one t e h = call-one lims a next l 0 lrows (leafAt m next les) (leafEnd next m b les) (leafImage m b next les) t e h
+
+  module _ (t₁ : Bool) (e₁ : t₁ ≡ leafLimits (m .limit) (m .budget) (b .lo) (b .hi)) (h₁ : t₁ ≡ true) where
+    pub new-two : (t : Bool) → t ≡ nextOk (length a) next → t ≡ false → (Refused BadArena ≡ newAnswer a next l m b) × (a ≡ newArena a next l m b)
+    unfolding newAnswer newArena
+    new-two t e h = call-two lims a next l 0 lrows (leafAt m next les) (leafEnd next m b les) (leafImage m b next les) t₁ e₁ h₁ t e h
+
+    module _ (t₂ : Bool) (e₂ : t₂ ≡ nextOk (length a) next) (h₂ : t₂ ≡ true) where
+      pub new-three : listOk l (take next a) 0 ≡ false → (Refused BadList ≡ newAnswer a next l m b) × (a ≡ newArena a next l m b)
+      unfolding newAnswer newArena
+      new-three h = call-three lims a next l 0 lrows (leafAt m next les) (leafEnd next m b les) (leafImage m b next les) t₁ e₁ h₁ t₂ e₂ h₂ h
+
+      pub new-on : listOk l (take next a) 0 ≡ true → (r : Built) (a₁ : List ℕ) (m′ : Call) (b′ : Bounds) (c : Cursor) → m′ ≡ m → b′ ≡ b → c ≡ firstOf 0
+          → r ≡ leafAnswer a next m′ b′ (entries l (take next a) c) → a₁ ≡ leafArena a next m′ b′ (entries l (take next a) c) → (r ≡ newAnswer a next l m b) × (a₁ ≡ newArena a next l m b)
+      unfolding newAnswer newArena leafAnswer leafArena
+      new-on h r a₁ m′ b′ c em eb ec er ea =
+          call-on lims a next l 0 lrows (leafAt m next les) (leafEnd next m b les) (leafImage m b next les) t₁ e₁ h₁ t₂ e₂ h₂ h r a₁
+          (er
+          ∙ ap (λ (x : Call). leafAnswer a next x b′ (entries l (take next a) c)) em
+          ∙ ap₂ (λ (x : Bounds) (y : Cursor). leafAnswer a next m x (entries l (take next a) y)) eb ec)
+          (ea
+          ∙ ap (λ (x : Call). leafArena a next x b′ (entries l (take next a) c)) em
+          ∙ ap₂ (λ (x : Bounds) (y : Cursor). leafArena a next m x (entries l (take next a) y)) eb ec)

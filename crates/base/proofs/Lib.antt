@@ -2,4 +2,6 @@
 pub mod Common
 pub mod Calls
 pub mod Refusing
+pub mod Eights
 pub mod Decided
+pub mod Cases

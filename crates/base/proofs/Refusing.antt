@@ -1,4 +1,4 @@
--- Document 01's table for new_intl: refused with a number exactly when; a refusal leaves every byte.
+-- Document 01's table for new_intl and new_leaf: refused with a number exactly when; a refusal leaves every byte.
 -- Assumes nothing.
 use mathlib.Core.Path.{_≡_, refl, sym, ap, _∙_}
 use mathlib.Core.List.{List, [], _∷_}
@@ -15,14 +15,16 @@ use Rattle.frames.specs.Layout.{addr}
 use Rattle.sources.specs.Source.{Entry}
 use Rattle.sources.specs.Judged.{rising, prefixed}
 use Rattle.image.specs.declared.Call.{Call}
-use Rattle.image.specs.Image.{Bounds, indexSize, indexImage}
+use Rattle.image.specs.Image.{Bounds, leafSize, leafRoom, leafImage, indexSize, indexImage}
+use Rattle.totals.specs.Totals.{leafAt}
 use Rattle.build.specs.declared.Built.{Built}
 use Rattle.build.specs.declared.Built.the-variants.{At, Refused}
-use Rattle.build.specs.Table.{Row, row, judged, boundsOk, nextOk, listOk, entryRows}
+use Rattle.build.specs.Table.{Row, row, judged, boundsOk, leafLimits, nextOk, listOk, entryRows}
 use Rattle.build.specs.Index.{indexEnd, indexRows}
+use Rattle.build.specs.Leaf.{leafEnd, leafRows}
 use Rattle.build.proofs.Tables.{All}
 use Rattle.build.proofs.Exactly.{Exactly, exactly, accepted, stays}
-use Rattle.base.specs.Calls.{builtNumber, listed, listRows, intlRows, intlAnswer, intlArena}
+use Rattle.base.specs.Calls.{builtNumber, listed, listRows, intlRows, intlAnswer, intlArena, newRows, newAnswer, newArena}
 
 -- an answer's number is the table's
 number-by : (b : Bool) (x : Built) (n : ℕ) (r : Refusal) → builtNumber x ≡ n → builtNumber (cond b x (Refused r)) ≡ cond b n (numberOf r)
@@ -124,3 +126,51 @@ module _ (a : List ℕ) (next : ℕ) (l : List ℕ) (m : Call) (b : Bounds) wher
   pub intl-stays : (builtNumber (intlAnswer a next l m b) ≡ 0 → ⊥) → intlArena a next l m b ≡ a
   unfolding intlArena
   intl-stays h = stays (intlRows a next l m b) a (put a next (indexImage m b es)) (λ e. h (intl-number ∙ e))
+
+-- ---- new_leaf
+
+module _ (a : List ℕ) (next : ℕ) (l : List ℕ) (m : Call) (b : Bounds) where
+  abbrev lims : Bool
+  lims = leafLimits (m .limit) (m .budget) (b .lo) (b .hi)
+
+  abbrev lead : List ℕ
+  lead = take (b .prefix) (b .lo)
+
+  abbrev les : List Entry
+  les = listed l (take next a) 0
+
+  pub new-number : builtNumber (newAnswer a next l m b) ≡ judged (newRows a next l m b) numberOf 0
+  unfolding newAnswer
+  new-number = number-is (newRows a next l m b) (leafAt m next les) (leafEnd next m b les)
+
+  pub new-1 : Exactly (builtNumber (newAnswer a next l m b) ≡ 1) (All [] × (lims ≡ false))
+  new-1 = move _ _ 1 new-number (is-1 lims a next l 0 lead les (leafSize m b les + leafRoom m les) (leafEnd next m b les))
+
+  pub new-2 : Exactly (builtNumber (newAnswer a next l m b) ≡ 2) (All (row lims BadLimit ∷ []) × (nextOk (length a) next ≡ false))
+  new-2 = move _ _ 2 new-number (is-2 lims a next l 0 lead les (leafSize m b les + leafRoom m les) (leafEnd next m b les))
+
+  pub new-3 : Exactly (builtNumber (newAnswer a next l m b) ≡ 3) (All (row lims BadLimit ∷ row (nextOk (length a) next) BadArena ∷ []) × (listOk l (take next a) 0 ≡ false))
+  new-3 = move _ _ 3 new-number (is-3 lims a next l 0 lead les (leafSize m b les + leafRoom m les) (leafEnd next m b les))
+
+  pub new-6 : Exactly (builtNumber (newAnswer a next l m b) ≡ 6) (All (listRows lims a next l 0 []) × (rising les ≡ false))
+  new-6 = move _ _ 6 new-number (is-6 lims a next l 0 lead les (leafSize m b les + leafRoom m les) (leafEnd next m b les))
+
+  pub new-7 : Exactly (builtNumber (newAnswer a next l m b) ≡ 7) (All (listRows lims a next l 0 (row (rising les) OutOfOrder ∷ [])) × (prefixed lead les ≡ false))
+  new-7 = move _ _ 7 new-number (is-7 lims a next l 0 lead les (leafSize m b les + leafRoom m les) (leafEnd next m b les))
+
+  pub new-8 : Exactly (builtNumber (newAnswer a next l m b) ≡ 8)
+      (All (listRows lims a next l 0 (row (rising les) OutOfOrder ∷ row (prefixed lead les) WrongPrefix ∷ [])) × (leb (length les) 65535 && leb (leafSize m b les + leafRoom m les) 16777216 ≡ false))
+  new-8 = move _ _ 8 new-number (is-8 lims a next l 0 lead les (leafSize m b les + leafRoom m les) (leafEnd next m b les))
+
+  pub new-9 : Exactly (builtNumber (newAnswer a next l m b) ≡ 9)
+      (All (listRows lims a next l 0 (row (rising les) OutOfOrder ∷ row (prefixed lead les) WrongPrefix ∷ row (leb (length les) 65535 && leb (leafSize m b les + leafRoom m les) 16777216) TooBig ∷ []))
+      × (leb (leafEnd next m b les) (length a) ≡ false))
+  new-9 = move _ _ 9 new-number (is-9 lims a next l 0 lead les (leafSize m b les + leafRoom m les) (leafEnd next m b les))
+
+  pub new-accepted : Exactly (builtNumber (newAnswer a next l m b) ≡ 0) (All (newRows a next l m b))
+  new-accepted = move _ _ 0 new-number (accepted (newRows a next l m b))
+
+  -- a refusal changes nothing
+  pub new-stays : (builtNumber (newAnswer a next l m b) ≡ 0 → ⊥) → newArena a next l m b ≡ a
+  unfolding newArena
+  new-stays h = stays (newRows a next l m b) a (put a next (leafImage m b next les)) (λ e. h (new-number ∙ e))

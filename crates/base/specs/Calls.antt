@@ -1,4 +1,4 @@
--- What new_intl answers and leaves, on every input: document 01's table first, then one store of one image.
+-- What new_leaf and new_intl answer and leave, on every input: document 01's table first, then one store of one image.
 -- Assumes nothing.
 use Prim.Native.Nat.{ℕ}
 use mathlib.Core.List.{List, [], _∷_}
@@ -15,11 +15,13 @@ use Rattle.sources.specs.Source.{Entry, entries, wellFormed}
 use Rattle.sources.specs.Judged.{rising, prefixed}
 use Rattle.image.specs.declared.Call.{Call}
 use Rattle.image.specs.Prefix.{common}
-use Rattle.image.specs.Image.{Bounds, indexSize, indexImage}
+use Rattle.image.specs.Image.{Bounds, leafSize, leafRoom, leafImage, indexSize, indexImage}
+use Rattle.totals.specs.Totals.{leafAt}
 use Rattle.build.specs.declared.Built.{Built}
 use Rattle.build.specs.declared.Built.the-variants.{At, Refused}
-use Rattle.build.specs.Table.{Row, row, judged, boundsOk, nextOk, listOk, entryRows}
+use Rattle.build.specs.Table.{Row, row, judged, boundsOk, leafLimits, nextOk, listOk, entryRows}
 use Rattle.build.specs.Index.{indexEnd, indexRows}
+use Rattle.build.specs.Leaf.{leafEnd, leafRows}
 
 -- document 01's number of an answer: 0 where a page was built
 abbrev pub builtNumber : Built → ℕ
@@ -61,3 +63,17 @@ intlAnswer a next l m b = judged (intlRows a next l m b) Refused (At (addr next)
 unfoldable pub intlArena : List ℕ → ℕ → List ℕ → Call → Bounds → List ℕ
 unfolding begunOf wellFormed entries rising prefixed indexSize indexEnd put indexImage
 intlArena a next l m b = judged (intlRows a next l m b) (λ r. a) (put a next (indexImage m b (listed l (take next a) 1)))
+
+-- ---- new_leaf
+
+abbrev pub newRows : List ℕ → ℕ → List ℕ → Call → Bounds → List Row
+newRows a next l m b =
+    listRows (leafLimits (m .limit) (m .budget) (b .lo) (b .hi)) a next l 0 (leafRows (length a) next m b (listed l (take next a) 0))
+
+unfoldable pub newAnswer : List ℕ → ℕ → List ℕ → Call → Bounds → Built
+unfolding begunOf wellFormed entries rising prefixed leafSize leafRoom leafEnd leafAt
+newAnswer a next l m b = judged (newRows a next l m b) Refused (At (addr (leafAt m next (listed l (take next a) 0))) (leafEnd next m b (listed l (take next a) 0)))
+
+unfoldable pub newArena : List ℕ → ℕ → List ℕ → Call → Bounds → List ℕ
+unfolding begunOf wellFormed entries rising prefixed leafSize leafRoom leafEnd put leafImage
+newArena a next l m b = judged (newRows a next l m b) (λ r. a) (put a next (leafImage m b next (listed l (take next a) 0)))

@@ -8,7 +8,7 @@ use image::Call;
 use sources::Begun;
 ghost use mathlib.Core.Path.{_≡_};
 ghost use Rattle.image.specs.Prefix.{common};
-ghost use Rattle.base.specs.Calls.{larger, callOf, boundsFrom, intlAnswer, intlArena};
+ghost use Rattle.base.specs.Calls.{larger, callOf, boundsFrom, intlAnswer, intlArena, newAnswer, newArena};
 
 // The count of equal leading bytes of the boundaries; an empty hi is none.
 pub fn calc_prefix(lo: &[u8], hi: &[u8]) -> usize
@@ -84,4 +84,56 @@ pub fn new_intl(
         sibling: sibling,
     };
     build::build_index(a, next, list, c, m, lo, hi, e)
+}
+
+// Builds a leaf of a record list, its history pages before it and its remote frames behind it: its address and the new next free
+// address, or a refusal that changes nothing.
+pub fn new_leaf(
+    a: &mut [u8],
+    next: usize,
+    list: &[u8],
+    lo: &[u8],
+    hi: &[u8],
+    sibling: PageId,
+    limit: usize,
+    budget: usize,
+    group: u8,
+    txid: u64,
+    lsn: u64,
+    checkpoint: u64,
+) -> Built
+    ensures { λ r. ⌜ r ≡ newAnswer (now (a .entry)) next (now (list .entry)) (callOf limit budget group txid lsn checkpoint) (boundsFrom (now (lo .entry)) (now (hi .entry)) (sibling .0)) ⌝ }
+    ensures { λ _. ⌜ now (a .exit) ≡ newArena (now (a .entry)) next (now (list .entry)) (callOf limit budget group txid lsn checkpoint) (boundsFrom (now (lo .entry)) (now (hi .entry)) (sibling .0)) ⌝ }
+{
+    if !build::limits_ok(limit, budget, lo, hi) {
+        return Built::Refused(Refusal::BadLimit);
+    }
+    let len = a.len();
+    if !build::next_ok(len, next) {
+        return Built::Refused(Refusal::BadArena);
+    }
+    let b = sources::open_records(list);
+    let Begun::From(c) = b else {
+        return Built::Refused(Refusal::BadList);
+    };
+    if !sources::well(list, &a[..next], c) {
+        return Built::Refused(Refusal::BadList);
+    }
+    let m = Call {
+        limit: limit,
+        budget: budget,
+        group: group,
+        txid: txid,
+        lsn: larger(lsn, checkpoint),
+    };
+    let x = edges::edge_of(lo);
+    let y = edges::edge_of(hi);
+    let p = calc_prefix(lo, hi);
+    let e = Edges {
+        lo: x,
+        hi: y,
+        prefix: p,
+        sibling: sibling,
+    };
+    build::build_leaf(a, next, list, c, m, lo, hi, e)
 }

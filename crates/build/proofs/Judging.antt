@@ -38,7 +38,7 @@ use Rattle.build.specs.Table.{Row, row, judged, entryRows}
 use Rattle.build.specs.Index.{Held, sizeAt, indexVerdict, indexEnd, indexRows, indexAnswer, indexArena}
 use Rattle.build.proofs.Tables.{All, all-go, refuses, passes}
 
-and-both : (x y : Bool) → x && y ≡ true → (x ≡ true) × (y ≡ true)
+pub and-both : (x y : Bool) → x && y ≡ true → (x ≡ true) × (y ≡ true)
 and-both true y e = (refl, e)
 and-both false y e = absurd (let z : _≡_ {A = ℕ} 0 1 = cc in omega arith)
 

@@ -1,3 +1,4 @@
 -- The crate's definitions.
 pub mod Table
 pub mod Index
+pub mod Leaf

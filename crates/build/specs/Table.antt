@@ -35,6 +35,9 @@ budgetOk budget = leb 256 budget && leb budget 131072
 abbrev pub boundsOk : List ℕ → List ℕ → Bool
 boundsOk lo hi = leb (length lo) 4096 && leb (length hi) 4096
 
+abbrev pub leafLimits : ℕ → ℕ → List ℕ → List ℕ → Bool
+leafLimits limit budget lo hi = limitOk limit && budgetOk budget && boundsOk lo hi
+
 -- 2 BAD ARENA: "next free address below 8, not a multiple of 8, or above the arena's length"
 abbrev pub nextOk : ℕ → ℕ → Bool
 nextOk len next = leb 8 next && eqb (next % 8) 0 && leb next len

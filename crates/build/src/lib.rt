@@ -6,6 +6,7 @@ use frames::Addr;
 use frames::Refusal;
 use image::Call;
 use sources::Cursor;
+use totals::Totals;
 ghost use mathlib.Core.Path.{_≡_};
 ghost use Prim.Native.Nat.{_+_, _≤_};
 ghost use lib.ListN.{length, take};
@@ -13,8 +14,10 @@ ghost use Rattle.frames.specs.Layout.{frameLen};
 ghost use Rattle.sources.specs.Source.{entries};
 ghost use Rattle.sources.specs.Judged.{prefixed};
 ghost use Rattle.edges.specs.Edges.{Within, Inside, edgeBytes, boundsOf};
-ghost use Rattle.build.specs.Table.{boundsOk, nextOk};
+ghost use Rattle.build.specs.Table.{boundsOk, leafLimits, nextOk};
 ghost use Rattle.build.specs.Index.{Held, indexVerdict, indexAnswer, indexArena};
+ghost use Rattle.build.specs.Leaf.{leafVerdict, leafAnswer, leafArena};
+ghost use Rattle.history.specs.Runs.{Sane};
 
 // A page that was built: its address, and the new next free address.
 pub enum Built {
@@ -28,6 +31,12 @@ pub enum IndexVerdict {
     No(Refusal),
 }
 
+// What the judge of a leaf finds: what it is going to write.
+pub enum LeafVerdict {
+    Fits(Totals),
+    No(Refusal),
+}
+
 // ---- 1 and 2
 
 // "lo or hi over 4,096" is BAD LIMIT.
@@ -35,6 +44,16 @@ pub fn bounds_ok(lo: &[u8], hi: &[u8]) -> bool
     ensures { λ r. ⌜ r ≡ boundsOk (now (lo .entry)) (now (hi .entry)) ⌝ }
 {
     (lo.len() <= 4096) & (hi.len() <= 4096)
+}
+
+// "inline limit not 1..65,536; budget not 256..131,072; lo or hi over 4,096" is BAD LIMIT.
+pub fn limits_ok(limit: usize, budget: usize, lo: &[u8], hi: &[u8]) -> bool
+    ensures { λ r. ⌜ r ≡ leafLimits limit budget (now (lo .entry)) (now (hi .entry)) ⌝ }
+{
+    let inline = (1 <= limit) & (limit <= 65536);
+    let paged = (256 <= budget) & (budget <= 131072);
+    let bounds = (lo.len() <= 4096) & (hi.len() <= 4096);
+    inline & paged & bounds
 }
 
 // "next free address below 8, not a multiple of 8, or above the arena's length" is BAD ARENA.
@@ -121,6 +140,94 @@ pub fn build_index(
         IndexVerdict::Fits(n, size) => {
             intl::write_index(a, next, list, from, next, m, n, size, lo, hi, e);
             Built::At(Addr(next as u64), next + frames::frame_len(size as u32))
+        }
+    }
+}
+
+// ---- leaves
+
+// Judges the entries of a leaf: 6, 7, 8, 9. It writes nothing.
+pub fn judge_leaf(
+    list: &[u8],
+    low: &[u8],
+    from: Cursor,
+    len: usize,
+    next: usize,
+    m: Call,
+    lo: &[u8],
+    hi: &[u8],
+    e: Edges,
+) -> LeafVerdict
+    requires { ⌜ Held (now lo) (now low) e ⌝ }
+    requires { ⌜ Inside (now lo) (now hi) (now low) e ⌝ }
+    requires { ⌜ Sane m ⌝ }
+    requires { ⌜ (next ≤ len) × (len ≤ 9223372036854775807) ⌝ }
+    ensures { λ r. ⌜ r ≡ leafVerdict len next m (boundsOf (now (lo .entry)) (now (hi .entry)) (now (low .entry)) e) (entries (now (list .entry)) (now (low .entry)) from) ⌝ }
+{
+    let x = e.lo;
+    let y = e.hi;
+    let p = e.prefix;
+    if !sources::rises(list, low, from) {
+        return LeafVerdict::No(Refusal::OutOfOrder);
+    }
+    if !begins_with(list, low, from, lo, x, p) {
+        return LeafVerdict::No(Refusal::WrongPrefix);
+    }
+    let n = sources::count(list, low, from);
+    if 65535 < n {
+        return LeafVerdict::No(Refusal::TooBig);
+    }
+    let t = totals::tally_up(list, low, from, p, m.limit);
+    let g = totals::count_pages(list, low, from, next, m.limit, m.budget);
+    let pages = g.count;
+    let leaf = g.end;
+    let size = 40 + 4 * t.heads + x.len + y.len + t.sums;
+    let room = totals::room_of(pages, t.counted);
+    if 16777216 < size + room {
+        return LeafVerdict::No(Refusal::TooBig);
+    }
+    let end = leaf + frames::frame_len((size + room) as u32) + t.far;
+    if len < end {
+        return LeafVerdict::No(Refusal::NoRoom);
+    }
+    LeafVerdict::Fits(Totals {
+        heads: t.heads,
+        olds: t.olds,
+        pages: pages,
+        remotes: t.remotes,
+        size: size,
+        room: room,
+        leaf: leaf,
+        end: end,
+    })
+}
+
+// Builds a leaf of the entries from a cursor on.
+pub fn build_leaf(
+    a: &mut [u8],
+    next: usize,
+    list: &[u8],
+    from: Cursor,
+    m: Call,
+    lo: &[u8],
+    hi: &[u8],
+    e: Edges,
+) -> Built
+    requires { ⌜ next ≤ length (now a) ⌝ }
+    requires { ⌜ Held (now lo) (take next (now a)) e ⌝ }
+    requires { ⌜ Inside (now lo) (now hi) (take next (now a)) e ⌝ }
+    requires { ⌜ Sane m ⌝ }
+    ensures { λ r. ⌜ r ≡ leafAnswer (now (a .entry)) next m (boundsOf (now (lo .entry)) (now (hi .entry)) (take next (now (a .entry))) e) (entries (now (list .entry)) (take next (now (a .entry))) from) ⌝ }
+    ensures { λ _. ⌜ now (a .exit) ≡ leafArena (now (a .entry)) next m (boundsOf (now (lo .entry)) (now (hi .entry)) (take next (now (a .entry))) e) (entries (now (list .entry)) (take next (now (a .entry))) from) ⌝ }
+{
+    let len = a.len();
+    let v = judge_leaf(list, &a[..next], from, len, next, m, lo, hi, e);
+    match v {
+        LeafVerdict::No(r) => Built::Refused(r),
+        LeafVerdict::Fits(t) => {
+            let end = t.end;
+            let leaf = leaf::write_leaf(a, next, list, from, next, m, t, lo, hi, e);
+            Built::At(Addr(leaf as u64), end)
         }
     }
 }

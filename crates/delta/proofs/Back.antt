@@ -1,12 +1,12 @@
 -- What was written reads back: a delta's frame wherever it lies, its key and value, and the value behind its remote frame.
 -- Assumes nothing.
-use mathlib.Core.Path.{_≡_, refl, sym, ap, _∙_, subst}
-use mathlib.Core.List.{List, [], _∷_, _++_}
-use mathlib.Core.Bool.{Bool, true, false, cond}
+use mathlib.Core.Path.{_≡_, refl, ap, subst}
+use mathlib.Core.List.{List, _++_}
+use mathlib.Core.Bool.{false}
 use Prim.Native.Nat.{ℕ, _+_, _%_, _^_, _≤_, _<_}
 use native.Mathlib.Omega.{arith}
-use borrow.Author.Tests.{le-leb, eq-eqb, lt-ltb, le-ltb}
-use lib.Dec.{leb, eqb, ltb}
+use borrow.Author.Tests.{le-leb, eq-eqb}
+use lib.Dec.{leb}
 use lib.ListN.{length, take}
 use lib.Seq.{take-take}
 use Rattle.spans.specs.Span.{part, Lies}
@@ -23,18 +23,17 @@ use Rattle.frames.specs.declared.DeltaRead.{DeltaRead}
 use Rattle.frames.specs.declared.FrameRead.{FrameRead}
 use Rattle.frames.specs.declared.PageId.{PageId}
 use Rattle.frames.specs.declared.RemoteRead.{RemoteRead}
-use Rattle.frames.specs.Layout.{addr, pageId, boxLen, frameLen, boxFields, boxOk, boxAt, remoteOf, remoteAt, deltaOf, deltaAt}
+use Rattle.frames.specs.Layout.{addr, boxLen, frameLen, boxFields, boxOk, boxAt, remoteAt, deltaAt}
 use Rattle.frames.specs.Stored.{boxBytes}
-use Rattle.frames.proofs.Stores.{BoxFits, length-box, box-reads}
+use Rattle.frames.proofs.Stores.{length-box, box-reads}
 use Rattle.values.specs.declared.KeyRead.{KeyRead}
 use Rattle.values.specs.declared.VerRead.{VerRead}
-use Rattle.values.specs.declared.Val.{Val}
-use Rattle.values.specs.Keys.{verAt, leafKey, indexKey, keyAt}
-use Rattle.values.specs.Vals.{addrOf, noHist, frontSize, inlineBytes, remoteBytes, valAt}
+use Rattle.values.specs.Keys.{verAt, leafKey, indexKey}
+use Rattle.values.specs.Vals.{noHist, frontSize, inlineBytes, remoteBytes}
 use Rattle.values.proofs.Laws.{length-leafKey, length-indexKey, length-inline, length-remote}
 use Rattle.values.proofs.KeysBack.{SmallVer, leaf-rest, leaf-version, leaf-back, index-rest, index-back}
 use Rattle.values.proofs.ValsBack.{SmallHist, inline-bytes, inline-back, remote-back}
-use Rattle.records.specs.Records.{verIn, valOf}
+use Rattle.records.specs.Records.{verIn}
 use Rattle.pages.specs.Edges.{place}
 use Rattle.image.specs.declared.Call.{Call}
 use Rattle.image.specs.Sizes.{pad}

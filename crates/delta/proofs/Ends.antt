@@ -1,8 +1,7 @@
 -- A delta that was read lies in its buffer, and so does its key's version.
 -- Assumes nothing.
-use mathlib.Core.Path.{_≡_, refl, sym, _∙_}
+use mathlib.Core.Path.{_≡_, refl, _∙_}
 use mathlib.Core.List.{List}
-use mathlib.Core.Bool.{Bool, true, false, cond}
 use Prim.Native.Nat.{ℕ, _+_, _≤_}
 use native.Mathlib.Omega.{arith}
 use lib.ListN.{length, take}
@@ -17,7 +16,7 @@ use Rattle.frames.specs.Layout.{deltaAt}
 use Rattle.frames.proofs.Frames.{DeltaInside, delta-inside}
 use Rattle.values.specs.declared.KeyRead.{KeyRead}
 use Rattle.values.specs.Keys.{skipOf, keyAt}
-use Rattle.records.proofs.Places.{key-no, KeyPlace, key-place}
+use Rattle.records.proofs.Places.{key-no, key-place}
 use Rattle.delta.specs.Read.{typed, deltaIs, keyFills, keyIn}
 
 delta-no : (d : Delta) → DeltaRead.Bad ≡ DeltaRead.Is d → ⊥

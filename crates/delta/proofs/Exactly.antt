@@ -1,10 +1,9 @@
 -- "Refused with n exactly when": each number of a delta's call against the words of document 01's table, both ways.
 -- Assumes nothing.
-use mathlib.Core.Path.{_≡_, refl, sym, ap, _∙_}
+use mathlib.Core.Path.{_≡_, refl}
 use mathlib.Core.Bool.{Bool, true, false, cond}
-use Prim.Native.Nat.{ℕ, _+_, _≤_, _<_}
+use Prim.Native.Nat.{ℕ, _+_}
 use native.Mathlib.Omega.{arith}
-use borrow.Author.Tests.{leb-true, leb-false}
 use lib.Dec.{leb}
 use Rattle.frames.specs.declared.Refusal.{Refusal}
 use Rattle.frames.specs.Layout.{addr}
@@ -14,7 +13,6 @@ use Rattle.delta.specs.declared.Built.{Built}
 use Rattle.delta.specs.Deltas.{leafLen, indexLen}
 use Rattle.delta.specs.Built.{limitOk, arenaOk, lengthsOk, judged, leafBuilt, indexBuilt}
 use Rattle.delta.specs.Refused.{builtNumber}
-use Rattle.delta.proofs.Verdict.{leaf-1, leaf-on, index-is, judged-2, judged-3, judged-9, judged-at}
 
 -- what a judgement says: which test failed first, or that all passed
 pub record Says (one two three room : Bool) (n : ℕ) : Type 0 where

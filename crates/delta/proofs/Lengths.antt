@@ -1,19 +1,18 @@
 -- The length of each thing that a delta writes: the arithmetic of its judge.
 -- Assumes nothing.
-use mathlib.Core.Path.{_≡_, refl, sym, ap, ap₂, _∙_}
-use mathlib.Core.List.{List, [], _∷_, _++_}
+use mathlib.Core.Path.{_≡_, refl, ap₂, _∙_}
+use mathlib.Core.List.{List, [], _++_}
 use mathlib.Core.Bool.{Bool, true, false, cond}
-use Prim.Native.Nat.{ℕ, _+_, _-_, _≤_, _<_}
+use Prim.Native.Nat.{ℕ, _+_, _≤_}
 use native.Mathlib.Omega.{arith}
 use lib.Dec.{ltb, eqb}
 use lib.ListN.{length, length-append}
 use Rattle.numbers.specs.Number.{le}
 use Rattle.numbers.proofs.Numbers.{length-le}
-use Rattle.lengths.specs.Leb128.{uleb}
 use Rattle.lengths.proofs.Laws.{uleb-few}
 use Rattle.order.specs.declared.Ver.{Ver}
 use Rattle.frames.specs.declared.PageId.{PageId}
-use Rattle.frames.specs.Layout.{boxLen, frameLen}
+use Rattle.frames.specs.Layout.{frameLen}
 use Rattle.frames.specs.Stored.{boxBytes}
 use Rattle.values.specs.Keys.{leafKey, indexKey}
 use Rattle.values.specs.Vals.{noHist, inlineBytes, remoteBytes, frontSize, sizeOf}

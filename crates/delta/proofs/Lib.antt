@@ -4,4 +4,5 @@ pub mod Verdict
 pub mod Ends
 pub mod Exactly
 pub mod Back
+pub mod Returns
 pub mod Decided

@@ -1,8 +1,8 @@
 -- The judge: what each test that passed says, what the clerk's address says of room, the answer at each refusal and where all fits.
 -- Assumes nothing.
 use mathlib.Core.Path.{_≡_, refl, sym, ap, _∙_}
-use mathlib.Core.List.{List, _++_}
-use mathlib.Core.Bool.{Bool, true, false, _&&_, not, cond}
+use mathlib.Core.List.{List}
+use mathlib.Core.Bool.{Bool, true, false, _&&_, not}
 use Prim.Native.Nat.{ℕ, _+_, _%_, _≤_, _<_}
 use native.Mathlib.Omega.{arith}
 use native.Mathlib.Decide.{decLe}
@@ -17,7 +17,7 @@ use Rattle.frames.specs.declared.Clerk.{Clerk}
 use Rattle.frames.specs.declared.PageId.{PageId}
 use Rattle.frames.specs.declared.Taken.{Taken}
 use Rattle.frames.specs.declared.Refusal.{Refusal}
-use Rattle.frames.specs.Clerks.{gives, refuses, takenOf}
+use Rattle.frames.specs.Clerks.{gives, takenOf}
 use Rattle.frames.specs.Layout.{addr}
 use Rattle.frames.proofs.Frames.{and-l, and-r}
 use Rattle.frames.proofs.Clerks.{take-room, take-none}
@@ -25,7 +25,7 @@ use Rattle.image.specs.declared.Call.{Call}
 use Rattle.image.specs.Sizes.{farLen}
 use Rattle.delta.specs.declared.Built.{Built}
 use Rattle.delta.specs.Deltas.{farOf, leafFrame, indexFrame, leafDelta, leafLen, indexLen}
-use Rattle.delta.specs.Built.{limitOk, arenaOk, lengthsOk, roomOr, judged, leafBuilt, indexBuilt, addressOr}
+use Rattle.delta.specs.Built.{limitOk, arenaOk, lengthsOk, judged, leafBuilt, indexBuilt, addressOr}
 use Rattle.delta.proofs.Lengths.{length-far, length-leaf-frame, length-index-frame}
 
 -- ---- tests that passed

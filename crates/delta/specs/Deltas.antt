@@ -2,7 +2,7 @@
 -- Assumes nothing.
 use Prim.Native.Nat.{ℕ, _+_}
 use mathlib.Core.List.{List, [], _++_}
-use mathlib.Core.Bool.{Bool, true, false, cond}
+use mathlib.Core.Bool.{false, cond}
 use lib.ListN.{length}
 use lib.Dec.{ltb}
 use Rattle.numbers.specs.Number.{le}
@@ -14,7 +14,7 @@ use Rattle.frames.specs.Stored.{boxBytes}
 use Rattle.values.specs.Keys.{leafKey, indexKey}
 use Rattle.values.specs.Vals.{noHist, inlineBytes, remoteBytes, sizeOf}
 use Rattle.image.specs.declared.Call.{Call}
-use Rattle.image.specs.Sizes.{pad, farLen}
+use Rattle.image.specs.Sizes.{pad}
 use Rattle.image.specs.Image.{boxOf, remoteFrame}
 
 -- "lsn is the larger of the given and the checkpoint's"
@@ -74,7 +74,3 @@ leafLen limit n v = frameLen (8 + leafKeyLen n + sizeOf false limit v)
 unfoldable pub indexLen : ℕ → ℕ
 unfolding indexKeyLen
 indexLen n = frameLen (8 + indexKeyLen n + 8)
-
--- where a leaf delta stands: behind its remote frame
-unfoldable pub leafAt : ℕ → ℕ → ℕ → ℕ
-leafAt next limit v = next + farLen limit v 0

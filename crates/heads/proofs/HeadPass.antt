@@ -3,7 +3,7 @@
 use mathlib.Core.Path.{_≡_, refl, sym, ap, _∙_, subst}
 use mathlib.Core.List.{List, [], _∷_, _++_}
 use mathlib.Core.Bool.{Bool, true, false, not, cond}
-use Prim.Native.Nat.{ℕ, zero, suc, _+_, _-_, _≤_, _<_}
+use Prim.Native.Nat.{ℕ, zero, suc, _+_, _≤_, _<_}
 use native.Mathlib.Nat.{add-zero}
 use native.Mathlib.Omega.{arith}
 use borrow.Author.Tests.{lt-ltb}
@@ -13,7 +13,7 @@ use Rattle.spans.specs.Span.{put}
 use Rattle.spans.proofs.Put.{put-nil}
 use Rattle.spans.proofs.Writing.{Writing, begin, wrote, finished, front}
 use Rattle.values.specs.declared.HistRef.{HistRef}
-use Rattle.values.specs.Vals.{histOf, noHist, histBytes, flagOf, frontBytes, inlineBytes, remoteBytes, sizeOf}
+use Rattle.values.specs.Vals.{histOf, histBytes, flagOf, frontBytes, inlineBytes, remoteBytes, sizeOf}
 use Rattle.sources.specs.declared.Cursor.{Cursor}
 use Rattle.sources.specs.declared.Item.{Item}
 use Rattle.sources.specs.Source.{Entry, Placed, entryOf, entries, only, olds, heads}

@@ -1,18 +1,18 @@
 -- The locator: settling it changes no place, and at hand stands the first of the places to come.
 -- Assumes nothing.
-use mathlib.Core.Path.{_≡_, refl, sym, ap, _∙_}
+use mathlib.Core.Path.{_≡_, refl, sym, _∙_}
 use mathlib.Core.List.{List, [], _∷_, _++_}
 use mathlib.Core.Bool.{Bool, true, false}
-use Prim.Native.Nat.{ℕ, zero, suc, _+_, _-_, _*_, _≤_, _<_}
+use Prim.Native.Nat.{ℕ, zero, suc, _+_, _-_, _≤_, _<_}
 use native.Mathlib.Numerals.{sub-one}
 use native.Mathlib.Omega.{arith}
-use lib.ListN.{length, take, drop}
+use lib.ListN.{take, drop}
 use Rattle.frames.specs.Layout.{frameLen}
 use Rattle.paging.specs.Cuts.{cuts}
-use Rattle.sources.specs.Source.{Entry, only, olds}
+use Rattle.sources.specs.Source.{Entry}
 use Rattle.image.specs.declared.Call.{Call}
-use Rattle.image.specs.Sizes.{costsOf, oldRun}
-use Rattle.image.specs.Image.{Place, placesIn, places, pageEnd, historyEnd, histSize}
+use Rattle.image.specs.Sizes.{costsOf}
+use Rattle.image.specs.Image.{placesIn, places, pageEnd, historyEnd}
 use Rattle.history.specs.declared.Run.{Run}
 use Rattle.history.specs.Runs.{Sane, runOf}
 use Rattle.history.proofs.Ahead.{Tells, tells-of}

@@ -2,14 +2,14 @@
 -- Assumes nothing.
 use Prim.Native.Nat.{ℕ, zero, suc, _+_, _-_, _≤_}
 use mathlib.Core.Path.{_≡_}
-use mathlib.Core.List.{List, [], _∷_, _++_}
+use mathlib.Core.List.{List, [], _++_}
 use mathlib.Core.Bool.{Bool, true, false, cond}
-use lib.ListN.{length, drop}
-use Rattle.paging.specs.Cuts.{cutsFrom, cuts}
+use lib.ListN.{drop}
+use Rattle.paging.specs.Cuts.{cuts}
 use Rattle.values.specs.declared.HistRef.{HistRef}
-use Rattle.sources.specs.Source.{Entry, olds}
+use Rattle.sources.specs.Source.{Entry}
 use Rattle.image.specs.Sizes.{farLen, costsOf}
-use Rattle.image.specs.Image.{Place, placesIn, places, historyEnd, headRec, headRecs}
+use Rattle.image.specs.Image.{Place, placesIn, places, historyEnd, headRec}
 use Rattle.heads.specs.declared.Loc.{Loc}
 
 -- the places of these old versions: those left in the locator's page, then those of the pages behind it

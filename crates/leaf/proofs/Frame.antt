@@ -1,21 +1,20 @@
 -- The leaf's frame: its headers, its front (slots, boundaries) and its back (records, tail, hints, rounding), each one store.
 -- Assumes nothing.
 use mathlib.Core.Path.{_≡_, refl, sym, ap, _∙_}
-use mathlib.Core.List.{List, [], _∷_, _++_, append-nil, append-assoc}
-use mathlib.Core.Bool.{Bool, true, false, not, cond}
-use Prim.Native.Nat.{ℕ, zero, suc, _+_, _-_, _*_, _≤_, _<_}
+use mathlib.Core.List.{List, [], _∷_, _++_}
+use mathlib.Core.Bool.{Bool, true, false, cond}
+use Prim.Native.Nat.{ℕ, zero, suc, _+_, _-_, _*_, _≤_}
 use native.Mathlib.Omega.{arith}
 use lib.ListN.{length, take, drop, length-append, replicate, length-replicate}
 use Rattle.spans.specs.Span.{put}
 use Rattle.spans.proofs.Put.{put-chain}
-use Rattle.spans.proofs.Writing.{Writing, begin, wrote, finished, front}
-use Rattle.numbers.specs.Number.{le}
-use Rattle.frames.specs.Layout.{boxLen, baseLen, frameLen}
+use Rattle.spans.proofs.Writing.{Writing, begin, wrote, front}
+use Rattle.frames.specs.Layout.{boxLen}
 use Rattle.frames.specs.Stored.{boxBytes, baseBytes}
 use Rattle.frames.proofs.Stores.{length-box, length-base}
 use Rattle.values.specs.Vals.{sizeOf}
 use Rattle.sources.specs.declared.Cursor.{Cursor}
-use Rattle.sources.specs.Source.{Entry, entries, only, olds, heads}
+use Rattle.sources.specs.Source.{Entry, entries, olds, heads}
 use Rattle.image.specs.declared.Call.{Call}
 use Rattle.image.specs.Sizes.{farLen, keyLen, oldRun, fars}
 use Rattle.image.specs.Image.{boxOf, baseOf, Place, places, refOf, headRec, headRecs, headSlots, any, oneIf, cutsOf}
@@ -27,7 +26,7 @@ use Rattle.edges.specs.declared.Edges.{Edges}
 use Rattle.edges.specs.Edges.{Within, Inside, edgeBytes}
 use Rattle.edges.proofs.Laws.{length-edge}
 use Rattle.totals.specs.declared.Totals.{Totals}
-use Rattle.leaf.specs.Leaf.{Small, leafHead, recsAt, leafFront, leafBack, hintBytes, Hinted}
+use Rattle.leaf.specs.Leaf.{leafHead, recsAt, leafFront, leafBack, hintBytes, Hinted}
 use Rattle.leaf.proofs.HintRoom.{room-all}
 
 -- ---- headers

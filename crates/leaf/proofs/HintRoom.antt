@@ -1,19 +1,18 @@
 -- All hints of a leaf as one store: counts, pages, remotes, and the rest of the room.
 -- Assumes nothing.
 use mathlib.Core.Path.{_≡_, refl, sym, ap, _∙_}
-use mathlib.Core.List.{List, [], _∷_, _++_, append-nil, append-assoc}
-use mathlib.Core.Bool.{Bool, true, false, cond}
-use Prim.Native.Nat.{ℕ, zero, suc, _+_, _-_, _*_, _≤_, _<_}
+use mathlib.Core.List.{List, [], _++_, append-assoc}
+use mathlib.Core.Bool.{Bool, true, false}
+use Prim.Native.Nat.{ℕ, _+_, _-_, _*_, _≤_}
 use native.Mathlib.Omega.{arith}
-use borrow.Author.Tests.{eq-eqb, ne-eqb, eqb-true}
+use borrow.Author.Tests.{eq-eqb, ne-eqb}
 use lib.Dec.{eqb}
-use lib.ListN.{length, take, drop, length-append, replicate, length-replicate}
+use lib.ListN.{length, take, length-append, replicate}
 use lib.Seq.{take-length}
 use Rattle.spans.specs.Span.{put}
 use Rattle.spans.proofs.Put.{put-nil}
-use Rattle.spans.proofs.Writing.{Writing, begin, wrote, finished, front}
+use Rattle.spans.proofs.Writing.{Writing, begin, wrote, front}
 use Rattle.numbers.specs.Number.{le}
-use Rattle.numbers.proofs.Numbers.{length-le}
 use Rattle.sources.specs.declared.Cursor.{Cursor}
 use Rattle.sources.specs.Source.{Entry, entries, only, olds, heads}
 use Rattle.image.specs.declared.Call.{Call}
@@ -21,9 +20,9 @@ use Rattle.image.specs.Sizes.{fars}
 use Rattle.image.specs.Image.{farAddrs, starts, histAddrs, les, hints, cutsOf}
 use Rattle.image.proofs.Leaf.{length-les, length-starts, length-hints}
 use Rattle.history.specs.Runs.{Sane, these, historyEndAt}
-use Rattle.history.proofs.Writes.{wrote-n, wrote-le, room-le}
+use Rattle.history.proofs.Writes.{wrote-le, room-le}
 use Rattle.totals.specs.declared.Totals.{Totals}
-use Rattle.leaf.specs.Leaf.{hintBytes, hintsAt, pageHints, Hinted}
+use Rattle.leaf.specs.Leaf.{hintBytes, hintsAt, Hinted}
 use Rattle.leaf.proofs.Hints.{les-append, own-hints, remote-hints}
 
 -- all of them

@@ -1,9 +1,9 @@
 -- The hints: one entry's, one history page's, and those of all pages.
 -- Assumes nothing.
 use mathlib.Core.Path.{_≡_, refl, sym, ap, _∙_}
-use mathlib.Core.List.{List, [], _∷_, _++_, append-nil, append-assoc}
+use mathlib.Core.List.{List, [], _∷_, _++_, append-assoc}
 use mathlib.Core.Bool.{Bool, true, false, cond}
-use Prim.Native.Nat.{ℕ, zero, suc, _+_, _-_, _*_, _≤_, _<_}
+use Prim.Native.Nat.{ℕ, zero, suc, _+_, _-_, _≤_, _<_}
 use native.Mathlib.Numerals.{sub-one}
 use native.Mathlib.Nat.{add-zero}
 use native.Mathlib.Omega.{arith}
@@ -12,7 +12,7 @@ use lib.Dec.{ltb, eqb}
 use lib.ListN.{length, take, drop, length-append, length-drop, length-take}
 use Rattle.spans.specs.Span.{put}
 use Rattle.spans.proofs.Put.{put-nil}
-use Rattle.spans.proofs.Writing.{Writing, begin, wrote, finished, front}
+use Rattle.spans.proofs.Writing.{Writing, wrote, finished, front}
 use Rattle.numbers.specs.Number.{le}
 use Rattle.numbers.proofs.Numbers.{length-le}
 use Rattle.frames.specs.Layout.{frameLen}

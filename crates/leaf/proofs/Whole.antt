@@ -3,28 +3,26 @@
 use mathlib.Core.Path.{_≡_, refl, sym, ap, _∙_}
 use mathlib.Core.List.{List, [], _∷_, _++_, append-assoc}
 use mathlib.Core.Bool.{Bool, true, false, not, cond}
-use Prim.Native.Nat.{ℕ, zero, suc, _+_, _-_, _*_, _≤_, _<_}
+use Prim.Native.Nat.{ℕ, suc, _+_, _-_, _*_, _≤_}
 use native.Mathlib.Omega.{arith}
 use borrow.Author.Tests.{ne-eqb}
 use lib.Dec.{eqb}
-use lib.ListN.{length, take, drop, length-append, replicate}
+use lib.ListN.{length, take, replicate}
 use Rattle.spans.specs.Span.{put}
-use Rattle.spans.proofs.Put.{put-append, length-put, take-put}
-use Rattle.spans.proofs.Writing.{Writing, begin, wrote, finished, front}
-use Rattle.frames.specs.Layout.{boxLen, baseLen, frameLen}
+use Rattle.spans.proofs.Writing.{Writing, begin, wrote, front}
+use Rattle.frames.specs.Layout.{boxLen, frameLen}
 use Rattle.frames.specs.Stored.{boxBytes, baseBytes}
 use Rattle.sources.specs.declared.Cursor.{Cursor}
 use Rattle.sources.specs.Source.{Entry, entries, only, olds, heads}
 use Rattle.image.specs.declared.Call.{Call}
 use Rattle.image.specs.Sizes.{pad, sums, fars}
-use Rattle.image.specs.Image.{boxOf, baseOf, farFrames, starts, histAddrs, farAddrs, history, historyEnd, places, headSlots, headRecs, hints, Bounds, firstOf, leafSize, leafRoom, cutsOf, oneIf, leafFrame, leafImage}
-use Rattle.image.proofs.Lengths.{frame-least, length-fars}
+use Rattle.image.specs.Image.{boxOf, baseOf, farFrames, starts, histAddrs, farAddrs, historyEnd, places, headSlots, headRecs, hints, Bounds, firstOf, leafSize, leafRoom, cutsOf, oneIf, leafFrame, leafImage}
+use Rattle.image.proofs.Lengths.{frame-least}
 use Rattle.image.proofs.Leaf.{length-history, head-recs-fit, leaf-hints-fit, length-starts, length-leaf-frame, length-leaf-image}
 use Rattle.history.specs.Runs.{Sane, these, historyAt, historyEndAt}
 use Rattle.heads.specs.Steps.{Long, steps}
-use Rattle.heads.proofs.Locating.{up-history}
 use Rattle.edges.specs.declared.Edges.{Edges}
-use Rattle.edges.specs.Edges.{Within, Inside, edgeBytes, boundsOf}
+use Rattle.edges.specs.Edges.{Inside, edgeBytes, boundsOf}
 use Rattle.edges.proofs.Laws.{length-edge}
 use Rattle.totals.specs.declared.Totals.{Totals}
 use Rattle.totals.specs.Totals.{leafAt, farAt, remotesOf, totalsOf}

@@ -9,13 +9,13 @@ use Rattle.frames.specs.declared.Addr.{Addr}
 use Rattle.frames.specs.declared.Body.{Body}
 use Rattle.frames.specs.Layout.{Inside}
 use Rattle.values.specs.declared.KeyRead.{KeyRead}
-use Rattle.records.specs.Records.{verIn, keyAtSlot}
+use Rattle.records.specs.Records.{keyAtSlot}
 use Rattle.sst.specs.declared.Halved.{Halved}
 use Rattle.sst.specs.declared.Outcome.{Outcome}
 use Rattle.sst.specs.Search.{leaves, outcomeAt}
-use Rattle.sst.proofs.Opens.{IsReady, outcome-ready}
+use Rattle.sst.proofs.Opens.{outcome-ready}
 use Rattle.overlay.specs.declared.Head.{Head}
-use Rattle.overlay.specs.Overlay.{headKey, headSlot, headIn, headOf, headAt}
+use Rattle.overlay.specs.Overlay.{headKey, headSlot, headOf, headAt}
 
 nothing-no : (b : Body) (i : ℕ) (v : Ver) → Head.Nothing ≡ Head.Is b i v → ⊥
 nothing-no b i v e = let z : _≡_ {A = ℕ} 0 1 = cc in omega arith

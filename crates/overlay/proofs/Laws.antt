@@ -2,7 +2,7 @@
 -- Assumes nothing.
 use mathlib.Core.Path.{_≡_, refl, sym, ap, _∙_}
 use mathlib.Core.List.{List}
-use mathlib.Core.Bool.{Bool, true, false, _&&_, not, cond}
+use mathlib.Core.Bool.{Bool, true, false}
 use Prim.Native.Nat.{ℕ}
 use native.Mathlib.Omega.{arith}
 use Rattle.order.specs.declared.Ver.{Ver}
@@ -14,21 +14,20 @@ use Rattle.frames.specs.declared.Addr.{Addr}
 use Rattle.frames.specs.declared.Body.{Body}
 use Rattle.frames.specs.declared.Refusal.{Refusal}
 use Rattle.records.specs.declared.RecRead.{RecRead}
-use Rattle.records.specs.Records.{verIn, recAt}
+use Rattle.records.specs.Records.{recAt}
 use Rattle.pages.specs.declared.Place.{Place}
 use Rattle.pages.specs.Edges.{place, partIn}
 use Rattle.values.specs.declared.HistRef.{HistRef}
 use Rattle.sst.specs.declared.Found.{Found}
 use Rattle.sst.specs.declared.Halved.{Halved}
 use Rattle.sst.specs.declared.Outcome.{Outcome}
-use Rattle.sst.specs.Search.{leaves, outcomeAt, foundRec, headIn, foundIn, searchOf, searchAt}
+use Rattle.sst.specs.Search.{leaves, outcomeAt, foundRec, headIn, searchOf, searchAt}
 use Rattle.delta.specs.declared.LeafKey.{LeafKey}
-use Rattle.delta.specs.declared.Value.{Value}
-use Rattle.delta.specs.Read.{leafKeyAt, valueAt}
+use Rattle.delta.specs.Read.{leafKeyAt}
 use Rattle.overlay.specs.declared.Head.{Head}
 use Rattle.overlay.specs.declared.Laid.{Laid}
-use Rattle.overlay.specs.Overlay.{headOf, headAt, pageRec, pageValue, isProbe, deltaVal, deltaValue, laidBy, laidOf, laidAt}
-use Rattle.overlay.proofs.Heads.{HeadFrom, head-from}
+use Rattle.overlay.specs.Overlay.{headOf, headAt, pageRec, pageValue, isProbe, deltaValue, laidBy, laidAt}
+use Rattle.overlay.proofs.Heads.{head-from}
 
 -- "the delta's key is the probe": the very same bytes
 pub probe-same : (t : List ℕ) (key : Place) (probe : List ℕ) → partIn t key ≡ probe → isProbe t key probe ≡ true

@@ -2,7 +2,7 @@
 -- Assumes nothing.
 use Prim.Native.Nat.{ℕ}
 use mathlib.Core.List.{List}
-use mathlib.Core.Bool.{Bool, true, false, _&&_, not, cond}
+use mathlib.Core.Bool.{Bool, _&&_, not, cond}
 use Rattle.order.specs.declared.Ver.{Ver}
 use Rattle.order.specs.Order.{isEqual, cmpBytes}
 use Rattle.order.specs.Version.{newerThan}

@@ -1,6 +1,8 @@
 // Replays the judge's vectors: reads tests/vectors (tools/test puts them together), prints every line again with our own answers in place of
-// the judge's, and must so write what it read, byte for byte. Builds, merges and deltas are still the judge's: their bytes are taken over.
+// the judge's, and must so write what it read, byte for byte. Merges and deltas are still the judge's: their bytes are taken over.
+use build::Built;
 use frames::Addr;
+use frames::PageId;
 use frames::Refusal;
 use lengths::Length;
 use order::Ver;
@@ -18,7 +20,7 @@ use walks::Item;
 use walks::Step;
 use walks::Walk;
 ghost use mathlib.Core.Path.{_≡_};
-ghost use Prim.Native.Nat.{_+_, _≤_};
+ghost use Prim.Native.Nat.{_+_, _≤_, _<_};
 ghost use lib.ListN.{length};
 
 const OUT: i32 = 1;
@@ -291,6 +293,151 @@ fn unlength(b: &[u8]) {
     }
 }
 
+// ---- builds
+
+// The place of the k-th word behind a line's first.
+fn word(l: &[u8], k: usize) -> usize {
+    let mut at = 0;
+    let mut left = k;
+    while left > 0 {
+        at = text::next_word(l, at);
+        left -= 1;
+    }
+    at
+}
+
+fn count(l: &[u8], k: usize) -> u64 {
+    text::number_or_0(l, word(l, k))
+}
+
+// How much of what is left goes on one line.
+fn piece(left: usize) -> usize
+    requires { ⌜ 0 < left ⌝ }
+    ensures { λ r. ⌜ (0 < r) × (r ≤ left) ⌝ }
+{
+    if left < 32768 { left } else { 32768 }
+}
+
+// What a build wrote, from one address up to another, in lines of at most 32,768 bytes.
+fn written(a: &[u8], from: usize, upto: usize) {
+    let mut at = from;
+    while at < upto {
+        let n = piece(upto - at);
+        io::write_all(OUT, b"bytes");
+        number(at as u64);
+        io::write_all(OUT, b" ");
+        text::print_runs(OUT, spans::part_of(a, at, n));
+        end_line();
+        at += n;
+    }
+}
+
+fn built(a: &[u8], next: usize, b: Built) {
+    match b {
+        Built::At(x, upto) => {
+            two(x.0, upto as u64);
+            written(a, next, upto);
+        }
+        Built::Refused(r) => refused(r),
+    }
+}
+
+// index NEXT TXID GROUP LSN CKPT SIBLING LO HI LIST
+fn index(l: &[u8], a: &mut [u8], lo: &[u8], hi: &[u8], list: &[u8]) {
+    let next = count(l, 1) as usize;
+    let group = (count(l, 3) % 256) as u8;
+    let page = PageId(count(l, 6));
+    let b = base::new_intl(
+        a,
+        next,
+        list,
+        lo,
+        hi,
+        page,
+        group,
+        count(l, 2),
+        count(l, 4),
+        count(l, 5),
+    );
+    built(a, next, b);
+}
+
+// leaf NEXT LIMIT BUDGET TXID GROUP LSN CKPT SIBLING LO HI LIST
+fn leaf(l: &[u8], a: &mut [u8], lo: &[u8], hi: &[u8], list: &[u8]) {
+    let next = count(l, 1) as usize;
+    let limit = count(l, 2) as usize;
+    let budget = count(l, 3) as usize;
+    let group = (count(l, 5) % 256) as u8;
+    let page = PageId(count(l, 8));
+    let b = base::new_leaf(
+        a,
+        next,
+        list,
+        lo,
+        hi,
+        page,
+        limit,
+        budget,
+        group,
+        count(l, 4),
+        count(l, 6),
+        count(l, 7),
+    );
+    built(a, next, b);
+}
+
+// common LO HI
+fn common(lo: &[u8], hi: &[u8]) {
+    let n = base::calc_prefix(lo, hi);
+    io::write_all(OUT, b"=");
+    number(n as u64);
+    end_line();
+}
+
+// Which word of a build's line is LO; 0 where the line is none.
+fn low_word(l: &[u8]) -> usize
+    ensures { λ r. ⌜ r ≤ 9 ⌝ }
+{
+    if text::says(l, 0, b"leaf ") {
+        return 9;
+    }
+    if text::says(l, 0, b"index ") {
+        return 7;
+    }
+    if text::says(l, 0, b"common ") {
+        return 1;
+    }
+    0
+}
+
+fn carry(l: &[u8], a: &mut [u8], lo: &[u8], hi: &[u8], list: &[u8]) {
+    if text::says(l, 0, b"leaf ") {
+        leaf(l, a, lo, hi, list);
+        return;
+    }
+    if text::says(l, 0, b"index ") {
+        index(l, a, lo, hi, list);
+        return;
+    }
+    common(lo, hi);
+}
+
+// Carries out a build; false where the line is none.
+fn builds(l: &[u8], a: &mut [u8], lo: &mut [u8], hi: &mut [u8], list: &mut [u8]) -> bool {
+    let k = low_word(l);
+    if k == 0 {
+        return false;
+    }
+    let p = word(l, k);
+    let q = text::next_word(l, p);
+    let r = text::next_word(l, q);
+    let x = text::bytes_at(l, p, lo);
+    let y = text::bytes_at(l, q, hi);
+    let z = text::bytes_at(l, r, list);
+    carry(l, a, &lo[..x], &hi[..y], &list[..z]);
+    true
+}
+
 // Answers the command of a line; false where it is not one of ours.
 fn answered(l: &[u8], s: &[u8], key: &mut [u8]) -> bool {
     let first = text::next_word(l, 0);
@@ -371,7 +518,14 @@ fn again(l: &[u8]) {
 }
 
 // One line: printed again, and carried out.
-fn turn(l: &[u8], arena: &mut [u8], key: &mut [u8], st: State) -> State {
+fn turn(
+    l: &[u8],
+    arena: &mut [u8],
+    key: &mut [u8],
+    hi: &mut [u8],
+    list: &mut [u8],
+    st: State,
+) -> State {
     let size = at_most(st.size as u64, arena.len());
     if is_answer(l) {
         if st.ours {
@@ -401,6 +555,12 @@ fn turn(l: &[u8], arena: &mut [u8], key: &mut [u8], st: State) -> State {
             ours: false,
         };
     }
+    if builds(l, &mut arena[..size], key, hi, list) {
+        return State {
+            size: size,
+            ours: true,
+        };
+    }
     let ours = answered(l, &arena[..size], key);
     State {
         size: size,
@@ -415,7 +575,14 @@ struct Done {
 }
 
 // The whole lines of a text.
-fn lines(t: &[u8], arena: &mut [u8], key: &mut [u8], st: State) -> Done
+fn lines(
+    t: &[u8],
+    arena: &mut [u8],
+    key: &mut [u8],
+    hi: &mut [u8],
+    list: &mut [u8],
+    st: State,
+) -> Done
     ensures { λ r. ⌜ r .upto ≤ length (now (t .entry)) ⌝ }
 {
     let mut at = 0;
@@ -425,7 +592,7 @@ fn lines(t: &[u8], arena: &mut [u8], key: &mut [u8], st: State) -> Done
         if t.len() <= e {
             return Done { upto: at, st: now };
         }
-        now = turn(&t[at..e], arena, key, now);
+        now = turn(&t[at..e], arena, key, hi, list, now);
         at = e + 1;
     }
     Done { upto: at, st: now }
@@ -452,10 +619,18 @@ fn filled(buf: &mut [u8], have: usize) -> usize
 }
 
 // Carries out the whole lines of the first n bytes, and keeps the rest at the front; the count of that, and the state.
-fn carried(buf: &mut [u8], n: usize, arena: &mut [u8], key: &mut [u8], st: State) -> Done
+fn carried(
+    buf: &mut [u8],
+    n: usize,
+    arena: &mut [u8],
+    key: &mut [u8],
+    hi: &mut [u8],
+    list: &mut [u8],
+    st: State,
+) -> Done
     requires { ⌜ n ≤ length (now buf) ⌝ }
 {
-    let d = lines(&buf[..n], arena, key, st);
+    let d = lines(&buf[..n], arena, key, hi, list, st);
     let from = d.upto;
     let left = n - from;
     to_front(buf, from, left);
@@ -480,7 +655,7 @@ fn whole_key() -> [u8; 16384]
 }
 
 // Standard input in rounds of what buf holds, 256 of them: 16 MB in all.
-fn rounds(buf: &mut [u8], arena: &mut [u8], key: &mut [u8]) {
+fn rounds(buf: &mut [u8], arena: &mut [u8], key: &mut [u8], hi: &mut [u8], list: &mut [u8]) {
     let mut have = 0;
     let mut st = State {
         size: 0,
@@ -489,7 +664,7 @@ fn rounds(buf: &mut [u8], arena: &mut [u8], key: &mut [u8]) {
     let mut k: usize = 0;
     while k < 256 {
         let n = filled(buf, have);
-        let d = carried(buf, n, arena, key, st);
+        let d = carried(buf, n, arena, key, hi, list, st);
         have = d.upto;
         let after = d.st;
         st = after;
@@ -501,5 +676,7 @@ fn main() {
     let mut buf = io::large_buffer();
     let mut arena = whole_arena();
     let mut key = whole_key();
-    rounds(&mut buf, &mut arena, &mut key);
+    let mut hi = whole_key();
+    let mut list = whole_arena();
+    rounds(&mut buf, &mut arena, &mut key, &mut hi, &mut list);
 }

@@ -4,6 +4,7 @@ pub mod Joined
 pub mod Lists
 pub mod Paged
 pub mod Sourced
+pub mod Marked
 pub mod Judging
 pub mod Cases
 pub mod Decided

@@ -4,3 +4,4 @@ pub mod Lists
 pub mod Pages
 pub mod Source
 pub mod Judged
+pub mod Marks

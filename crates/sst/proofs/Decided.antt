@@ -11,7 +11,11 @@ use Rattle.frames.specs.declared.Addr.{Addr}
 use Rattle.sst.specs.declared.Bound.{Bound}
 use Rattle.sst.specs.declared.Floor.{Floor}
 use Rattle.sst.specs.declared.Found.{Found}
-use Rattle.sst.specs.Search.{lowerAt, floorAt, searchAt}
+use Rattle.sst.specs.declared.Outcome.{Outcome}
+use Rattle.sst.specs.declared.Want.{Want}
+use Rattle.sst.specs.Search.{outcomeAt, lowerAt, floorAt, searchAt}
+use Rattle.sst.proofs.halve_at as halve-fn
+use Rattle.sst.proofs.halve_at.Reads as halve-at
 use Rattle.sst.proofs.lower_bound as lower-fn
 use Rattle.sst.proofs.lower_bound.Reads as lower-bound
 use Rattle.sst.proofs.floor_pid_by_raw as floor-fn
@@ -20,6 +24,9 @@ use Rattle.sst.proofs.search_ver_val_by_raw as search-fn
 use Rattle.sst.proofs.search_ver_val_by_raw.Reads as search-ver-val
 
 module _ (κs : Lfts 2) (s : RefT (List ℕ)) (a : Addr) (probe : RefT (List ℕ)) where
+  pub halve-decided : (w : Want) (x : AtExit halve-fn.ended κs) → Decides (λ (r : Outcome). halve-at.Post κs (s, (a, (probe, (w, tt)))) r x) (λ (r : Outcome). r)
+  halve-decided w x = decides (λ (r : Outcome). r) (outcomeAt (now s) a (now probe) w)
+
   pub lower-decided : (v : Ver) (x : AtExit lower-fn.ended κs) → Decides (λ (r : Bound). lower-bound.Post κs (s, (a, (probe, (v, tt)))) r x) (λ (r : Bound). r)
   lower-decided v x = decides (λ (r : Bound). r) (lowerAt (now s) a (now probe) v)
 

@@ -213,8 +213,8 @@ fn halve_page(s: &[u8], b: Body, probe: &[u8], w: Want) -> Halved
     halve_keys(s, b, &probe[from..], w)
 }
 
-// The page at an address, halved.
-fn halve_at(s: &[u8], a: Addr, probe: &[u8], w: Want) -> Outcome
+// The page at an address, halved: what search, floor, lower bound and the overlay share.
+pub fn halve_at(s: &[u8], a: Addr, probe: &[u8], w: Want) -> Outcome
     ensures { λ r. ⌜ r ≡ outcomeAt (now (s .entry)) a (now (probe .entry)) w ⌝ }
 {
     match open_for(s, a, probe, w) {

@@ -15,12 +15,13 @@ use Rattle.frames.specs.Layout.{addr}
 use Rattle.frames.proofs.Frames.{remote-inside}
 use Rattle.pages.specs.Meaning.{Page, says, meaning}
 use Rattle.sources.specs.Source.{Entry, olds}
+use Rattle.sources.specs.Marks.{Each, Held, Keeps}
 use Rattle.image.specs.declared.Call.{Call}
 use Rattle.image.specs.Image.{Bounds, cutsOf, historyEnd, leafImage, indexImage}
 use Rattle.stays.proofs.Grown.{Grown, stay-part}
 use Rattle.stays.proofs.FramesStay.{remote-stays}
 use Rattle.stays.proofs.PagesStay.{meaning-stays, below-mark}
-use Rattle.viewhist.specs.Fit.{Each, Held, Fits}
+use Rattle.viewhist.specs.Fit.{Fits}
 use Rattle.viewhist.proofs.Values.{lies-take}
 use Rattle.viewleaf.specs.Grouped.{leafPage, LeafFit}
 use Rattle.viewleaf.proofs.Built.{leaf-says}
@@ -37,14 +38,14 @@ held-grown t s g a v h =
       bytes = stay-part t s g (h .place) (length v) (remote-inside t (addr a) (length v) (h .place) (h .read)) ∙ h .bytes;
     }
 
-fits-grown : (t s : List ℕ) → Grown t s → (limit : ℕ) (e : Entry) → Fits t limit e → Fits s limit e
-fits-grown t s g limit e f =
-    record { key = f .key; val = f .val; txid = f .txid; cmd = f .cmd; word = f .word; held = λ h k. held-grown t s g (e .kept) (e .val) (f .held h k) }
+fits-grown : (t s : List ℕ) → Grown t s → (e : Entry) → Fits t e → Fits s e
+unfolding Keeps
+fits-grown t s g e f = record { short = f .short; wide = f .wide; keeps = λ k. held-grown t s g (e .kept) (e .val) (f .keeps k) }
 
-each-grown : (t s : List ℕ) → Grown t s → (limit : ℕ) (es : List Entry) → Each (Fits t limit) es → Each (Fits s limit) es
+each-grown : (t s : List ℕ) → Grown t s → (es : List Entry) → Each (Fits t) es → Each (Fits s) es
 unfolding Each
-each-grown t s g limit [] h = tt
-each-grown t s g limit (e ∷ es) h = (fits-grown t s g limit e (h .0), each-grown t s g limit es (h .1))
+each-grown t s g [] h = tt
+each-grown t s g (e ∷ es) h = (fits-grown t s g e (h .0), each-grown t s g es (h .1))
 
 -- ---- one store at the mark
 
@@ -92,7 +93,7 @@ module _ (a : List ℕ) (m : Call) (b : Bounds) (at : ℕ) (es : List Entry) (fi
         address = record { above = fit .address .above; even = fit .address .even; word = omega (arith, now-long a at x room) };
         call = fit .call;
         bounds = fit .bounds;
-        each = each-grown (take at a) (stored a at x) (now-grown a at x room) (m .limit) es (fit .each);
+        each = each-grown (take at a) (stored a at x) (now-grown a at x room) es (fit .each);
         marks = fit .marks;
         rises = fit .rises;
         begins = fit .begins;

@@ -18,12 +18,13 @@ use Rattle.records.specs.declared.Rec.{Rec}
 use Rattle.records.specs.declared.RecRead.{RecRead}
 use Rattle.records.specs.Records.{recAt}
 use Rattle.sources.specs.Source.{Entry}
+use Rattle.sources.specs.Marks.{Each}
 use Rattle.pages.specs.declared.OldRead.{OldRead}
 use Rattle.pages.specs.Sound.{historyAt, histOk, oldIn, oldAt, entered}
 use Rattle.image.specs.declared.Call.{Call}
 use Rattle.image.specs.Image.{histSize, histPage, pageEnd, linkTo, history, historyEnd, Place, placesIn, places}
 use Rattle.image.proofs.Lengths.{length-page}
-use Rattle.viewhist.specs.Fit.{Each, Fits, CallFits, Address}
+use Rattle.viewhist.specs.Fit.{Fits, CallFits, Address}
 use Rattle.viewhist.specs.Rows.{Rows}
 use Rattle.viewhist.proofs.Fars.{fars-even}
 use Rattle.viewhist.proofs.Page.{SaysOld}
@@ -157,7 +158,7 @@ module _ (s : List ℕ) (m : Call) (w : CallFits m) where
       olds-link s at (histBody m at next here) o k next (f .body) refl (f .opened) (f .some) rest h
 
   -- a page before the pages behind it
-  joined : (ns : List ℕ) (at next : ℕ) (here rest : List Entry) → Address s at → at < 256 ^ 8 → Paged (m .limit) ns rest → Whole s (m .limit) next ns rest → PageFits (m .limit) at (linkTo next ns) here → Each (Fits s (m .limit)) here
+  joined : (ns : List ℕ) (at next : ℕ) (here rest : List Entry) → Address s at → at < 256 ^ 8 → Paged (m .limit) ns rest → Whole s (m .limit) next ns rest → PageFits (m .limit) at (linkTo next ns) here → Each (Fits s) here
       → Lies s at (histPage m at (linkTo next ns) here) → First s at × Olds s at 0 (here ++ rest) × Told s (placesIn at 0 (length here) ++ places (m .limit) next ns rest) (here ++ rest)
   unfolding bodyOf
   joined ns at next here rest ad word pg more pf each lies =
@@ -172,7 +173,7 @@ module _ (s : List ℕ) (m : Call) (w : CallFits m) where
         told-page s at body o k word (pf .few) 0 (body .first) here rest (places (m .limit) next ns rest) (omega arith) r t (more .told),
       )
 
-  pub history-back : (ns : List ℕ) (at : ℕ) (es : List Entry) → Address s at → Paged (m .limit) ns es → Each (Fits s (m .limit)) es → historyEnd (m .limit) at ns es ≤ length s → Lies s at (history m at ns es) → Whole s (m .limit) at ns es
+  pub history-back : (ns : List ℕ) (at : ℕ) (es : List Entry) → Address s at → Paged (m .limit) ns es → Each (Fits s) es → historyEnd (m .limit) at ns es ≤ length s → Lies s at (history m at ns es) → Whole s (m .limit) at ns es
   unfolding Paged history historyEnd places FirstOf Olds Told
   history-back [] at es ad pg f e l = rw pg (record { first = tt; olds = tt; told = tt })
   history-back (n ∷ ns) at es ad pg f e l =
@@ -187,9 +188,9 @@ module _ (s : List ℕ) (m : Call) (w : CallFits m) where
       let q : at + length (histPage m at link here) ≡ next = length-page m at link here in
       let lies = lies-front s at (histPage m at link here) (history m next ns rest) l in
       let lies′ : Lies s next (history m next ns rest) = rw q at (lies-back s at (histPage m at link here) (history m next ns rest) l) in
-      let more = history-back ns next rest ad′ (pg .4) (each-drop (Fits s limit) n es f) e lies′ in
+      let more = history-back ns next rest ad′ (pg .4) (each-drop (Fits s) n es f) e lies′ in
       let pf : PageFits limit at link here = record { some = omega (arith, pg .0); few = omega (arith, pg .2); size = pg .3; upward = upward limit at here ns; word = link-word next ns (omega (arith, ad .word)) } in
-      let j = joined ns at next here rest ad (omega (arith, page-above limit at here, ad .word)) (pg .4) more pf (each-take (Fits s limit) n es f) lies in
+      let j = joined ns at next here rest ad (omega (arith, page-above limit at here, ad .word)) (pg .4) more pf (each-take (Fits s) n es f) lies in
       let eq : here ++ rest ≡ es = take-append-drop n es in
       record {
         first = j .0;

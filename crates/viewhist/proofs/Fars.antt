@@ -11,10 +11,11 @@ use lib.Dec.{ltb, eqb}
 use Rattle.spans.specs.Span.{Lies}
 use Rattle.frames.specs.Layout.{boxLen, frameLen}
 use Rattle.sources.specs.Source.{Entry}
+use Rattle.sources.specs.Marks.{Held, Keeps}
 use Rattle.image.specs.declared.Call.{Call}
 use Rattle.image.specs.Sizes.{farLen, fars}
 use Rattle.image.specs.Image.{farAddr, remoteFrame, farFrame}
-use Rattle.viewhist.specs.Fit.{Held, Fits, CallFits, Address}
+use Rattle.viewhist.specs.Fit.{Fits, CallFits, Address}
 use Rattle.viewhist.proofs.Opening.{Framing, remote-back, remote-bytes}
 use Rattle.viewhist.proofs.Values.{Resolves}
 
@@ -36,16 +37,17 @@ fars-even limit (e ∷ es) = omega (arith, far-even limit (length (e .val)) (e .
 
 -- ---- one entry's remote
 
-module _ (s : List ℕ) (m : Call) (far : ℕ) (e : Entry) (w : CallFits m) (fit : Fits s (m .limit) e) (ad : Address s far) (room : far + farLen (m .limit) (length (e .val)) (e .kept) ≤ length s) (lies : Lies s far (farFrame m e)) where
+module _ (s : List ℕ) (m : Call) (far : ℕ) (e : Entry) (w : CallFits m) (fit : Fits s e) (ad : Address s far) (room : far + farLen (m .limit) (length (e .val)) (e .kept) ≤ length s) (lies : Lies s far (farFrame m e)) where
   word-by : (c : Bool) → cond c far (e .kept) < 256 ^ 8
   word-by true = omega (arith, ad .word)
-  word-by false = fit .word
+  word-by false = fit .wide .kept
 
   held-by : (c : Bool) → eqb (e .kept) 0 ≡ c → (m .limit) ≤ length (e .val) → far + cond c (frameLen (8 + length (e .val))) 0 ≤ length s → Lies s far (cond c (remoteFrame m (e .val)) []) → Held s (cond c far (e .kept)) (e .val)
+  unfolding Keeps
   held-by true q h r l =
       let f : Framing s far (8 + length (e .val)) = record { above = ad .above; even = ad .even; room = r; word = ad .word } in
-      record { place = far + boxLen + 8; read = remote-back s m far (e .val) (w .numbers) f (fit .val) l; bytes = remote-bytes s m far (e .val) (w .numbers) f (fit .val) l }
-  held-by false q h r l = fit .held h (eqb-false (e .kept) 0 q)
+      record { place = far + boxLen + 8; read = remote-back s m far (e .val) (w .numbers) f (fit .short .val) l; bytes = remote-bytes s m far (e .val) (w .numbers) f (fit .short .val) l }
+  held-by false q h r l = fit .keeps (eqb-false (e .kept) 0 q)
 
   pub resolves : Resolves s (m .limit) far e
   unfolding farAddr farLen farFrame

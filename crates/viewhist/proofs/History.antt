@@ -18,12 +18,13 @@ use Rattle.frames.specs.Layout.{addr, boxLen, baseLen, frameLen, boxOk, baseOk,
 use Rattle.frames.specs.Stored.{boxBytes, baseBytes}
 use Rattle.frames.proofs.Stores.{BaseFits, length-box}
 use Rattle.sources.specs.Source.{Entry}
+use Rattle.sources.specs.Marks.{Each}
 use Rattle.pages.specs.Sound.{slotsOk, historyAt, histOk}
 use Rattle.image.specs.declared.Call.{Call}
 use Rattle.image.specs.Sizes.{pad, fars}
 use Rattle.image.specs.Image.{boxOf, baseOf, farFrames, oldRecs, oldSlots, histHead, histSize, histPage, pageEnd}
 use Rattle.image.proofs.Lengths.{length-pad, length-slots, length-recs, length-hist-head, length-page}
-use Rattle.viewhist.specs.Fit.{Each, Fits, CallFits, Address}
+use Rattle.viewhist.specs.Fit.{Fits, CallFits, Address}
 use Rattle.viewhist.specs.Rows.{Rows}
 use Rattle.viewhist.proofs.Opening.{box-fits, open-back}
 use Rattle.viewhist.proofs.Rowing.{slots-old}
@@ -46,7 +47,7 @@ histBase m es = baseOf (histSize (m .limit) es) (length es) 0 0 0 0 0 0
 abbrev pub histBody : Call → ℕ → ℕ → List Entry → Body
 histBody m at link es = bodyOf (addr at) (histBox m link es) (histBase m es)
 
-module _ (s : List ℕ) (m : Call) (at link : ℕ) (es : List Entry) (w : CallFits m) (ad : Address s at) (pf : PageFits (m .limit) at link es) (each : Each (Fits s (m .limit)) es) (lies : Lies s at (histPage m at link es)) where
+module _ (s : List ℕ) (m : Call) (at link : ℕ) (es : List Entry) (w : CallFits m) (ad : Address s at) (pf : PageFits (m .limit) at link es) (each : Each (Fits s) es) (lies : Lies s at (histPage m at link es)) where
   abbrev size : ℕ
   size = histSize (m .limit) es
 

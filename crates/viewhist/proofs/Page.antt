@@ -22,11 +22,12 @@ use Rattle.values.proofs.ValsBack.{SmallHist}
 use Rattle.records.specs.declared.Rec.{Rec}
 use Rattle.records.specs.Records.{verIn, keyIn}
 use Rattle.sources.specs.Source.{Entry}
+use Rattle.sources.specs.Marks.{Each}
 use Rattle.image.specs.declared.Call.{Call}
 use Rattle.image.specs.Sizes.{farLen, valLen, fars}
 use Rattle.image.specs.Image.{valBytes, farFrame, farFrames, oldRec, oldRecs, oldSlots}
 use Rattle.image.proofs.Lengths.{length-far, length-old, length-plain}
-use Rattle.viewhist.specs.Fit.{Each, Fits, CallFits, Address}
+use Rattle.viewhist.specs.Fit.{Fits, CallFits, Address}
 use Rattle.viewhist.specs.Rows.{Rows}
 use Rattle.viewhist.proofs.Values.{Resolves, val-back, ver-in, RecBack, rec-back, rec-at}
 use Rattle.viewhist.proofs.Fars.{far-even, resolves}
@@ -36,15 +37,15 @@ pub record SaysOld (s : List ℕ) (r : Rec) (e : Entry) : Type 0 where
   pub ver : verIn s (r .«ver_at») ≡ e .ver
   pub val : part s (r .«val_at») (r .«val_len») ≡ e .val
 
-small-ver : (s : List ℕ) (limit : ℕ) (e : Entry) → Fits s limit e → SmallVer (e .ver)
-small-ver s limit e f = record { txid = f .txid; cmd = f .cmd }
+small-ver : (s : List ℕ) (e : Entry) → Fits s e → SmallVer (e .ver)
+small-ver s e f = record { txid = f .wide .txid; cmd = f .wide .cmd }
 
 no-hist : SmallHist noHist
 no-hist = record { page = omega arith; slot = omega arith; count = omega arith }
 
 -- ---- one record
 
-module _ (s : List ℕ) (b : Body) (p limit far : ℕ) (e : Entry) (kind : b .kind ≡ 2) (bare : b .«prefix_len» ≡ 0) (ends : b .end ≤ length s) (fit : Fits s limit e) (res : Resolves s limit far e)
+module _ (s : List ℕ) (b : Body) (p limit far : ℕ) (e : Entry) (kind : b .kind ≡ 2) (bare : b .«prefix_len» ≡ 0) (ends : b .end ≤ length s) (fit : Fits s e) (res : Resolves s limit far e)
     (lies : Lies s p (oldRec limit far e)) (room : p + length (oldRec limit far e) ≤ b .end) where
   lead : Lies s p (verBytes (e .ver))
   unfolding oldRec
@@ -67,16 +68,16 @@ module _ (s : List ℕ) (b : Body) (p limit far : ℕ) (e : Entry) (kind : b .ki
   old-back =
       let z : p + 12 + 0 ≡ p + 12 = omega arith in
       rec-back s b p p (p + 12) 0 noHist e (p + 12 + 0 + length (valBytes limit far noHist e)) (λ q. omega arith) key
-      (val-back s b (p + 12 + 0) limit far noHist e (λ q. absurd (let y : _≡_ {A = ℕ} 0 1 = cc in omega arith)) no-hist (fit .val) res (rw z tail) (omega (arith, long)))
+      (val-back s b (p + 12 + 0) limit far noHist e (λ q. absurd (let y : _≡_ {A = ℕ} 0 1 = cc in omega arith)) no-hist (fit .short .val) res (rw z tail) (omega (arith, long)))
 
   pub old-says : SaysOld s (old-back .rec) e
-  old-says = record { ver = rw (old-back .ver-at) (ver-in s p (e .ver) (small-ver s limit e fit) lead); val = old-back .val }
+  old-says = record { ver = rw (old-back .ver-at) (ver-in s p (e .ver) (small-ver s e fit) lead); val = old-back .val }
 
 -- ---- the records in order
 
 module _ (s : List ℕ) (m : Call) (b : Body) (w : CallFits m) (kind : b .kind ≡ 2) (bare : b .«prefix_len» ≡ 0) (ends : b .end ≤ length s) (short : b .end < b .at + 256 ^ 4) where
   pub rows-old : (i off far : ℕ) (es : List Entry) → i + length es ≡ b .elems → b .first ≤ b .at + off → b .at + off + length (oldRecs (m .limit) far es) ≤ b .end
-      → Each (Fits s (m .limit)) es → Address s far → far + fars (m .limit) es ≤ length s
+      → Each (Fits s) es → Address s far → far + fars (m .limit) es ≤ length s
       → Lies s (b .at + baseLen + 4 * i) (oldSlots (m .limit) off es) → Lies s (b .at + off) (oldRecs (m .limit) far es) → Lies s far (farFrames m es) → Rows (SaysOld s) s b i (b .at + off) es
   unfolding Rows Each oldSlots oldRecs farFrames fars
   rows-old i off far [] n lo hi f ad fr sl rl fl = tt

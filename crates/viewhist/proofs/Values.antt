@@ -31,8 +31,8 @@ use Rattle.records.specs.declared.Rec.{Rec}
 use Rattle.records.specs.declared.RecRead.{RecRead}
 use Rattle.records.specs.Records.{slotAt, verIn, keyIn, valOf, valIn, recOf, recIn, recAt}
 use Rattle.sources.specs.Source.{Entry}
+use Rattle.sources.specs.Marks.{Held}
 use Rattle.image.specs.Image.{farAddr, valBytes}
-use Rattle.viewhist.specs.Fit.{Held}
 
 -- what lies in the front of a list lies there by itself
 pub lies-take : (s : List ℕ) (at n : ℕ) (x : List ℕ) → at + length x ≤ n → Lies s at x → Lies (take n s) at x

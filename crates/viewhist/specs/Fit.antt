@@ -2,34 +2,18 @@
 -- Assumes nothing.
 use Prim.Native.Nat.{ℕ, _%_, _^_, _≤_, _<_}
 use mathlib.Core.Path.{_≡_}
-use mathlib.Core.List.{List, [], _∷_}
+use mathlib.Core.List.{List}
 use lib.ListN.{length}
-use Rattle.spans.specs.Span.{part}
-use Rattle.frames.specs.declared.RemoteRead.{RemoteRead}
-use Rattle.frames.specs.Layout.{addr, remoteAt}
 use Rattle.sources.specs.Source.{Entry}
+use Rattle.sources.specs.Marks.{Short, Wide, Keeps}
 use Rattle.image.specs.declared.Call.{Call}
 use Rattle.image.specs.Image.{Bounds}
 
--- each element has the property
-unfoldable pub Each : {A : Type 0} → (A → Type 0) → List A → Type 0
-Each P [] = Unit {0}
-Each P (x ∷ xs) = P x × Each P xs
-
--- a remote frame at a holds these bytes
-pub record Held (s : List ℕ) (a : ℕ) (v : List ℕ) : Type 0 where
-  pub place : ℕ
-  pub read : remoteAt s (addr a) (length v) ≡ RemoteRead.At place
-  pub bytes : part s place (length v) ≡ v
-
--- an entry: document 01's lengths; its numbers have their widths; a remote that it keeps holds its value
-pub record Fits (s : List ℕ) (limit : ℕ) (e : Entry) : Type 0 where
-  pub key : length (e .key) ≤ 4096
-  pub val : length (e .val) ≤ 65536
-  pub txid : e .ver .txid < 256 ^ 8
-  pub cmd : e .ver .cmd < 256 ^ 4
-  pub word : e .kept < 256 ^ 8
-  pub held : limit ≤ length (e .val) → (e .kept ≡ 0 → ⊥) → Held s (e .kept) (e .val)
+-- an entry: its lengths are document 01's, its numbers have their widths, and a remote that it keeps holds its value
+pub record Fits (s : List ℕ) (e : Entry) : Type 0 where
+  pub short : Short e
+  pub wide : Wide e
+  pub keeps : Keeps s e
 
 -- the numbers of the call's headers have their widths
 pub record Numbers (m : Call) : Type 0 where

@@ -29,10 +29,10 @@ use Rattle.records.specs.Records.{keyIn, recOf, recIn}
 use Rattle.pages.specs.Meaning.{Child, prefixOf, childOf}
 use Rattle.pages.proofs.Given.{yes}
 use Rattle.sources.specs.Source.{Entry}
+use Rattle.sources.specs.Marks.{Each}
 use Rattle.sources.specs.Judged.{aboveBy, above, risingFrom, rising, prefixed}
 use Rattle.image.specs.Image.{indexRecs, indexKeyLen, indexSums, indexSlots}
 use Rattle.image.proofs.Index.{length-index-key}
-use Rattle.viewhist.specs.Fit.{Each}
 use Rattle.viewhist.specs.Rows.{Rows, Up, UpAll}
 use Rattle.viewhist.proofs.Values.{lies-take, rec-at}
 use Rattle.viewhist.proofs.Prefix.{Split, split, prefixed-first}
@@ -53,7 +53,7 @@ module _ (s : List ℕ) (b : Body) (p : ℕ) (e : Entry) (pre : List ℕ) (kind 
   n = length (uleb (length rest))
 
   small : length rest ≤ 4096
-  small = omega (arith, sp .long, fit .key)
+  small = omega (arith, sp .long, fit .short .key)
 
   key-lies : Lies s at (indexKey rest)
   key-lies = lies-front s at (indexKey rest) (le 8 (e .page)) lies
@@ -62,7 +62,7 @@ module _ (s : List ℕ) (b : Body) (p : ℕ) (e : Entry) (pre : List ℕ) (kind 
   unfolding keyIn
   key =
       let k : keyAt (take (b .end) s) at 1 ≡ KeyRead.Key (at + n) (at + n + 0) (length rest) = index-back (take (b .end) s) at rest small (lies-take s at (b .end) (indexKey rest) (omega arith) key-lies) in
-      rw (kind, k, cut, le-leb (p + length rest) 4096 (omega (arith, sp .long, fit .key))) refl
+      rw (kind, k, cut, le-leb (p + length rest) 4096 (omega (arith, sp .long, fit .short .key))) refl
 
   abbrev next : ℕ
   next = at + n + 0 + length rest + 8
@@ -77,7 +77,7 @@ module _ (s : List ℕ) (b : Body) (p : ℕ) (e : Entry) (pre : List ℕ) (kind 
   page : leAt 8 s (at + n + 0 + length rest) ≡ e .page
   page =
       let z : at + length (indexKey rest) ≡ at + n + 0 + length rest = omega (arith, length-indexKey rest) in
-      lies-le s (at + n + 0 + length rest) 8 (e .page) (fit .page) (rw z at (lies-back s at (indexKey rest) (le 8 (e .page)) lies))
+      lies-le s (at + n + 0 + length rest) 8 (e .page) (fit .wide .page) (rw z at (lies-back s at (indexKey rest) (le 8 (e .page)) lies))
 
   rest-is : part s (at + n + 0) (length rest) ≡ rest
   rest-is =

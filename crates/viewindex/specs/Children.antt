@@ -1,6 +1,6 @@
 -- What an index build's page says, and what the build knows of its input.
 -- Assumes nothing.
-use Prim.Native.Nat.{ℕ, _^_, _≤_, _<_}
+use Prim.Native.Nat.{ℕ, _≤_}
 use mathlib.Core.Path.{_≡_}
 use mathlib.Core.Bool.{true}
 use mathlib.Core.List.{List, [], _∷_}
@@ -9,10 +9,11 @@ use Rattle.order.specs.Version.{verOf}
 use Rattle.frames.specs.Layout.{pageId}
 use Rattle.pages.specs.Meaning.{Child, Page, index}
 use Rattle.sources.specs.Source.{Entry}
+use Rattle.sources.specs.Marks.{Each, Short, Wide}
 use Rattle.sources.specs.Judged.{rising, prefixed}
 use Rattle.image.specs.declared.Call.{Call}
 use Rattle.image.specs.Image.{Bounds, indexSize}
-use Rattle.viewhist.specs.Fit.{Each, Numbers, BoundsFit, Address}
+use Rattle.viewhist.specs.Fit.{Numbers, BoundsFit, Address}
 
 -- a whole key and the page that it leads to
 abbrev pub childIs : Entry → Child
@@ -27,10 +28,10 @@ unfoldable pub indexPage : Bounds → List Entry → Page
 unfolding childrenOf
 indexPage b es = record { lo = b .lo; hi = b .hi; prefix = take (b .prefix) (b .lo); sibling = pageId (b .sibling); rows = index (childrenOf es) }
 
--- an entry of an index list: "key over 4,096" is refused; a page id is a u64; it has no version
+-- an entry of an index list: its lengths are document 01's, a page id is a u64, and it has no version
 pub record Leads (e : Entry) : Type 0 where
-  pub key : length (e .key) ≤ 4096
-  pub page : e .page < 256 ^ 8
+  pub short : Short e
+  pub wide : Wide e
   pub plain : e .ver ≡ verOf 0 0
 
 -- what the judge of an index build lets pass

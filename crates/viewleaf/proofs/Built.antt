@@ -12,17 +12,19 @@ use lib.Dec.{eqb}
 use Rattle.spans.specs.Span.{Lies}
 use Rattle.spans.proofs.Lying.{lies-front, lies-back, lies-in}
 use Rattle.frames.specs.declared.Body.{Body}
-use Rattle.frames.specs.Layout.{addr, boxLen, baseLen, frameLen, baseOk, kindOf, bodyOf}
+use Rattle.frames.specs.declared.Opened.{Opened}
+use Rattle.frames.specs.Layout.{addr, boxLen, baseLen, frameLen, baseOk, kindOf, bodyOf, openAt}
 use Rattle.frames.specs.Stored.{boxBytes, baseBytes}
 use Rattle.pages.specs.Sound.{slotsFrom, slotsOk, chainsFrom, chainsOk, hintsOk, soundBody}
 use Rattle.pages.specs.Meaning.{says, prefixOf, headOf, rowsFrom, pageSays, meaning}
 use Rattle.pages.proofs.Turns.{body-hints}
 use Rattle.sources.specs.Source.{Entry, wanted, only, olds, heads}
+use Rattle.sources.specs.Marks.{Each}
 use Rattle.image.specs.declared.Call.{Call}
 use Rattle.image.specs.Sizes.{pad, fars}
 use Rattle.image.specs.Image.{farFrames, farAddrs, history, historyEnd, starts, histAddrs, Place, places, headRecs, headSlots, hints, Bounds, firstOf, leafSize, cutsOf, leafRoom, oneIf, leafFrame, leafImage}
 use Rattle.image.proofs.Leaf.{length-history, length-head-slots, leaf-hints-fit, leaf-tail-fits, length-leaf-frame, length-leaf-image}
-use Rattle.viewhist.specs.Fit.{Each, Fits, Address}
+use Rattle.viewhist.specs.Fit.{Fits, Address}
 use Rattle.viewhist.specs.Rows.{Rows, multis}
 use Rattle.viewhist.proofs.Rowing.{rows-say, slots-rise, chains-say}
 use Rattle.viewhist.proofs.Chain.{end-above, end-even, Whole, history-back}
@@ -103,12 +105,12 @@ module _ (s : List ℕ) (m : Call) (b : Bounds) (first : ℕ) (es : List Entry) 
   abbrev k : Sheet
   k = record { payload = size + room; size = size; count = n; node = 1; index = 0; many = oneIf (length (olds es)) }
 
-  abbrev body : Body
+  abbrev pub body : Body
   body = sheetBody m b at k
 
   -- ---- places
 
-  whole : far + fars (m .limit) (heads es) ≤ length s
+  pub whole : far + fars (m .limit) (heads es) ≤ length s
   whole =
       let l = length-leaf-image m b first es in
       omega (arith, lies-in s first (leafImage m b first es) (omega (arith, end-above (m .limit) ns first (olds es))) lies)
@@ -138,7 +140,7 @@ module _ (s : List ℕ) (m : Call) (b : Bounds) (first : ℕ) (es : List Entry) 
 
   history-is : Whole s (m .limit) first ns (olds es)
   history-is =
-      history-back s m (fit .call) ns first (olds es) (fit .address) (cuts-paged m (fit .call) (olds es)) (each-only (Fits s (m .limit)) true es (fit .each)) (omega (arith, whole)) history-lies
+      history-back s m (fit .call) ns first (olds es) (fit .address) (cuts-paged m (fit .call) (olds es)) (each-only (Fits s) true es (fit .each)) (omega (arith, whole)) history-lies
 
   -- ---- the page
 
@@ -182,13 +184,16 @@ module _ (s : List ℕ) (m : Call) (b : Bounds) (first : ℕ) (es : List Entry) 
   abbrev pre : List ℕ
   pre = take (b .prefix) (b .lo)
 
+  pub leaf-opens : openAt s (addr at) ≡ Opened.Is body
+  leaf-opens = sheet-opens s m b at k sheet slots more long frame-lies
+
   is-pre : prefixOf s body ≡ pre
   is-pre = prefix-back s m b at k sheet slots more long frame-lies
 
   more-lie : Lies s (at + boxLen + firstOf b n) more
   more-lie = more-lies s m b at k sheet slots more long frame-lies
 
-  kind-is : body .kind ≡ 0
+  pub kind-is : body .kind ≡ 0
   unfolding bodyOf kindOf
   kind-is = refl
 
@@ -247,7 +252,7 @@ module _ (s : List ℕ) (m : Call) (b : Bounds) (first : ℕ) (es : List Entry) 
       ∙ chains-say (SaysHead s body) s body countOf (λ r h e. (e .ok, e .count)) 0 (body .first) 0 (grouped es) rows
       ∙ eq-eqb (multis countOf 0 (grouped es)) (oneIf (length (olds es))) (multis-is es (fit .marks))
 
-  hints-lie : Lies s (at + boxLen + size) told
+  pub hints-lie : Lies s (at + boxLen + size) told
   hints-lie =
       let y : at + boxLen + firstOf b n + length recs + length tail ≡ at + boxLen + size = omega (arith, holds, length-replicate {A = ℕ} (size - (firstOf b n + length recs)) 0) in
       let a = lies-back s (at + boxLen + firstOf b n) recs (tail ++ (told ++ pad (size + room))) more-lie in
@@ -272,4 +277,4 @@ module _ (s : List ℕ) (m : Call) (b : Bounds) (first : ℕ) (es : List Entry) 
   -- what was built is what is read
   pub leaf-says : meaning s (addr (historyEnd (m .limit) first (cutsOf m es) (olds es))) ≡ says (leafPage b es)
   unfolding meaning
-  leaf-says = rw (sheet-opens s m b at k sheet slots more long frame-lies, sound, said) refl
+  leaf-says = rw (leaf-opens, sound, said) refl

@@ -12,21 +12,34 @@ use Rattle.frames.specs.Layout.{addr}
 use Rattle.frames.specs.Cases.{p7}
 use Rattle.pages.specs.Meaning.{says, meaning}
 use Rattle.sources.specs.Source.{Entry}
+use Rattle.sources.specs.Marks.{Keeps, Each, MarkedFrom, Marked}
 use Rattle.sources.specs.Judged.{above, risingFrom, rising, prefixed}
 use Rattle.image.specs.Image.{leafSize, leafRoom, leafImage}
 use Rattle.image.proofs.Cases.{call, open-ended, xy, z, p7-image}
-use Rattle.viewhist.specs.Fit.{Each, Fits}
-use Rattle.viewleaf.specs.Grouped.{MarkedFrom, Marked, leafPage, LeafFit}
+use Rattle.viewhist.specs.Fit.{Fits}
+use Rattle.viewleaf.specs.Grouped.{leafPage, LeafFit}
 use Rattle.viewleaf.proofs.Built.{leaf-says}
 
 abbrev es : List Entry
 es = xy ∷ z ∷ []
 
-xy-fits : Fits p7 64 xy
-xy-fits = record { key = omega arith; val = omega arith; txid = omega arith; cmd = omega arith; word = omega arith; held = λ h k. absurd (k refl) }
+xy-fits : Fits p7 xy
+unfolding Keeps
+xy-fits =
+    record {
+      short = record { key = omega arith; val = omega arith };
+      wide = record { txid = omega arith; cmd = omega arith; kept = omega arith; page = omega arith };
+      keeps = λ k. absurd (k refl);
+    }
 
-z-fits : Fits p7 64 z
-z-fits = record { key = omega arith; val = omega arith; txid = omega arith; cmd = omega arith; word = omega arith; held = λ h k. absurd (k refl) }
+z-fits : Fits p7 z
+unfolding Keeps
+z-fits =
+    record {
+      short = record { key = omega arith; val = omega arith };
+      wide = record { txid = omega arith; cmd = omega arith; kept = omega arith; page = omega arith };
+      keeps = λ k. absurd (k refl);
+    }
 
 pub p7-fit : LeafFit p7 (call 256) open-ended 8 es
 unfolding p7 Each Marked MarkedFrom rising risingFrom above cmpBytes newerThan prefixed startsWith

@@ -16,12 +16,13 @@ use Rattle.pages.specs.Meaning.{Head}
 use Rattle.pages.specs.Sound.{multiOf}
 use Rattle.pages.proofs.Given.{yes}
 use Rattle.sources.specs.Source.{Entry, only, olds, heads}
+use Rattle.sources.specs.Marks.{MarkedFrom, Marked}
 use Rattle.sources.specs.Judged.{aboveBy, above, risingFrom, rising}
 use Rattle.image.specs.Sizes.{oldRun}
 use Rattle.image.specs.Image.{oneIf}
 use Rattle.viewhist.specs.Rows.{Up, UpAll, multis}
 use Rattle.viewhist.specs.Olders.{oldersOf, Aged}
-use Rattle.viewleaf.specs.Grouped.{runOf, headIs, grouped, MarkedFrom, Marked}
+use Rattle.viewleaf.specs.Grouped.{runOf, headIs, grouped}
 
 -- ---- counts
 

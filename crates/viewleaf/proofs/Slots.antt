@@ -27,13 +27,14 @@ use Rattle.records.specs.Records.{verIn, keyIn, recIn, recAt}
 use Rattle.pages.specs.Sound.{headOk}
 use Rattle.pages.specs.Meaning.{Head, prefixOf, headOf}
 use Rattle.sources.specs.Source.{Entry, only, olds, heads}
+use Rattle.sources.specs.Marks.{Each}
 use Rattle.sources.specs.Judged.{prefixed}
 use Rattle.image.specs.declared.Call.{Call}
 use Rattle.image.specs.Sizes.{farLen, fars, keyLen, oldRun}
 use Rattle.image.specs.Image.{valBytes, farFrame, farFrames, Place, refOf, headRec, headRecs, any, headSlots}
 use Rattle.image.proofs.Lengths.{length-far}
 use Rattle.image.proofs.Leaf.{length-head}
-use Rattle.viewhist.specs.Fit.{Each, Fits, CallFits, Address}
+use Rattle.viewhist.specs.Fit.{Fits, CallFits, Address}
 use Rattle.viewhist.specs.Rows.{Rows}
 use Rattle.viewhist.specs.Olders.{oldersOf}
 use Rattle.viewhist.proofs.Values.{lies-take, Resolves, val-back, ver-in, RecBack, rec-back, rec-at}
@@ -61,7 +62,7 @@ pub record HeadRead (s : List ℕ) (b : Body) (at next : ℕ) (h : Head) : Type 
 -- ---- one record
 
 module _ (s : List ℕ) (b : Body) (p : ℕ) (pre : List ℕ) (kind : b .kind ≡ 0) (cut : b .«prefix_len» ≡ p) (is-pre : prefixOf s b ≡ pre) (ends : b .end ≤ length s)
-    (limit far : ℕ) (e : Entry) (h : HistRef) (run : List Entry) (small : SmallHist h) (fit : Fits s limit e) (sp : Split p pre (e .key)) (res : Resolves s limit far e) (ref : RefReads s (canon h) (e .ver) run)
+    (limit far : ℕ) (e : Entry) (h : HistRef) (run : List Entry) (small : SmallHist h) (fit : Fits s e) (sp : Split p pre (e .key)) (res : Resolves s limit far e) (ref : RefReads s (canon h) (e .ver) run)
     (at : ℕ) (lies : Lies s at (headRec limit p far h e)) (room : at + length (headRec limit p far h e) ≤ b .end) where
   abbrev rest : List ℕ
   rest = drop p (e .key)
@@ -70,10 +71,10 @@ module _ (s : List ℕ) (b : Body) (p : ℕ) (pre : List ℕ) (kind : b .kind �
   n = length (uleb (12 + length rest))
 
   tiny : length rest ≤ 4096
-  tiny = omega (arith, sp .long, fit .key)
+  tiny = omega (arith, sp .long, fit .short .key)
 
   sver : SmallVer (e .ver)
-  sver = record { txid = fit .txid; cmd = fit .cmd }
+  sver = record { txid = fit .wide .txid; cmd = fit .wide .cmd }
 
   long : length (headRec limit p far h e) ≡ length (leafKey (e .ver) rest) + length (valBytes limit far h e)
   unfolding headRec
@@ -92,7 +93,7 @@ module _ (s : List ℕ) (b : Body) (p : ℕ) (pre : List ℕ) (kind : b .kind �
   key =
       let k : keyAt (take (b .end) s) at 0 ≡ KeyRead.Key (at + n) (at + n + 12) (length rest) =
       leaf-back (take (b .end) s) at (e .ver) rest tiny sver (lies-take s at (b .end) (leafKey (e .ver) rest) (omega (arith, long)) key-lies) in
-      rw (kind, k, cut, le-leb (p + length rest) 4096 (omega (arith, sp .long, fit .key))) refl
+      rw (kind, k, cut, le-leb (p + length rest) 4096 (omega (arith, sp .long, fit .short .key))) refl
 
   val-lies : Lies s (at + n + 12 + length rest) (valBytes limit far h e)
   unfolding headRec
@@ -103,7 +104,7 @@ module _ (s : List ℕ) (b : Body) (p : ℕ) (pre : List ℕ) (kind : b .kind �
   head-back : RecBack s b at (at + n) (at + n + 12) (length rest) h e (at + n + 12 + length rest + length (valBytes limit far h e))
   head-back =
       rec-back s b at (at + n) (at + n + 12) (length rest) h e (at + n + 12 + length rest + length (valBytes limit far h e)) (λ q. omega arith) key
-      (val-back s b (at + n + 12 + length rest) limit far h e (λ q. eq-eqb (b .kind) 0 kind) small (fit .val) res val-lies (omega (arith, long, length-leafKey (e .ver) rest)))
+      (val-back s b (at + n + 12 + length rest) limit far h e (λ q. eq-eqb (b .kind) 0 kind) small (fit .short .val) res val-lies (omega (arith, long, length-leafKey (e .ver) rest)))
 
   head-next : head-back .rec .next ≡ at + length (headRec limit p far h e)
   head-next = head-back .behind ∙ omega (arith, long, length-leafKey (e .ver) rest)
@@ -142,7 +143,7 @@ module _ (s : List ℕ) (m : Call) (b : Body) (p : ℕ) (pre : List ℕ) (w : Ca
     pub count : i + length (heads es) ≡ b .elems
     pub low : b .first ≤ b .at + off
     pub high : b .at + off + length (headRecs (m .limit) p far ps es) ≤ b .end
-    pub each : Each (Fits s (m .limit)) es
+    pub each : Each (Fits s) es
     pub begins : prefixed pre es ≡ true
     pub told : Told s ps (olds es)
     pub ages : Ages es
@@ -250,7 +251,7 @@ module _ (s : List ℕ) (m : Call) (b : Body) (p : ℕ) (pre : List ℕ) (w : Ca
         }
 
     -- the head itself
-    fit : Fits s limit e
+    fit : Fits s e
     unfolding Each
     fit = c .each .0
 

@@ -2,17 +2,17 @@
 -- Assumes nothing.
 use Prim.Native.Nat.{ℕ, _+_, _≤_}
 use mathlib.Core.Path.{_≡_}
-use mathlib.Core.Bool.{true, false, cond}
+use mathlib.Core.Bool.{true, cond}
 use mathlib.Core.List.{List, [], _∷_}
 use lib.ListN.{length, take}
-use Rattle.order.specs.Order.{cmpBytes, isEqual}
 use Rattle.frames.specs.Layout.{pageId}
 use Rattle.pages.specs.Meaning.{Head, Page, leaf}
 use Rattle.sources.specs.Source.{Entry}
+use Rattle.sources.specs.Marks.{Each, Marked}
 use Rattle.sources.specs.Judged.{rising, prefixed}
 use Rattle.image.specs.declared.Call.{Call}
 use Rattle.image.specs.Image.{Bounds, leafSize, leafRoom}
-use Rattle.viewhist.specs.Fit.{Each, Fits, CallFits, BoundsFit, Address}
+use Rattle.viewhist.specs.Fit.{Fits, CallFits, BoundsFit, Address}
 use Rattle.viewhist.specs.Olders.{oldersOf}
 
 -- the old versions in front
@@ -34,22 +34,12 @@ unfoldable pub leafPage : Bounds → List Entry → Page
 unfolding grouped
 leafPage b es = record { lo = b .lo; hi = b .hi; prefix = take (b .prefix) (b .lo); sibling = pageId (b .sibling); rows = leaf (grouped es) }
 
--- an entry is old exactly where its key is that of the entry before
-unfoldable pub MarkedFrom : Entry → List Entry → Type 0
-MarkedFrom a [] = Unit {0}
-MarkedFrom a (e ∷ es) = (e .old ≡ isEqual (cmpBytes (a .key) (e .key))) × MarkedFrom e es
-
-unfoldable pub Marked : List Entry → Type 0
-unfolding MarkedFrom
-Marked [] = Unit {0}
-Marked (e ∷ es) = (e .old ≡ false) × MarkedFrom e es
-
 -- what the judge of a leaf build lets pass
 pub record LeafFit (s : List ℕ) (m : Call) (b : Bounds) (at : ℕ) (es : List Entry) : Type 0 where
   pub address : Address s at
   pub call : CallFits m
   pub bounds : BoundsFit b
-  pub each : Each (Fits s (m .limit)) es
+  pub each : Each (Fits s) es
   pub marks : Marked es
   pub rises : rising es ≡ true
   pub begins : prefixed (take (b .prefix) (b .lo)) es ≡ true

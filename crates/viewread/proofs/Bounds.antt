@@ -15,12 +15,12 @@ use Rattle.order.specs.Version.{newerThan}
 use Rattle.pages.specs.Sound.{isLess}
 use Rattle.pages.specs.Meaning.{Head, Child, Page, Rows, leaf, index}
 use Rattle.sources.specs.Source.{Entry}
+use Rattle.sources.specs.Marks.{Each, Wide}
 use Rattle.sst.specs.declared.Bound.{Bound}
 use Rattle.sst.specs.Says.{noHead, noChild, rowCount, rowKey, rowNewer, earlier, rowLess, FirstNotLess, BoundSays}
-use Rattle.viewhist.specs.Fit.{Each}
 use Rattle.viewleaf.specs.Grouped.{headIs, grouped}
 use Rattle.viewleaf.proofs.Groups.{keyed}
-use Rattle.viewread.specs.Asked.{largest, Sized, posOf}
+use Rattle.viewread.specs.Asked.{largest, posOf}
 use Rattle.viewread.proofs.Having.{CutAt, cut-at}
 
 -- ---- no version is newer than the largest
@@ -37,12 +37,12 @@ not-newer v a b =
 abbrev Plain : Head → Type 0
 Plain h = newerThan (h .ver) largest ≡ false
 
-plain-by : (t : Bool) (e : Entry) (es : List Entry) → Sized e → Each Plain (grouped es) → Each Plain (cond t (grouped es) (headIs e es ∷ grouped es))
+plain-by : (t : Bool) (e : Entry) (es : List Entry) → Wide e → Each Plain (grouped es) → Each Plain (cond t (grouped es) (headIs e es ∷ grouped es))
 unfolding Each
 plain-by true e es f h = h
 plain-by false e es f h = (not-newer (e .ver) (f .txid) (f .cmd), h)
 
-plain-heads : (es : List Entry) → Each Sized es → Each Plain (grouped es)
+plain-heads : (es : List Entry) → Each Wide es → Each Plain (grouped es)
 unfolding Each grouped
 plain-heads [] f = tt
 plain-heads (e ∷ es) f = plain-by (e .old) e es (f .0) (plain-heads es (f .1))
@@ -53,7 +53,7 @@ each-at [] h i = not-newer (noHead .ver) (omega arith) (omega arith)
 each-at (x ∷ xs) h zero = h .0
 each-at (x ∷ xs) h (suc i) = each-at xs (h .1) i
 
-pub heads-plain : (es : List Entry) → Each Sized es → (i : ℕ) → rowNewer (leaf (grouped es)) largest i ≡ false
+pub heads-plain : (es : List Entry) → Each Wide es → (i : ℕ) → rowNewer (leaf (grouped es)) largest i ≡ false
 heads-plain es f i = each-at (grouped es) (plain-heads es f) i
 
 -- ---- the position

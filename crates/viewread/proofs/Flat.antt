@@ -10,9 +10,10 @@ use Rattle.order.specs.Order.{cmpBytes, isEqual}
 use Rattle.order.proofs.Laws.{cmp-eq}
 use Rattle.pages.specs.Meaning.{Head}
 use Rattle.sources.specs.Source.{Entry}
+use Rattle.sources.specs.Marks.{MarkedFrom, Marked}
 use Rattle.walks.specs.Listed.{Entry as Listed, olderEntries, entriesOf}
 use Rattle.viewhist.specs.Olders.{oldersOf}
-use Rattle.viewleaf.specs.Grouped.{runOf, headIs, grouped, MarkedFrom, Marked}
+use Rattle.viewleaf.specs.Grouped.{runOf, headIs, grouped}
 use Rattle.viewleaf.proofs.Groups.{keyed}
 use Rattle.viewread.specs.Asked.{recordsOf, having, keyIs}
 use Rattle.viewread.proofs.Having.{having-all}

@@ -18,6 +18,7 @@ use Rattle.pages.specs.declared.Place.{Place}
 use Rattle.pages.specs.Edges.{partIn}
 use Rattle.pages.specs.Meaning.{Head, leaf, says, oldsFrom, meaning}
 use Rattle.sources.specs.Source.{Entry, heads}
+use Rattle.sources.specs.Marks.{Each, Marked, Wide}
 use Rattle.image.specs.Image.{Bounds}
 use Rattle.sst.specs.declared.Found.{Found}
 use Rattle.sst.specs.Search.{lowerAt, searchAt}
@@ -26,10 +27,9 @@ use Rattle.sst.proofs.Answers.{lower-says, search-says, rows-sorted}
 use Rattle.walks.specs.Walk.{forwardAt, backwardAt}
 use Rattle.walks.specs.Listed.{Entry as Listed, olderEntries, entriesOf, Lists}
 use Rattle.walks.proofs.Says.{forward-lists, backward-lists}
-use Rattle.viewhist.specs.Fit.{Each}
-use Rattle.viewleaf.specs.Grouped.{grouped, leafPage, Marked}
+use Rattle.viewleaf.specs.Grouped.{grouped, leafPage}
 use Rattle.viewleaf.proofs.Groups.{grouped-many, keyed}
-use Rattle.viewread.specs.Asked.{recordsOf, having, between, same, keyIs, largest, Sized, posOf, SearchSays}
+use Rattle.viewread.specs.Asked.{recordsOf, having, between, same, keyIs, largest, posOf, SearchSays}
 use Rattle.viewread.proofs.Having.{having-none, having-one, having-range}
 use Rattle.viewread.proofs.Flat.{flat-having, flat-grouped, grouped-having}
 use Rattle.viewread.proofs.Bounds.{heads-plain, Cuts, bound-cuts, heads-cut}
@@ -74,7 +74,7 @@ module _ (s : List ℕ) (a : Addr) (b : Bounds) (es : List Entry) (means : meani
 
   -- ---- a range between two lower bounds
 
-  module _ (sized : Each Sized es) (lo hi : List ℕ) (has-lo : startsWith pre lo ≡ true) (has-hi : startsWith pre hi ≡ true) where
+  module _ (sized : Each Wide es) (lo hi : List ℕ) (has-lo : startsWith pre lo ≡ true) (has-hi : startsWith pre hi ≡ true) where
     abbrev i : ℕ
     i = posOf (lowerAt s a lo largest)
 

@@ -41,11 +41,6 @@ keyIs e = e .key
 abbrev pub largest : Ver
 largest = verOf (256 ^ 8 - 1) (256 ^ 4 - 1)
 
--- an entry's version has its widths: txid u64, cmd u32
-pub record Sized (e : Entry) : Type 0 where
-  pub txid : e .ver .txid < 256 ^ 8
-  pub cmd : e .ver .cmd < 256 ^ 4
-
 -- the position that a lower bound gives
 abbrev pub posOf : Bound → ℕ
 posOf (Bound.At q n) = q

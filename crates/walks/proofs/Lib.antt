@@ -5,4 +5,6 @@ pub mod Steps
 pub mod Listing
 pub mod Says
 pub mod Shorter
+pub mod Held
+pub mod Hands
 pub mod Decided

@@ -1,9 +1,8 @@
+-- `delta::lengths_ok` meets its contract. Assumes nothing.
 use mathlib.Core.Path.{refl}
 use Rattle.delta.specs.Built.{lengthsOk}
 use Rattle.delta.proofs.lengths_ok.Statement.{statement}
 use Rattle.delta.proofs.lengths_ok.Tie as tie
-use Rattle.delta.proofs.lengths_ok.Reads as reads
-use Rattle.delta.proofs.lengths_ok.Lts as lts
 
 returns : tie.Need-returns
 unfolding lengthsOk

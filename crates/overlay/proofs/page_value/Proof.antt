@@ -1,41 +1,8 @@
-use native.Mathlib.Omega.{arith}
-use Prim.Native.Nat.{ℕ, suc, _+_, _*_, _-_, _/_, _≤_, _<_}
-use mathlib.Core.Path.{_≡_, refl, sym, ap, _∙_}
-use mathlib.Core.Bool.{Bool, true, false}
-use mathlib.Core.List.{List}
-use denote.Ref.{now}
-use lib.ListN.{length, getD, take, drop}
-use lib.Dec.{leb, ltb, eqb}
-use borrow.Author.Tests.{le-leb, lt-leb, le-ltb, lt-ltb, eq-eqb, ne-eqb, leb-true}
-use native.Mathlib.Nat.{add-sub-cancel-left}
-use mathlib.Core.Bool.{_&&_, not}
-use Rattle.spans.specs.Span.{part, partOr}
-use Rattle.order.specs.declared.Order.{Order}
-use Rattle.order.specs.Order.{isEqual, cmpBytes}
-use Rattle.order.specs.Version.{newerThan}
-use Rattle.frames.specs.Layout.{Inside}
-use Rattle.values.specs.declared.KeyRead.{KeyRead}
-use Rattle.records.specs.Records.{verIn, keyAtSlot, recAt}
-use Rattle.records.proofs.Inside.{KeyInside, skip-twelve}
-use Rattle.pages.specs.declared.Place.{Place}
-use Rattle.pages.specs.Edges.{place, partIn}
-use Rattle.sst.specs.declared.Outcome.{Outcome}
-use Rattle.sst.specs.Search.{leaves, outcomeAt}
-use Rattle.sst.proofs.Opens.{IsReady, key-at-inside, outcome-ready, leaf-kind}
-use Rattle.delta.specs.declared.LeafKey.{LeafKey}
-use Rattle.delta.specs.declared.Value.{Value}
-use Rattle.delta.specs.Read.{leafKeyAt, valueAt}
-use Rattle.overlay.specs.declared.Head.{Head}
-use Rattle.overlay.specs.declared.Laid.{Laid}
-use Rattle.overlay.specs.Overlay.{headSlot, headIn, headOf, headAt, pageValue, isProbe, deltaValue, laidBy, laidOf, laidAt}
-use Rattle.overlay.specs.Lent.{startOf, PartIs, bufferOf, placeOf, LentIs}
-use Rattle.overlay.proofs.Heads.{head-inside}
+-- `overlay::page_value` meets its contract. Assumes nothing.
+use Rattle.overlay.specs.Overlay.{pageValue}
 use borrow.Author.Needs.{needs}
 use Rattle.overlay.proofs.page_value.Statement.{statement}
 use Rattle.overlay.proofs.page_value.Tie as tie
-use Rattle.overlay.proofs.page_value.Reads as reads
-use Rattle.overlay.proofs.page_value.Lts as lts
-use Rattle.records.proofs.rec_at.Reads as rec-at-reads
 
 rec-at-requires : tie.Need-rec-at-requires
 rec-at-requires c κs = search needs

@@ -9,6 +9,7 @@ use Rattle.replay.proofs.turn.Lts as lts
 use Rattle.replay.proofs.again.Reads as again-reads
 use Rattle.replay.proofs.answered.Reads as answered-reads
 use Rattle.replay.proofs.at_most.Reads as at-most-reads
+use Rattle.replay.proofs.builds.Reads as builds-reads
 use Rattle.replay.proofs.fresh.Reads as fresh-reads
 use Rattle.replay.proofs.is_answer.Reads as is-answer-reads
 use Rattle.replay.proofs.store.Reads as store-reads
@@ -115,6 +116,30 @@ same-length-3 c = search needs
 returns-5 : tie.Need-returns-5
 returns-5 c = search needs
 
+slice-relend-prefix-builds : tie.Need-slice-relend-prefix-builds
+slice-relend-prefix-builds c = search needs
+
+slice-aggregate-builds : tie.Need-slice-aggregate-builds
+slice-aggregate-builds c = sym (length-take-le _ _ (omega arith))
+
+builds-requires : tie.Need-builds-requires
+builds-requires c κs = search needs
+
+same-length-4 : tie.Need-same-length-4
+same-length-4 c = search needs
+
+same-length-5 : tie.Need-same-length-5
+same-length-5 c = search needs
+
+same-length-6 : tie.Need-same-length-6
+same-length-6 c = search needs
+
+same-length-7 : tie.Need-same-length-7
+same-length-7 c = search needs
+
+returns-6 : tie.Need-returns-6
+returns-6 c = search needs
+
 slice-reshare-prefix-answered : tie.Need-slice-reshare-prefix-answered
 slice-reshare-prefix-answered c = search needs
 
@@ -124,14 +149,20 @@ slice-aggregate-answered c = sym (length-take-le _ _ (omega arith))
 answered-requires : tie.Need-answered-requires
 answered-requires c κs = search needs
 
-same-length-4 : tie.Need-same-length-4
-same-length-4 c = search needs
+same-length-8 : tie.Need-same-length-8
+same-length-8 c = search needs
 
-same-length-5 : tie.Need-same-length-5
-same-length-5 c = search needs
+same-length-9 : tie.Need-same-length-9
+same-length-9 c = search needs
 
-returns-6 : tie.Need-returns-6
-returns-6 c = search needs
+same-length-10 : tie.Need-same-length-10
+same-length-10 c = search needs
+
+same-length-11 : tie.Need-same-length-11
+same-length-11 c = search needs
+
+returns-7 : tie.Need-returns-7
+returns-7 c = search needs
 
 pub turn-spec : {M : Type 1} → statement M
 turn-spec =
@@ -170,9 +201,19 @@ turn-spec =
     store-requires-2
     same-length-3
     returns-5
+    slice-relend-prefix-builds
+    slice-aggregate-builds
+    builds-requires
+    same-length-4
+    same-length-5
+    same-length-6
+    same-length-7
+    returns-6
     slice-reshare-prefix-answered
     slice-aggregate-answered
     answered-requires
-    same-length-4
-    same-length-5
-    returns-6)
+    same-length-8
+    same-length-9
+    same-length-10
+    same-length-11
+    returns-7)

@@ -1,0 +1,106 @@
+use native.Mathlib.Omega.{arith}
+use mathlib.Core.Path.{_≡_, refl, sym, ap, _∙_}
+use borrow.Author.Tests.{not-true, not-false}
+use Prim.Native.Nat.{ℕ}
+use denote.Ref.{now}
+use lib.Seq.{length-take-le}
+use Rattle.base.specs.Calls.{callOf, boundsFrom}
+use Rattle.base.proofs.Calls.{next-low, held, inside, bounds-are, list-bad, at-first, list-is, bounds-ok, sane, new-one, new-two, new-three, new-on}
+use borrow.Author.Needs.{needs}
+use Rattle.base.proofs.new_leaf.Statement.{statement}
+use Rattle.base.proofs.new_leaf.Tie as tie
+use Rattle.base.proofs.new_leaf.Reads as reads
+use Rattle.base.proofs.new_leaf.Lts as lts
+use Rattle.base.proofs.calc_prefix.Reads as calc-prefix-reads
+use Rattle.base.proofs.larger.Reads as larger-reads
+use Rattle.build.proofs.build_leaf.Reads as build-leaf-reads
+use Rattle.build.proofs.limits_ok.Reads as limits-ok-reads
+use Rattle.build.proofs.next_ok.Reads as next-ok-reads
+use Rattle.edges.proofs.edge_of.Reads as edge-of-reads
+use Rattle.sources.proofs.open_records.Reads as open-records-reads
+use Rattle.sources.proofs.well.Reads as well-reads
+
+limits-ok-requires : tie.Need-limits-ok-requires
+limits-ok-requires c κs = search needs
+
+returns : tie.Need-returns
+returns c = new-one _ _ _ (callOf (c .before .before .before .before .before .before .args .limit) (c .before .before .before .before .before .before .args .budget) (c .before .before .before .before .before .before .args .group) (c .before .before .before .before .before .before .args .txid) (c .before .before .before .before .before .before .args .lsn) (c .before .before .before .before .before .before .args .checkpoint)) (boundsFrom (now (c .before .before .before .before .before .before .args .lo)) (now (c .before .before .before .before .before .before .args .hi)) (c .before .before .before .before .before .before .args .sibling .0)) _ (c .before .limits-ok .ensures) (not-true _ (c .if1 .taken))
+
+next-ok-requires : tie.Need-next-ok-requires
+next-ok-requires c κs = search needs
+
+returns-2 : tie.Need-returns-2
+returns-2 c = new-two _ _ _ (callOf (c .before .before .before .before .before .before .before .before .args .limit) (c .before .before .before .before .before .before .before .before .args .budget) (c .before .before .before .before .before .before .before .before .args .group) (c .before .before .before .before .before .before .before .before .args .txid) (c .before .before .before .before .before .before .before .before .args .lsn) (c .before .before .before .before .before .before .before .before .args .checkpoint)) (boundsFrom (now (c .before .before .before .before .before .before .before .before .args .lo)) (now (c .before .before .before .before .before .before .before .before .args .hi)) (c .before .before .before .before .before .before .before .before .args .sibling .0)) _ (c .before .before .before .limits-ok .ensures) (not-false _ (c .before .before .if1 .left)) _ (c .before .next-ok .ensures) (not-true _ (c .if2 .taken))
+
+open-records-requires : tie.Need-open-records-requires
+open-records-requires c κs = search needs
+
+enum-known-b : tie.Need-enum-known-b
+enum-known-b c = search needs
+
+enum-told : tie.Need-enum-told
+enum-told c = search needs
+
+returns-3 : tie.Need-returns-3
+returns-3 c = new-three _ _ _ (callOf (c .before .before .before .before .before .before .before .before .before .before .before .args .limit) (c .before .before .before .before .before .before .before .before .before .before .before .args .budget) (c .before .before .before .before .before .before .before .before .before .before .before .args .group) (c .before .before .before .before .before .before .before .before .before .before .before .args .txid) (c .before .before .before .before .before .before .before .before .before .before .before .args .lsn) (c .before .before .before .before .before .before .before .before .before .before .before .args .checkpoint)) (boundsFrom (now (c .before .before .before .before .before .before .before .before .before .before .before .args .lo)) (now (c .before .before .before .before .before .before .before .before .before .before .before .args .hi)) (c .before .before .before .before .before .before .before .before .before .before .before .args .sibling .0)) _ (c .before .before .before .before .before .before .limits-ok .ensures) (not-false _ (c .before .before .before .before .before .if1 .left)) _ (c .before .before .before .before .next-ok .ensures) (not-false _ (c .before .before .before .if2 .left)) (list-bad _ _ _ _ (c .before .before .open-records .ensures) (c .enum-told .given .1))
+
+slice-reshare-prefix-well : tie.Need-slice-reshare-prefix-well
+slice-reshare-prefix-well c = next-low _ _ _ (c .before .before .before .before .before .next-ok .ensures) (not-false _ (c .before .before .before .before .if2 .left))
+
+slice-aggregate-well : tie.Need-slice-aggregate-well
+slice-aggregate-well c = sym (length-take-le _ _ (next-low _ _ _ (c .before .before .before .before .before .before .next-ok .ensures) (not-false _ (c .before .before .before .before .before .if2 .left))))
+
+well-requires : tie.Need-well-requires
+well-requires c κs = search needs
+
+same-length : tie.Need-same-length
+same-length c = search needs
+
+returns-4 : tie.Need-returns-4
+returns-4 c = new-three _ _ _ (callOf (c .before .before .before .before .before .before .before .before .before .before .before .before .before .before .before .args .limit) (c .before .before .before .before .before .before .before .before .before .before .before .before .before .before .before .args .budget) (c .before .before .before .before .before .before .before .before .before .before .before .before .before .before .before .args .group) (c .before .before .before .before .before .before .before .before .before .before .before .before .before .before .before .args .txid) (c .before .before .before .before .before .before .before .before .before .before .before .before .before .before .before .args .lsn) (c .before .before .before .before .before .before .before .before .before .before .before .before .before .before .before .args .checkpoint)) (boundsFrom (now (c .before .before .before .before .before .before .before .before .before .before .before .before .before .before .before .args .lo)) (now (c .before .before .before .before .before .before .before .before .before .before .before .before .before .before .before .args .hi)) (c .before .before .before .before .before .before .before .before .before .before .before .before .before .before .before .args .sibling .0)) _ (c .before .before .before .before .before .before .before .before .before .before .limits-ok .ensures) (not-false _ (c .before .before .before .before .before .before .before .before .before .if1 .left)) _ (c .before .before .before .before .before .before .before .before .next-ok .ensures) (not-false _ (c .before .before .before .before .before .before .before .if2 .left)) (list-is _ _ _ _ (c .before .before .before .before .before .before .open-records .ensures) _ (c .before .before .before .before .b .given .1) _ (c .before .well .ensures) ∙ not-true _ (c .if3 .taken))
+
+larger-requires : tie.Need-larger-requires
+larger-requires c κs = search needs
+
+edge-of-requires : tie.Need-edge-of-requires
+edge-of-requires c κs = search needs
+
+edge-of-requires-2 : tie.Need-edge-of-requires-2
+edge-of-requires-2 c κs = search needs
+
+calc-prefix-requires : tie.Need-calc-prefix-requires
+calc-prefix-requires c κs = search needs
+
+build-leaf-requires : tie.Need-build-leaf-requires
+build-leaf-requires c κs = (next-low _ _ _ (c .before .before .before .before .before .before .before .before .before .before .before .before .before .next-ok .ensures) (not-false _ (c .before .before .before .before .before .before .before .before .before .before .before .before .if2 .left)), (held (now (c .before .before .before .before .before .before .before .before .before .before .before .before .before .before .before .before .before .before .before .before .args .lo)) (now (c .before .before .before .before .before .before .before .before .before .before .before .before .before .before .before .before .before .before .before .before .args .hi)) _ _ _ _ _ (c .before .before .before .edge-of .ensures) (c .before .before .edge-of2 .ensures) (c .before .calc-prefix .ensures) _ (bounds-ok (c .before .before .before .before .before .before .before .before .before .before .before .before .before .before .before .before .before .before .before .before .args .limit) (c .before .before .before .before .before .before .before .before .before .before .before .before .before .before .before .before .before .before .before .before .args .budget) (now (c .before .before .before .before .before .before .before .before .before .before .before .before .before .before .before .before .before .before .before .before .args .lo)) (now (c .before .before .before .before .before .before .before .before .before .before .before .before .before .before .before .before .before .before .before .before .args .hi)) _ (c .before .before .before .before .before .before .before .before .before .before .before .before .before .before .before .limits-ok .ensures) (not-false _ (c .before .before .before .before .before .before .before .before .before .before .before .before .before .before .if1 .left))) refl, (inside (now (c .before .before .before .before .before .before .before .before .before .before .before .before .before .before .before .before .before .before .before .before .args .lo)) (now (c .before .before .before .before .before .before .before .before .before .before .before .before .before .before .before .before .before .before .before .before .args .hi)) _ _ _ _ _ (c .before .before .before .edge-of .ensures) (c .before .before .edge-of2 .ensures) (c .before .calc-prefix .ensures), sane (c .before .before .before .before .before .before .before .before .before .before .before .before .before .before .before .before .before .before .before .before .args .limit) (c .before .before .before .before .before .before .before .before .before .before .before .before .before .before .before .before .before .before .before .before .args .budget) (now (c .before .before .before .before .before .before .before .before .before .before .before .before .before .before .before .before .before .before .before .before .args .lo)) (now (c .before .before .before .before .before .before .before .before .before .before .before .before .before .before .before .before .before .before .before .before .args .hi)) _ (c .before .before .before .before .before .before .before .before .before .before .before .before .before .before .before .limits-ok .ensures) (not-false _ (c .before .before .before .before .before .before .before .before .before .before .before .before .before .before .if1 .left)) _ _ _)))
+
+same-length-2 : tie.Need-same-length-2
+same-length-2 c = search needs
+
+returns-5 : tie.Need-returns-5
+returns-5 c = new-on _ _ _ (callOf (c .before .before .before .before .before .before .before .before .before .before .before .before .before .before .before .before .before .before .before .before .before .before .before .args .limit) (c .before .before .before .before .before .before .before .before .before .before .before .before .before .before .before .before .before .before .before .before .before .before .before .args .budget) (c .before .before .before .before .before .before .before .before .before .before .before .before .before .before .before .before .before .before .before .before .before .before .before .args .group) (c .before .before .before .before .before .before .before .before .before .before .before .before .before .before .before .before .before .before .before .before .before .before .before .args .txid) (c .before .before .before .before .before .before .before .before .before .before .before .before .before .before .before .before .before .before .before .before .before .before .before .args .lsn) (c .before .before .before .before .before .before .before .before .before .before .before .before .before .before .before .before .before .before .before .before .before .before .before .args .checkpoint)) (boundsFrom (now (c .before .before .before .before .before .before .before .before .before .before .before .before .before .before .before .before .before .before .before .before .before .before .before .args .lo)) (now (c .before .before .before .before .before .before .before .before .before .before .before .before .before .before .before .before .before .before .before .before .before .before .before .args .hi)) (c .before .before .before .before .before .before .before .before .before .before .before .before .before .before .before .before .before .before .before .before .before .before .before .args .sibling .0)) _ (c .before .before .before .before .before .before .before .before .before .before .before .before .before .before .before .before .before .before .limits-ok .ensures) (not-false _ (c .before .before .before .before .before .before .before .before .before .before .before .before .before .before .before .before .before .if1 .left)) _ (c .before .before .before .before .before .before .before .before .before .before .before .before .before .before .before .before .next-ok .ensures) (not-false _ (c .before .before .before .before .before .before .before .before .before .before .before .before .before .before .before .if2 .left)) (list-is _ _ _ _ (c .before .before .before .before .before .before .before .before .before .before .before .before .before .before .open-records .ensures) _ (c .before .before .before .before .before .before .before .before .before .before .before .before .b .given .1) _ (c .before .before .before .before .before .before .before .before .before .well .ensures) ∙ not-false _ (c .before .before .before .before .before .before .before .before .if3 .left)) _ _ _ _ _ (ap (λ (k : ℕ). record { limit = c .before .before .before .before .before .before .before .before .before .before .before .before .before .before .before .before .before .before .before .before .before .before .before .args .limit; budget = c .before .before .before .before .before .before .before .before .before .before .before .before .before .before .before .before .before .before .before .before .before .before .before .args .budget; group = c .before .before .before .before .before .before .before .before .before .before .before .before .before .before .before .before .before .before .before .before .before .before .before .args .group; txid = c .before .before .before .before .before .before .before .before .before .before .before .before .before .before .before .before .before .before .before .before .before .before .before .args .txid; lsn = k }) (c .before .before .before .before .before .before .before .larger .ensures)) (bounds-are (now (c .before .before .before .before .before .before .before .before .before .before .before .before .before .before .before .before .before .before .before .before .before .before .before .args .lo)) (now (c .before .before .before .before .before .before .before .before .before .before .before .before .before .before .before .before .before .before .before .before .before .before .before .args .hi)) _ _ _ _ _ (c .before .before .before .before .before .before .edge-of .ensures) (c .before .before .before .before .before .edge-of2 .ensures) (c .before .before .before .before .calc-prefix .ensures)) (at-first _ (now (c .before .before .before .before .before .before .before .before .before .before .before .before .before .before .before .before .before .before .before .before .before .before .before .args .list)) _ _ (c .before .before .before .before .before .before .before .before .before .before .before .before .before .before .open-records .ensures) _ (c .before .before .before .before .before .before .before .before .before .before .before .before .b .given .1)) (c .before .before .build-leaf .ensures .0) (c .before .before .build-leaf .ensures .1)
+
+pub new-leaf-spec : {M : Type 1} → statement M
+new-leaf-spec =
+    tie.close
+    (tie.spec
+    limits-ok-requires
+    returns
+    next-ok-requires
+    returns-2
+    open-records-requires
+    enum-known-b
+    enum-told
+    returns-3
+    slice-reshare-prefix-well
+    slice-aggregate-well
+    well-requires
+    same-length
+    returns-4
+    larger-requires
+    edge-of-requires
+    edge-of-requires-2
+    calc-prefix-requires
+    build-leaf-requires
+    same-length-2
+    returns-5)

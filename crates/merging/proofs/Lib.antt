@@ -1,0 +1,6 @@
+-- The crate's laws.
+pub mod Gathering
+pub mod Merging
+pub mod Said
+pub mod Answering
+pub mod Decided

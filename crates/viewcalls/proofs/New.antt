@@ -1,0 +1,89 @@
+-- new_leaf: where it answers a page, that page says the list, in every arena that keeps the bytes below the new next free address; and
+-- its walks, its ranges and its searches are those of the list.
+-- Assumes nothing.
+use Prim.Native.Nat.{ℕ, _-_, _^_, _≤_, _<_}
+use mathlib.Core.Path.{_≡_, refl}
+use mathlib.Core.Bool.{Bool, true, _&&_}
+use mathlib.Core.List.{List, reverse}
+use lib.IntN.{pos}
+use lib.ListN.{length, take}
+use Rattle.numbers.specs.Number.{Bytes}
+use Rattle.order.specs.Order.{startsWith}
+use Rattle.frames.specs.declared.Addr.{Addr}
+use Rattle.frames.proofs.Frames.{and-l, and-r}
+use Rattle.pages.specs.Meaning.{Page, says, meaning}
+use Rattle.sources.specs.Source.{Entry, heads}
+use Rattle.image.specs.declared.Call.{Call}
+use Rattle.image.specs.Prefix.{common}
+use Rattle.image.specs.Image.{Bounds}
+use Rattle.totals.specs.Totals.{leafAt}
+use Rattle.build.specs.declared.Built.{Built}
+use Rattle.build.specs.Table.{limitOk, budgetOk, boundsOk, leafLimits}
+use Rattle.build.specs.Leaf.{leafEnd}
+use Rattle.base.specs.Calls.{boundsFrom, listed, newAnswer, newArena}
+use Rattle.sst.specs.Search.{lowerAt, searchAt}
+use Rattle.walks.specs.Walk.{forwardAt, backwardAt}
+use Rattle.walks.specs.Listed.{entriesOf, Lists}
+use Rattle.viewhist.specs.Fit.{Numbers}
+use Rattle.viewleaf.specs.Grouped.{grouped, leafPage}
+use Rattle.viewread.specs.Asked.{recordsOf, having, between, keyIs, largest, posOf, SearchSays}
+use Rattle.viewcalls.proofs.Judged.{Limits, after-long, leaf-says, leaf-others, leaf-lists, leaf-range, leaf-back, leaf-search}
+
+limits : (m : Call) (lo hi : List ℕ) → leafLimits (m .limit) (m .budget) lo hi ≡ true → Limits m lo hi
+limits m lo hi e =
+    let f = and-l (limitOk (m .limit) && budgetOk (m .budget)) (boundsOk lo hi) e in
+    record { limit = and-l (limitOk (m .limit)) (budgetOk (m .budget)) f; budget = and-r (limitOk (m .limit)) (budgetOk (m .budget)) f; edges = and-r (limitOk (m .limit) && budgetOk (m .budget)) (boundsOk lo hi) e }
+
+-- the arena afterwards is one of those that the laws below speak of
+pub new-long : (a : List ℕ) (next : ℕ) (l : List ℕ) (m : Call) (lo hi : List ℕ) (sibling : ℕ) → Bytes l → length a < 256 ^ 8 → Numbers m → sibling < 256 ^ 8
+    → (p : Addr) (end : ℕ) → newAnswer a next l m (boundsFrom lo hi sibling) ≡ Built.At p end → end ≤ length (newArena a next l m (boundsFrom lo hi sibling))
+unfolding newAnswer newArena leafEnd leafAt
+new-long a next l m lo hi sibling bytes word numbers id p end built =
+    after-long a next l m lo hi sibling bytes word numbers id (leafLimits (m .limit) (m .budget) lo hi) (limits m lo hi) p end built (newArena a next l m (boundsFrom lo hi sibling)) refl
+
+-- what the types of the call's arguments say: bytes, and numbers of their widths
+module _ (a : List ℕ) (next : ℕ) (l : List ℕ) (m : Call) (lo hi : List ℕ) (sibling : ℕ) (bytes : Bytes l) (word : length a < 256 ^ 8) (numbers : Numbers m) (id : sibling < 256 ^ 8)
+    (p : Addr) (end : ℕ) (built : newAnswer a next l m (boundsFrom lo hi sibling) ≡ Built.At p end)
+    (s : List ℕ) (long : end ≤ length s) (same : take end s ≡ take end (newArena a next l m (boundsFrom lo hi sibling))) where
+  abbrev b : Bounds
+  b = boundsFrom lo hi sibling
+
+  abbrev es : List Entry
+  es = listed l (take next a) 0
+
+  abbrev pre : List ℕ
+  pre = take (common lo hi) lo
+
+  abbrev ok : Bool
+  ok = leafLimits (m .limit) (m .budget) lo hi
+
+  -- the page says the list
+  pub new-says : meaning s p ≡ says (leafPage b es)
+  unfolding newAnswer newArena leafEnd leafAt
+  new-says = leaf-says a next l m lo hi sibling bytes word numbers id ok (limits m lo hi) p end built (newArena a next l m b) refl s long same
+
+  -- every page that said something below the old mark still says it
+  pub new-others : (q : Addr) (r : Page) → meaning (take next a) q ≡ says r → meaning s q ≡ says r
+  unfolding newAnswer newArena leafEnd leafAt
+  new-others = leaf-others a next l m lo hi sibling bytes word numbers id ok (limits m lo hi) p end built (newArena a next l m b) refl s long same
+
+  -- walked whole, it lists the list
+  pub new-lists : Lists s pre (forwardAt s p 0 (length (heads es))) (recordsOf es)
+  unfolding newAnswer newArena leafEnd leafAt
+  new-lists = leaf-lists a next l m lo hi sibling bytes word numbers id ok (limits m lo hi) p end built (newArena a next l m b) refl s long same
+
+  -- between two lower bounds, the list's records of that range, either way
+  pub new-range : (x y : List ℕ) → startsWith pre x ≡ true → startsWith pre y ≡ true
+      → Lists s pre (forwardAt s p (posOf (lowerAt s p x largest)) (posOf (lowerAt s p y largest))) (recordsOf (having keyIs (between x y) es))
+  unfolding newAnswer newArena leafEnd leafAt
+  new-range = leaf-range a next l m lo hi sibling bytes word numbers id ok (limits m lo hi) p end built (newArena a next l m b) refl s long same
+
+  pub new-back : (x y : List ℕ) → startsWith pre x ≡ true → startsWith pre y ≡ true → posOf (lowerAt s p x largest) < posOf (lowerAt s p y largest)
+      → Lists s pre (backwardAt s p (pos (posOf (lowerAt s p y largest) - 1)) (pos (posOf (lowerAt s p x largest)))) (entriesOf (reverse (grouped (having keyIs (between x y) es))))
+  unfolding newAnswer newArena leafEnd leafAt
+  new-back = leaf-back a next l m lo hi sibling bytes word numbers id ok (limits m lo hi) p end built (newArena a next l m b) refl s long same
+
+  -- a search finds the key's first record in the list with all its older versions, or the list has none
+  pub new-search : (probe : List ℕ) → SearchSays s (leafPage b es) es probe (searchAt s p probe)
+  unfolding newAnswer newArena leafEnd leafAt
+  new-search = leaf-search a next l m lo hi sibling bytes word numbers id ok (limits m lo hi) p end built (newArena a next l m b) refl s long same
