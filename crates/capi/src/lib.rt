@@ -1,5 +1,7 @@
 // The C interface. Today it has what the timing driver calls (rust/bench); issue 8 gives it every public call and a header.
+use build::Built;
 use frames::Addr;
+use frames::PageId;
 use order::Ver;
 use sst::Bound;
 use sst::Found;
@@ -67,5 +69,35 @@ pub extern "C" fn ct_check(arena: &[u8], addr: u64) -> u32 {
     match pages::check(arena, Addr(addr)) {
         pages::Checked::Sound => 0,
         pages::Checked::Refused(r) => frames::number(r) as u32,
+    }
+}
+
+// Builds a leaf of a record list, without boundaries: the new next free address, or 2^64 - 1 less the number of a refusal.
+#[no_mangle]
+pub extern "C" fn ct_new_leaf(
+    arena: &mut [u8],
+    next: usize,
+    list: &[u8],
+    none: &[u8],
+    limit: usize,
+    budget: usize,
+    txid: u64,
+) -> u64 {
+    match base::new_leaf(
+        arena,
+        next,
+        list,
+        none,
+        none,
+        PageId(0),
+        limit,
+        budget,
+        0,
+        txid,
+        0,
+        0,
+    ) {
+        Built::At(_, end) => end as u64,
+        Built::Refused(r) => 18446744073709551615 - (frames::number(r) as u64),
     }
 }

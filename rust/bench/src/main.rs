@@ -13,10 +13,23 @@ unsafe extern "C" {
     fn ct_lower_bound(arena: *const u8, len: usize, addr: u64, key: *const u8, klen: usize, txid: u64, cmd: u32) -> u64;
     fn ct_walk(arena: *const u8, len: usize, addr: u64, elems: usize) -> u64;
     fn ct_check(arena: *const u8, len: usize, addr: u64) -> u32;
+    fn ct_new_leaf(
+        arena: *mut u8,
+        len: usize,
+        next: usize,
+        list: *const u8,
+        list_len: usize,
+        none: *const u8,
+        none_len: usize,
+        limit: usize,
+        budget: usize,
+        txid: u64,
+    ) -> u64;
 }
 
 struct Case {
     arena: Arena,
+    list: Vec<u8>,
     addr: u64,
     keys: Vec<Vec<u8>>,
     probes: Vec<usize>,
@@ -53,9 +66,43 @@ fn case(n: usize, long: bool) -> Case {
     let stamp = Stamp { txid: 1, group: 0, lsn: 0, checkpoint: 0 };
     let bounds = Bounds { lo: &[], hi: &[], sibling: 0 };
     let built = arena.build_leaf(8, 64, 131_072, &stamp, &bounds, &entries);
+    let list = house(&entries);
     let count = keys.len();
     let probes = (0..4096).map(|_| next() as usize % count).collect();
-    Case { arena, addr: built.addr, keys, probes }
+    Case { arena, list, addr: built.addr, keys, probes }
+}
+
+/// The entries as a record list in document 01's house form.
+fn house(entries: &[Entry]) -> Vec<u8> {
+    let mut body = Vec::new();
+    for e in entries {
+        body.extend((e.key.len() as u16).to_be_bytes());
+        body.extend(e.key);
+        body.extend(e.txid.to_be_bytes());
+        body.extend(e.cmd.to_be_bytes());
+        body.extend((e.value.len() as u32).to_be_bytes());
+        body.extend(e.value);
+    }
+    let mut list = vec![1];
+    list.extend((body.len() as u32).to_be_bytes());
+    list.extend(body);
+    list
+}
+
+/// Builds: ours reads the list, judges it and writes; the Rust has its entries at hand and judges nothing. A record's nanoseconds.
+fn builds(c: &Case) -> (f64, f64, usize) {
+    let entries = oracle::list::entries(&c.list).expect("a list");
+    let (stamp, bounds) = (Stamp { txid: 1, group: 0, lsn: 0, checkpoint: 0 }, Bounds { lo: &[], hi: &[], sibling: 0 });
+    let mut ours = vec![0u8; c.arena.bytes().len()];
+    let mut theirs = Arena::new(ours.len(), 0);
+    let n = entries.len();
+    let none: [u8; 0] = [];
+    let p = ours.as_mut_ptr();
+    // SAFETY: the buffers outlive the calls and do not overlap.
+    let build = || unsafe { ct_new_leaf(p, c.arena.bytes().len(), 8, c.list.as_ptr(), c.list.len(), none.as_ptr(), 0, 64, 131_072, 1) };
+    let (a, b) = timed(n, build, || theirs.build_leaf(8, 64, 131_072, &stamp, &bounds, &entries).next);
+    assert!(ours == c.arena.bytes(), "the bytes differ");
+    (a, b, n)
 }
 
 /// Nanoseconds a call: the median of rounds, ours and theirs in turn.
@@ -105,6 +152,8 @@ fn main() {
                     || c.probes.iter().map(|&i| page.lower_bound(&c.keys[i], Ver::new(50, 0), &mut ()) as u64).fold(0, u64::wrapping_add),
                 ),
             );
+            let (a, b, _) = builds(&c);
+            row("build, a record", (a, b));
             let records = elems + 2 * elems.div_ceil(3);
             row(
                 "walk with history",
