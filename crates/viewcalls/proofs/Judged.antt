@@ -33,7 +33,7 @@ use Rattle.walks.specs.Listed.{entriesOf, Lists}
 use Rattle.viewhist.specs.Fit.{Numbers}
 use Rattle.viewleaf.specs.Grouped.{grouped, leafPage}
 use Rattle.viewread.specs.Asked.{recordsOf, having, between, keyIs, largest, posOf, SearchSays}
-use Rattle.viewread.proofs.Leaves.{lists-all, lists-range, lists-back, search-list}
+use Rattle.viewread.proofs.Leaves.{lists-all, lists-all-back, lists-range, lists-back, search-list}
 use Rattle.viewbuilt.proofs.Stored.{stored}
 use Rattle.viewcalls.proofs.Leaf.{list-says, list-others}
 
@@ -123,6 +123,10 @@ module _ (a : List ℕ) (next : ℕ) (l : List ℕ) (m : Call) (lo hi : List ℕ
       -- walked whole, it lists the list
       pub leaf-lists : Lists s pre (forwardAt s p 0 (length (heads es))) (recordsOf es)
       leaf-lists = lists-all s p b es leaf-says marks
+
+      -- backward, the last key first, each key newest first
+      pub leaf-all-back : 0 < length (heads es) → Lists s pre (backwardAt s p (pos (length (heads es) - 1)) (pos 0)) (entriesOf (reverse (grouped es)))
+      leaf-all-back l = lists-all-back s p b es leaf-says marks l
 
       -- between two lower bounds, the list's records of that range, either way
       pub leaf-range : (x y : List ℕ) → startsWith pre x ≡ true → startsWith pre y ≡ true

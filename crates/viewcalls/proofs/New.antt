@@ -27,7 +27,7 @@ use Rattle.walks.specs.Listed.{entriesOf, Lists}
 use Rattle.viewhist.specs.Fit.{Numbers}
 use Rattle.viewleaf.specs.Grouped.{grouped, leafPage}
 use Rattle.viewread.specs.Asked.{recordsOf, having, between, keyIs, largest, posOf, SearchSays}
-use Rattle.viewcalls.proofs.Judged.{Limits, after-long, leaf-says, leaf-others, leaf-lists, leaf-range, leaf-back, leaf-search}
+use Rattle.viewcalls.proofs.Judged.{Limits, after-long, leaf-says, leaf-others, leaf-lists, leaf-all-back, leaf-range, leaf-back, leaf-search}
 
 limits : (m : Call) (lo hi : List ℕ) → leafLimits (m .limit) (m .budget) lo hi ≡ true → Limits m lo hi
 limits m lo hi e =
@@ -71,6 +71,11 @@ module _ (a : List ℕ) (next : ℕ) (l : List ℕ) (m : Call) (lo hi : List ℕ
   pub new-lists : Lists s pre (forwardAt s p 0 (length (heads es))) (recordsOf es)
   unfolding newAnswer newArena leafEnd leafAt
   new-lists = leaf-lists a next l m lo hi sibling bytes word numbers id ok (limits m lo hi) p end built (newArena a next l m b) refl s long same
+
+  -- backward, the last key first, each key newest first
+  pub new-all-back : 0 < length (heads es) → Lists s pre (backwardAt s p (pos (length (heads es) - 1)) (pos 0)) (entriesOf (reverse (grouped es)))
+  unfolding newAnswer newArena leafEnd leafAt
+  new-all-back = leaf-all-back a next l m lo hi sibling bytes word numbers id ok (limits m lo hi) p end built (newArena a next l m b) refl s long same
 
   -- between two lower bounds, the list's records of that range, either way
   pub new-range : (x y : List ℕ) → startsWith pre x ≡ true → startsWith pre y ≡ true

@@ -72,6 +72,16 @@ module _ (s : List ℕ) (a : Addr) (b : Bounds) (es : List Entry) (means : meani
       subst (λ (n : ℕ). Lists s pre (forwardAt s a 0 n) (recordsOf es)) (grouped-many es)
       (subst (λ (l : List Listed). Lists s pre (forwardAt s a 0 (length hs)) l) e (forward-lists s a (leafPage b es) means hs refl 0 (length hs) (omega arith)))
 
+  -- walked backward whole: the groups, the last key first, each newest first
+  pub lists-all-back : 0 < length (heads es) → Lists s pre (backwardAt s a (pos (length (heads es) - 1)) (pos 0)) (entriesOf (reverse (grouped es)))
+  unfolding leafPage
+  lists-all-back l =
+      let n = grouped-many es in
+      let z : length (heads es) - 1 - 0 + 1 ≡ length hs = omega (arith, n) in
+      subst (λ (x : List Head). Lists s pre (backwardAt s a (pos (length (heads es) - 1)) (pos 0)) (entriesOf (reverse x)))
+      (ap (λ (k : ℕ). take k hs) z ∙ take-length hs)
+      (backward-lists s a (leafPage b es) means hs refl (length (heads es) - 1) 0 (omega arith) (omega (arith, n)))
+
   -- ---- a range between two lower bounds
 
   module _ (sized : Each Wide es) (lo hi : List ℕ) (has-lo : startsWith pre lo ≡ true) (has-hi : startsWith pre hi ≡ true) where
