@@ -3,7 +3,7 @@
 use mathlib.Core.Path.{_≡_, refl, sym, ap, ap₂, _∙_}
 use mathlib.Core.List.{List, [], _∷_}
 use mathlib.Core.Bool.{Bool, true, false, cond, _&&_}
-use Prim.Native.Nat.{ℕ, suc, _+_, _-_, _%_, _≤_}
+use Prim.Native.Nat.{ℕ, suc, _+_, _-_, _≤_}
 use native.Mathlib.Omega.{arith}
 use borrow.Author.Tests.{leb-true}
 use lib.Dec.{leb, eqb}
@@ -14,6 +14,7 @@ use Rattle.numbers.specs.Number.{beAt}
 use Rattle.frames.specs.declared.Refusal.{Refusal}
 use Rattle.frames.specs.declared.Refusal.the-variants.{BadLimit, BadArena, BadList}
 use Rattle.frames.specs.Layout.{addr}
+use Rattle.frames.proofs.Frames.{and-l, and-r}
 use Rattle.sources.specs.declared.Cursor.{Cursor}
 use Rattle.sources.specs.declared.Begun.{Begun}
 use Rattle.sources.specs.declared.Begun.the-variants.{From, Bad}
@@ -26,15 +27,17 @@ use Rattle.edges.specs.declared.Edge.{Edge}
 use Rattle.edges.specs.declared.Edges.{Edges}
 use Rattle.edges.specs.Edges.{Within, Inside, edgeBytes, edgeOf, boundsOf}
 use Rattle.edges.proofs.Laws.{edge-whole, edge-within}
-use Rattle.build.specs.declared.Built.{Built}
-use Rattle.build.specs.declared.Built.the-variants.{At, Refused}
+use Rattle.image.specs.declared.Built.{Built}
+use Rattle.image.specs.declared.Built.the-variants.{At, Refused}
 use Rattle.history.specs.Runs.{Sane}
 use Rattle.totals.specs.Totals.{leafAt}
-use Rattle.build.specs.Table.{Row, row, judged, limitOk, budgetOk, boundsOk, leafLimits, nextOk, isOpen, listOk}
+use Rattle.image.specs.Call.{limitOk, budgetOk, limitsOk, nextOk}
+use Rattle.image.proofs.Asked.{limit-true, budget-true, next-true}
+use Rattle.build.specs.Table.{Row, row, judged, boundsOk, leafLimits, isOpen, listOk}
 use Rattle.build.specs.Leaf.{leafEnd, leafAnswer, leafArena, leafRows}
 use Rattle.build.specs.Index.{Held, indexEnd, indexAnswer, indexArena, indexRows}
 use Rattle.frames.specs.declared.PageId.{PageId}
-use Rattle.base.specs.Calls.{callOf, boundsFrom, listed, listRows, intlRows, intlAnswer, intlArena, newRows, newAnswer, newArena}
+use Rattle.base.specs.Calls.{boundsFrom, listed, listRows, intlRows, intlAnswer, intlArena, newRows, newAnswer, newArena}
 
 -- ---- the first three rows
 
@@ -96,12 +99,8 @@ common-low (x ∷ lo) (y ∷ hi) = by (eqb x y) (common-low lo hi)
     by true h = omega arith
     by false h = omega arith
 
-and-both : (x y : Bool) → x && y ≡ true → (x ≡ true) × (y ≡ true)
-and-both true y e = (refl, e)
-and-both false y e = absurd (let z : _≡_ {A = ℕ} 0 1 = cc in omega arith)
-
 pub next-low : (len next : ℕ) (t : Bool) → t ≡ nextOk len next → t ≡ true → next ≤ len
-next-low len next t e h = leb-true next len (and-both (leb 8 next && eqb (next % 8) 0) (leb next len) (sym e ∙ h) .1)
+next-low len next t e h = next-true len next (sym e ∙ h) .2
 
 module _ (lo hi w : List ℕ) (x y : Edge) (p : ℕ) (sibling : PageId) (ex : x ≡ edgeOf lo) (ey : y ≡ edgeOf hi) (ep : p ≡ common lo hi) where
   abbrev edges-of : Edges
@@ -109,9 +108,9 @@ module _ (lo hi w : List ℕ) (x y : Edge) (p : ℕ) (sibling : PageId) (ex : x 
 
   pub held : (t : Bool) → t ≡ boundsOk lo hi → t ≡ true → Held lo w edges-of
   held t e h =
-      let z = and-both (leb (length lo) 4096) (leb (length hi) 4096) (sym e ∙ h) in
-      let j : length lo ≤ 4096 = leb-true (length lo) 4096 (z .0) in
-      let k : length hi ≤ 4096 = leb-true (length hi) 4096 (z .1) in
+      let z = sym e ∙ h in
+      let j : length lo ≤ 4096 = leb-true (length lo) 4096 (and-l (leb (length lo) 4096) (leb (length hi) 4096) z) in
+      let k : length hi ≤ 4096 = leb-true (length hi) 4096 (and-r (leb (length lo) 4096) (leb (length hi) 4096) z) in
       rw (ex, ey) (record { within = edge-within lo w; shared = omega (arith, ep, common-low lo hi); low = j; high = k })
 
   pub inside : Inside lo hi w edges-of
@@ -194,19 +193,20 @@ module _ (a : List ℕ) (next : ℕ) (l : List ℕ) (m : Call) (b : Bounds) wher
 
 -- ---- new_leaf
 
-module _ (limit budget : ℕ) (lo hi : List ℕ) (t : Bool) (e : t ≡ leafLimits limit budget lo hi) (h : t ≡ true) where
-  limits-all : (limitOk limit && budgetOk budget ≡ true) × (boundsOk lo hi ≡ true)
-  limits-all = and-both (limitOk limit && budgetOk budget) (boundsOk lo hi) (sym e ∙ h)
+pub limits-sane : (m : Call) → limitsOk (m .limit) (m .budget) ≡ true → Sane m
+limits-sane m e =
+    record {
+      limit = limit-true (m .limit) (and-l (limitOk (m .limit)) (budgetOk (m .budget)) e) .1;
+      budget = budget-true (m .budget) (and-r (limitOk (m .limit)) (budgetOk (m .budget)) e) .1;
+    }
 
+module _ (limit budget : ℕ) (lo hi : List ℕ) (t : Bool) (e : t ≡ leafLimits limit budget lo hi) (h : t ≡ true) where
   pub bounds-ok : true ≡ boundsOk lo hi
-  bounds-ok = sym (limits-all .1)
+  bounds-ok = sym (and-r (limitsOk limit budget) (boundsOk lo hi) (sym e ∙ h))
 
   pub sane : (group txid lsn : ℕ) → Sane (record { limit = limit; budget = budget; group = group; txid = txid; lsn = lsn })
   sane group txid lsn =
-      let z = and-both (limitOk limit) (budgetOk budget) (limits-all .0) in
-      let x : limit ≤ 65536 = leb-true limit 65536 (and-both (leb 1 limit) (leb limit 65536) (z .0) .1) in
-      let y : budget ≤ 131072 = leb-true budget 131072 (and-both (leb 256 budget) (leb budget 131072) (z .1) .1) in
-      record { limit = x; budget = y }
+      limits-sane (record { limit = limit; budget = budget; group = group; txid = txid; lsn = lsn }) (and-l (limitsOk limit budget) (boundsOk lo hi) (sym e ∙ h))
 
 module _ (a : List ℕ) (next : ℕ) (l : List ℕ) (m : Call) (b : Bounds) where
   abbrev les : List Entry

@@ -26,9 +26,10 @@ use Rattle.image.specs.Prefix.{common}
 use Rattle.image.specs.Sizes.{pad, farLen, cost, costsOf, fars, keyLen, oldRun, sums, counted, roomOf}
 use Rattle.image.specs.Image.{Bounds, farAddr, valBytes, remoteFrame, farFrame, farFrames, farAddrs, oldRec, oldRecs, oldSlots, histHead, histSize, histPage, pageEnd, history, historyEnd, starts, histAddrs, placesIn, places, headRec, headRecs, headSlots, les, hints, leafSize, leafRoom, leafFrame, leafImage}
 use Rattle.totals.specs.Totals.{leafAt}
-use Rattle.build.specs.declared.Built.the-variants.{At, Refused}
+use Rattle.image.specs.declared.Built.the-variants.{At, Refused}
 use Rattle.build.specs.Leaf.{leafEnd}
-use Rattle.base.specs.Calls.{larger, callOf, boundsFrom, newAnswer, newArena}
+use Rattle.image.specs.Call.{larger, callOf}
+use Rattle.base.specs.Calls.{boundsFrom, newAnswer, newArena}
 
 -- "a", version (5,0), "xy"
 unfoldable pub p5List : List ℕ

@@ -17,14 +17,15 @@ use Rattle.sources.specs.Judged.{rising, prefixed}
 use Rattle.image.specs.declared.Call.{Call}
 use Rattle.image.specs.Image.{Bounds, leafSize, leafRoom, leafImage, indexSize, indexImage}
 use Rattle.totals.specs.Totals.{leafAt}
-use Rattle.build.specs.declared.Built.{Built}
-use Rattle.build.specs.declared.Built.the-variants.{At, Refused}
-use Rattle.build.specs.Table.{Row, row, judged, boundsOk, leafLimits, nextOk, listOk, entryRows}
+use Rattle.image.specs.declared.Built.{Built}
+use Rattle.image.specs.declared.Built.the-variants.{At, Refused}
+use Rattle.image.specs.Call.{nextOk, builtNumber}
+use Rattle.build.specs.Table.{Row, row, judged, boundsOk, leafLimits, listOk, entryRows}
 use Rattle.build.specs.Index.{indexEnd, indexRows}
 use Rattle.build.specs.Leaf.{leafEnd, leafRows}
 use Rattle.build.proofs.Tables.{All}
 use Rattle.build.proofs.Exactly.{Exactly, exactly, accepted, stays}
-use Rattle.base.specs.Calls.{builtNumber, listed, listRows, intlRows, intlAnswer, intlArena, newRows, newAnswer, newArena}
+use Rattle.base.specs.Calls.{listed, listRows, intlRows, intlAnswer, intlArena, newRows, newAnswer, newArena}
 
 -- an answer's number is the table's
 number-by : (b : Bool) (x : Built) (n : ℕ) (r : Refusal) → builtNumber x ≡ n → builtNumber (cond b x (Refused r)) ≡ cond b n (numberOf r)

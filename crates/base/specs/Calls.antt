@@ -2,13 +2,12 @@
 -- Assumes nothing.
 use Prim.Native.Nat.{ℕ}
 use mathlib.Core.List.{List, [], _∷_}
-use mathlib.Core.Bool.{Bool, true, false, cond, _&&_}
+use mathlib.Core.Bool.{Bool, true, false, _&&_}
 use lib.ListN.{length, take}
-use lib.Dec.{ltb, leb, eqb}
+use lib.Dec.{leb, eqb}
 use Rattle.spans.specs.Span.{put}
 use Rattle.frames.specs.declared.Refusal.{Refusal}
 use Rattle.frames.specs.declared.Refusal.the-variants.{BadLimit, BadArena, BadList}
-use Rattle.frames.specs.Refusals.{numberOf}
 use Rattle.frames.specs.Layout.{addr}
 use Rattle.sources.specs.Lists.{begunOf, firstOf}
 use Rattle.sources.specs.Source.{Entry, entries, wellFormed}
@@ -17,23 +16,12 @@ use Rattle.image.specs.declared.Call.{Call}
 use Rattle.image.specs.Prefix.{common}
 use Rattle.image.specs.Image.{Bounds, leafSize, leafRoom, leafImage, indexSize, indexImage}
 use Rattle.totals.specs.Totals.{leafAt}
-use Rattle.build.specs.declared.Built.{Built}
-use Rattle.build.specs.declared.Built.the-variants.{At, Refused}
-use Rattle.build.specs.Table.{Row, row, judged, boundsOk, leafLimits, nextOk, listOk, entryRows}
+use Rattle.image.specs.declared.Built.{Built}
+use Rattle.image.specs.declared.Built.the-variants.{At, Refused}
+use Rattle.image.specs.Call.{nextOk}
+use Rattle.build.specs.Table.{Row, row, judged, boundsOk, leafLimits, listOk, entryRows}
 use Rattle.build.specs.Index.{indexEnd, indexRows}
 use Rattle.build.specs.Leaf.{leafEnd, leafRows}
-
--- document 01's number of an answer: 0 where a page was built
-abbrev pub builtNumber : Built → ℕ
-builtNumber (At a n) = 0
-builtNumber (Refused r) = numberOf r
-
--- "lsn is the larger of the given and the checkpoint's"
-unfoldable pub larger : ℕ → ℕ → ℕ
-larger x y = cond (ltb x y) y x
-
-abbrev pub callOf : ℕ → ℕ → ℕ → ℕ → ℕ → ℕ → Call
-callOf limit budget group txid lsn checkpoint = record { limit = limit; budget = budget; group = group; txid = txid; lsn = larger lsn checkpoint }
 
 -- "Prefix length: count of equal leading bytes of lo and hi"
 abbrev pub boundsFrom : List ℕ → List ℕ → ℕ → Bounds

@@ -1,14 +1,14 @@
 // Building: a leaf or index page from a source of entries, judged on its whole input and then written strictly upward from the next free
 // address.
-use build::Built;
 use edges::Edges;
 use frames::PageId;
 use frames::Refusal;
-use image::Call;
+use image::Built;
 use sources::Begun;
 ghost use mathlib.Core.Path.{_≡_};
 ghost use Rattle.image.specs.Prefix.{common};
-ghost use Rattle.base.specs.Calls.{larger, callOf, boundsFrom, intlAnswer, intlArena, newAnswer, newArena};
+ghost use Rattle.image.specs.Call.{callOf};
+ghost use Rattle.base.specs.Calls.{boundsFrom, intlAnswer, intlArena, newAnswer, newArena};
 
 // The count of equal leading bytes of the boundaries; an empty hi is none.
 pub fn calc_prefix(lo: &[u8], hi: &[u8]) -> usize
@@ -31,12 +31,6 @@ pub fn calc_prefix(lo: &[u8], hi: &[u8]) -> usize
     }
 }
 
-fn larger(x: u64, y: u64) -> u64
-    ensures { λ r. ⌜ r ≡ larger x y ⌝ }
-{
-    if x < y { y } else { x }
-}
-
 // Builds an index page of an index list: its address and the new next free address, or a refusal that changes nothing.
 pub fn new_intl(
     a: &mut [u8],
@@ -57,7 +51,7 @@ pub fn new_intl(
         return Built::Refused(Refusal::BadLimit);
     }
     let len = a.len();
-    if !build::next_ok(len, next) {
+    if !image::next_ok(len, next) {
         return Built::Refused(Refusal::BadArena);
     }
     let b = sources::open_index(list);
@@ -67,13 +61,7 @@ pub fn new_intl(
     if !sources::well(list, &a[..next], c) {
         return Built::Refused(Refusal::BadList);
     }
-    let m = Call {
-        limit: 0,
-        budget: 0,
-        group: group,
-        txid: txid,
-        lsn: larger(lsn, checkpoint),
-    };
+    let m = image::call_of(0, 0, group, txid, lsn, checkpoint);
     let x = edges::edge_of(lo);
     let y = edges::edge_of(hi);
     let p = calc_prefix(lo, hi);
@@ -109,7 +97,7 @@ pub fn new_leaf(
         return Built::Refused(Refusal::BadLimit);
     }
     let len = a.len();
-    if !build::next_ok(len, next) {
+    if !image::next_ok(len, next) {
         return Built::Refused(Refusal::BadArena);
     }
     let b = sources::open_records(list);
@@ -119,13 +107,7 @@ pub fn new_leaf(
     if !sources::well(list, &a[..next], c) {
         return Built::Refused(Refusal::BadList);
     }
-    let m = Call {
-        limit: limit,
-        budget: budget,
-        group: group,
-        txid: txid,
-        lsn: larger(lsn, checkpoint),
-    };
+    let m = image::call_of(limit, budget, group, txid, lsn, checkpoint);
     let x = edges::edge_of(lo);
     let y = edges::edge_of(hi);
     let p = calc_prefix(lo, hi);

@@ -32,8 +32,7 @@ use Rattle.edges.proofs.Laws.{length-edge}
 use Rattle.intl.specs.Parts.{Ready}
 use Rattle.build.specs.declared.IndexVerdict.{IndexVerdict}
 use Rattle.build.specs.declared.IndexVerdict.the-variants.{Fits, No}
-use Rattle.build.specs.declared.Built.{Built}
-use Rattle.build.specs.declared.Built.the-variants.{At, Refused}
+use Rattle.image.specs.declared.Built.the-variants.{At, Refused}
 use Rattle.build.specs.Table.{Row, row, judged, entryRows}
 use Rattle.build.specs.Index.{Held, sizeAt, indexVerdict, indexEnd, indexRows, indexAnswer, indexArena}
 use Rattle.build.proofs.Tables.{All, all-go, refuses, passes}

@@ -36,8 +36,7 @@ use Rattle.totals.proofs.Paged.{hist-remotes}
 use Rattle.leaf.specs.Leaf.{Small}
 use Rattle.build.specs.declared.LeafVerdict.{LeafVerdict}
 use Rattle.build.specs.declared.LeafVerdict.the-variants.{Fits, No}
-use Rattle.build.specs.declared.Built.{Built}
-use Rattle.build.specs.declared.Built.the-variants.{At, Refused}
+use Rattle.image.specs.declared.Built.the-variants.{At, Refused}
 use Rattle.build.specs.Table.{Row, row, judged, entryRows}
 use Rattle.build.specs.Index.{Held}
 use Rattle.build.specs.Leaf.{leafEnd, leafRows, leafAnswer, leafArena, leafVerdict}
@@ -83,15 +82,6 @@ module _ (m : Call) (b : Bounds) (at : ℕ) (es : List Entry) where
       rw (e₁, e₂, e₃, f₄, e₅, e₆, e₇, f₈) (totals-open m b at es)
 
 -- ---- what the judge measures
-
-only-by : (t : Bool) (e : Entry) (xs : List Entry) (n : ℕ) → length xs ≤ n → length (cond t (e ∷ xs) xs) ≤ n + 1
-only-by true e xs n h = omega arith
-only-by false e xs n h = omega arith
-
-pub only-few : (b : Bool) (es : List Entry) → length (only b es) ≤ length es
-unfolding only
-only-few b [] = omega arith
-only-few b (e ∷ es) = omega (arith, only-by (wanted b (e .old)) e (only b es) (length es) (only-few b es))
 
 count-of : (limit budget at : ℕ) (os : List Entry) → pagesOf limit budget 0 at os .count ≡ length (cuts budget (costsOf limit os))
 unfolding pagesOf

@@ -14,7 +14,7 @@ use Rattle.image.specs.declared.Call.{Call}
 use Rattle.image.specs.Image.{Bounds, indexSums, indexSize, indexImage}
 use Rattle.edges.specs.declared.Edges.{Edges}
 use Rattle.edges.specs.Edges.{Within}
-use Rattle.build.specs.declared.Built.{Built}
+use Rattle.image.specs.declared.Built.{Built}
 use Rattle.build.specs.declared.IndexVerdict.{IndexVerdict}
 use Rattle.build.specs.Table.{Row, row, judged, entryRows}
 

@@ -14,7 +14,7 @@ use Rattle.image.specs.declared.Call.{Call}
 use Rattle.image.specs.Image.{Bounds, leafSize, leafRoom, leafImage}
 use Rattle.totals.specs.declared.Totals.{Totals}
 use Rattle.totals.specs.Totals.{leafAt, totalsOf}
-use Rattle.build.specs.declared.Built.{Built}
+use Rattle.image.specs.declared.Built.{Built}
 use Rattle.build.specs.declared.LeafVerdict.{LeafVerdict}
 use Rattle.build.specs.Table.{Row, row, judged, entryRows}
 

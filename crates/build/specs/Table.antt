@@ -1,16 +1,17 @@
 -- Document 01's table of refusals, for builds: "Each is judged on the whole input, lower numbers first".
 -- Assumes nothing.
-use Prim.Native.Nat.{ℕ, _%_}
+use Prim.Native.Nat.{ℕ}
 use mathlib.Core.List.{List, [], _∷_}
 use mathlib.Core.Bool.{Bool, true, false, cond, _&&_}
 use lib.ListN.{length}
-use lib.Dec.{leb, eqb}
+use lib.Dec.{leb}
 use Rattle.frames.specs.declared.Refusal.{Refusal}
 use Rattle.frames.specs.declared.Refusal.the-variants.{BadLimit, BadArena, BadList, OutOfOrder, WrongPrefix, TooBig, NoRoom}
 use Rattle.sources.specs.declared.Begun.{Begun}
 use Rattle.sources.specs.Lists.{begunOf, firstOf}
 use Rattle.sources.specs.Source.{Entry, wellFormed}
 use Rattle.sources.specs.Judged.{rising, prefixed}
+use Rattle.image.specs.Call.{limitsOk}
 
 -- a row of the table: what must hold, else the refusal
 pub record Row : Type 0 where
@@ -25,22 +26,12 @@ abbrev pub judged {ℓ} : {X : Type ℓ} → List Row → (Refusal → X) → X 
 judged [] stop go = go
 judged (r ∷ rs) stop go = cond (r .holds) (judged rs stop go) (stop (r .else))
 
--- 1 BAD LIMIT: "inline limit not 1..65,536; budget not 256..131,072; lo or hi over 4,096"
-abbrev pub limitOk : ℕ → Bool
-limitOk limit = leb 1 limit && leb limit 65536
-
-abbrev pub budgetOk : ℕ → Bool
-budgetOk budget = leb 256 budget && leb budget 131072
-
+-- 1 BAD LIMIT: ".. lo or hi over 4,096"; the rest of 1, and 2, are every call's (image, Call)
 abbrev pub boundsOk : List ℕ → List ℕ → Bool
 boundsOk lo hi = leb (length lo) 4096 && leb (length hi) 4096
 
 abbrev pub leafLimits : ℕ → ℕ → List ℕ → List ℕ → Bool
-leafLimits limit budget lo hi = limitOk limit && budgetOk budget && boundsOk lo hi
-
--- 2 BAD ARENA: "next free address below 8, not a multiple of 8, or above the arena's length"
-abbrev pub nextOk : ℕ → ℕ → Bool
-nextOk len next = leb 8 next && eqb (next % 8) 0 && leb next len
+leafLimits limit budget lo hi = limitsOk limit budget && boundsOk lo hi
 
 -- 3 BAD LIST: "version not 1, count not what remains, header or entry cut short, key over 4,096, value over 65,536"; w is what lies
 -- below the next free address

@@ -4,6 +4,7 @@ use edges::Edge;
 use edges::Edges;
 use frames::Addr;
 use frames::Refusal;
+use image::Built;
 use image::Call;
 use sources::Cursor;
 use totals::Totals;
@@ -14,16 +15,10 @@ ghost use Rattle.frames.specs.Layout.{frameLen};
 ghost use Rattle.sources.specs.Source.{entries};
 ghost use Rattle.sources.specs.Judged.{prefixed};
 ghost use Rattle.edges.specs.Edges.{Within, Inside, edgeBytes, boundsOf};
-ghost use Rattle.build.specs.Table.{boundsOk, leafLimits, nextOk};
+ghost use Rattle.build.specs.Table.{boundsOk, leafLimits};
 ghost use Rattle.build.specs.Index.{Held, indexVerdict, indexAnswer, indexArena};
 ghost use Rattle.build.specs.Leaf.{leafVerdict, leafAnswer, leafArena};
 ghost use Rattle.history.specs.Runs.{Sane};
-
-// A page that was built: its address, and the new next free address.
-pub enum Built {
-    At(Addr, usize),
-    Refused(Refusal),
-}
 
 // What the judge of an index page finds: the count of its entries and its size.
 pub enum IndexVerdict {
@@ -37,7 +32,7 @@ pub enum LeafVerdict {
     No(Refusal),
 }
 
-// ---- 1 and 2
+// ---- 1
 
 // "lo or hi over 4,096" is BAD LIMIT.
 pub fn bounds_ok(lo: &[u8], hi: &[u8]) -> bool
@@ -50,17 +45,9 @@ pub fn bounds_ok(lo: &[u8], hi: &[u8]) -> bool
 pub fn limits_ok(limit: usize, budget: usize, lo: &[u8], hi: &[u8]) -> bool
     ensures { λ r. ⌜ r ≡ leafLimits limit budget (now (lo .entry)) (now (hi .entry)) ⌝ }
 {
-    let inline = (1 <= limit) & (limit <= 65536);
-    let paged = (256 <= budget) & (budget <= 131072);
-    let bounds = (lo.len() <= 4096) & (hi.len() <= 4096);
-    inline & paged & bounds
-}
-
-// "next free address below 8, not a multiple of 8, or above the arena's length" is BAD ARENA.
-pub fn next_ok(len: usize, next: usize) -> bool
-    ensures { λ r. ⌜ r ≡ nextOk len next ⌝ }
-{
-    (8 <= next) & (next % 8 == 0) & (next <= len)
+    let inline = image::limits_ok(limit, budget);
+    let bounds = bounds_ok(lo, hi);
+    inline & bounds
 }
 
 // ---- 7

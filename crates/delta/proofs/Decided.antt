@@ -10,12 +10,13 @@ use Rattle.spans.specs.Only.{Decides, decides}
 use Rattle.order.specs.declared.Ver.{Ver}
 use Rattle.frames.specs.declared.Addr.{Addr}
 use Rattle.frames.specs.declared.PageId.{PageId}
-use Rattle.delta.specs.declared.Built.{Built}
+use Rattle.image.specs.declared.Built.{Built}
 use Rattle.delta.specs.declared.LeafKey.{LeafKey}
 use Rattle.delta.specs.declared.IndexKey.{IndexKey}
 use Rattle.delta.specs.declared.Value.{Value}
 use Rattle.delta.specs.declared.Child.{Child}
-use Rattle.delta.specs.Deltas.{callOf, indexFrame, leafDelta}
+use Rattle.image.specs.Call.{callOf}
+use Rattle.delta.specs.Deltas.{indexFrame, leafDelta}
 use Rattle.delta.specs.Built.{afterwards}
 use Rattle.delta.specs.Read.{leafKeyAt, indexKeyAt, valueAt, childAt}
 use Rattle.delta.proofs.from_key_val as leaf-fn
@@ -38,14 +39,14 @@ module _ (κs : Lfts 3) (a : RefT (List ℕ)) (next limit group lsn ckpt : ℕ) 
       → leaf.Post κs (a, (next, (limit, (group, (lsn, (ckpt, (ver, (k, (v, tt))))))))) r′ x′ → (r ≡ r′) × (now (x .0) ≡ now (x′ .0))
   leaf-decided h h′ =
       let e = h .0 ∙ sym (h′ .0) in
-      (e, h .1 ∙ ap (λ (b : Built). afterwards b (now a) next (leafDelta (callOf limit group (ver .txid) lsn ckpt) next ver (now k) (now v))) e ∙ sym (h′ .1))
+      (e, h .1 ∙ ap (λ (b : Built). afterwards b (now a) next (leafDelta (callOf limit 0 group (ver .txid) lsn ckpt) next ver (now k) (now v))) e ∙ sym (h′ .1))
 
 module _ (κs : Lfts 2) (a : RefT (List ℕ)) (next txid group lsn ckpt : ℕ) (k : RefT (List ℕ)) (page : PageId) (r r′ : Built) (x x′ : AtExit index-fn.ended κs) where
   pub index-decided : index.Post κs (a, (next, (txid, (group, (lsn, (ckpt, (k, (page, tt)))))))) r x
       → index.Post κs (a, (next, (txid, (group, (lsn, (ckpt, (k, (page, tt)))))))) r′ x′ → (r ≡ r′) × (now (x .0) ≡ now (x′ .0))
   index-decided h h′ =
       let e = h .0 ∙ sym (h′ .0) in
-      (e, h .1 ∙ ap (λ (b : Built). afterwards b (now a) next (indexFrame (callOf 0 group txid lsn ckpt) (now k) page)) e ∙ sym (h′ .1))
+      (e, h .1 ∙ ap (λ (b : Built). afterwards b (now a) next (indexFrame (callOf 0 0 group txid lsn ckpt) (now k) page)) e ∙ sym (h′ .1))
 
 -- ---- readers
 

@@ -9,10 +9,10 @@ use Rattle.frames.specs.declared.Refusal.{Refusal}
 use Rattle.frames.specs.Layout.{addr}
 use Rattle.image.specs.declared.Call.{Call}
 use Rattle.image.specs.Sizes.{farLen}
-use Rattle.delta.specs.declared.Built.{Built}
+use Rattle.image.specs.declared.Built.{Built}
 use Rattle.delta.specs.Deltas.{leafLen, indexLen}
-use Rattle.delta.specs.Built.{limitOk, arenaOk, lengthsOk, judged, leafBuilt, indexBuilt}
-use Rattle.delta.specs.Refused.{builtNumber}
+use Rattle.image.specs.Call.{limitOk, nextOk, builtNumber}
+use Rattle.delta.specs.Built.{lengthsOk, judged, leafBuilt, indexBuilt}
 
 -- what a judgement says: which test failed first, or that all passed
 pub record Says (one two three room : Bool) (n : ℕ) : Type 0 where
@@ -46,19 +46,19 @@ number-by true true true true at n = refl
 
 -- a leaf delta's number is the table's: 1, 2, 3, 9, or accepted
 pub leaf-number : (m : Call) (len next key value : ℕ)
-    → builtNumber (leafBuilt m len next key value) ≡ chain (limitOk (m .limit)) (arenaOk next len) (lengthsOk key value) (leb (next + farLen (m .limit) value 0 + leafLen (m .limit) key value) len)
+    → builtNumber (leafBuilt m len next key value) ≡ chain (limitOk (m .limit)) (nextOk len next) (lengthsOk key value) (leb (next + farLen (m .limit) value 0 + leafLen (m .limit) key value) len)
 unfolding leafBuilt judged
 leaf-number m len next key value =
-    number-by (limitOk (m .limit)) (arenaOk next len) (lengthsOk key value) (leb (next + farLen (m .limit) value 0 + leafLen (m .limit) key value) len) (next + farLen (m .limit) value 0) (next + farLen (m .limit) value 0 + leafLen (m .limit) key value)
+    number-by (limitOk (m .limit)) (nextOk len next) (lengthsOk key value) (leb (next + farLen (m .limit) value 0 + leafLen (m .limit) key value) len) (next + farLen (m .limit) value 0) (next + farLen (m .limit) value 0 + leafLen (m .limit) key value)
 
 pub leaf-exactly : (m : Call) (len next key value : ℕ)
-    → Says (limitOk (m .limit)) (arenaOk next len) (lengthsOk key value) (leb (next + farLen (m .limit) value 0 + leafLen (m .limit) key value) len) (builtNumber (leafBuilt m len next key value))
-leaf-exactly m len next key value = rw (leaf-number m len next key value) (chain-says (limitOk (m .limit)) (arenaOk next len) (lengthsOk key value) (leb (next + farLen (m .limit) value 0 + leafLen (m .limit) key value) len))
+    → Says (limitOk (m .limit)) (nextOk len next) (lengthsOk key value) (leb (next + farLen (m .limit) value 0 + leafLen (m .limit) key value) len) (builtNumber (leafBuilt m len next key value))
+leaf-exactly m len next key value = rw (leaf-number m len next key value) (chain-says (limitOk (m .limit)) (nextOk len next) (lengthsOk key value) (leb (next + farLen (m .limit) value 0 + leafLen (m .limit) key value) len))
 
 -- an index delta's: 2, 3, 9, or accepted
-pub index-number : (len next key : ℕ) → builtNumber (indexBuilt len next key) ≡ chain true (arenaOk next len) (lengthsOk key 0) (leb (next + 0 + indexLen key) len)
+pub index-number : (len next key : ℕ) → builtNumber (indexBuilt len next key) ≡ chain true (nextOk len next) (lengthsOk key 0) (leb (next + 0 + indexLen key) len)
 unfolding indexBuilt judged
-index-number len next key = number-by true (arenaOk next len) (lengthsOk key 0) (leb (next + 0 + indexLen key) len) (next + 0) (next + 0 + indexLen key)
+index-number len next key = number-by true (nextOk len next) (lengthsOk key 0) (leb (next + 0 + indexLen key) len) (next + 0) (next + 0 + indexLen key)
 
-pub index-exactly : (len next key : ℕ) → Says true (arenaOk next len) (lengthsOk key 0) (leb (next + 0 + indexLen key) len) (builtNumber (indexBuilt len next key))
-index-exactly len next key = rw (index-number len next key) (chain-says true (arenaOk next len) (lengthsOk key 0) (leb (next + 0 + indexLen key) len))
+pub index-exactly : (len next key : ℕ) → Says true (nextOk len next) (lengthsOk key 0) (leb (next + 0 + indexLen key) len) (builtNumber (indexBuilt len next key))
+index-exactly len next key = rw (index-number len next key) (chain-says true (nextOk len next) (lengthsOk key 0) (leb (next + 0 + indexLen key) len))

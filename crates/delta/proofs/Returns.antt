@@ -26,14 +26,15 @@ use Rattle.image.specs.declared.Call.{Call}
 use Rattle.image.specs.Sizes.{farLen}
 use Rattle.image.specs.Image.{remoteFrame}
 use Rattle.image.proofs.Lengths.{size-some}
-use Rattle.delta.specs.declared.Built.{Built}
+use Rattle.image.specs.declared.Built.{Built}
 use Rattle.delta.specs.declared.Child.{Child}
 use Rattle.delta.specs.Deltas.{valueOf, farOf, deltaFrame, leafFrame, indexFrame, leafDelta, leafLen, indexLen}
-use Rattle.delta.specs.Built.{limitOk, arenaOk, lengthsOk, leafBuilt, indexBuilt}
+use Rattle.image.specs.Call.{limitOk, nextOk, builtNumber}
+use Rattle.delta.specs.Built.{lengthsOk, leafBuilt, indexBuilt}
 use Rattle.delta.specs.Read.{childAt}
-use Rattle.delta.specs.Refused.{builtNumber}
 use Rattle.delta.proofs.Lengths.{length-value, length-far, length-frame, length-leaf-key, length-index-key, leaf-key-most, index-key-most, length-leaf-frame, length-index-frame, length-leaf-delta}
-use Rattle.delta.proofs.Verdict.{limit-true, arena-true, lengths-true, leaf-on, index-is, judged-at}
+use Rattle.image.proofs.Asked.{limit-true, next-true}
+use Rattle.delta.proofs.Verdict.{lengths-true, leaf-on, index-is, judged-at}
 use Rattle.delta.proofs.Exactly.{leaf-exactly, index-exactly}
 use Rattle.delta.proofs.Back.{Small, ReadsKey, ReadsIndexKey, ReadsValue, key-back, index-key-back, child-back, inline-value-back, remote-value-back}
 
@@ -148,7 +149,7 @@ module _ (a : List ℕ) (m : Call) (next : ℕ) (ver : Ver) (key v : List ℕ) (
   abbrev after : List ℕ
   after = put a next (leafDelta m next ver key v)
 
-  passed : (limitOk (m .limit) ≡ true) × (arenaOk next (length a) ≡ true) × (lengthsOk (length key) (length v) ≡ true) × (leb (next + farLen (m .limit) (length v) 0 + leafLen (m .limit) (length key) (length v)) (length a) ≡ true)
+  passed : (limitOk (m .limit) ≡ true) × (nextOk (length a) next ≡ true) × (lengthsOk (length key) (length v) ≡ true) × (leb (next + farLen (m .limit) (length v) 0 + leafLen (m .limit) (length key) (length v)) (length a) ≡ true)
   passed = leaf-exactly m (length a) next (length key) (length v) .is-0 (ap builtNumber e)
 
   fits : next + farLen (m .limit) (length v) 0 + leafLen (m .limit) (length key) (length v) ≤ length a
@@ -162,7 +163,7 @@ module _ (a : List ℕ) (m : Call) (next : ℕ) (ver : Ver) (key v : List ℕ) (
 
   leaf-fit : LeafFit after m next ver key v
   leaf-fit =
-      let r = arena-true next (length a) (passed .1) in
+      let r = next-true (length a) next (passed .1) in
       let l = lengths-true (length key) (length v) (passed .2) in
       record {
         carried = w;
@@ -189,7 +190,7 @@ module _ (a : List ℕ) (m : Call) (next : ℕ) (key : List ℕ) (page : PageId)
   abbrev index-after : List ℕ
   index-after = put a next (indexFrame m key page)
 
-  index-passed : (true ≡ true) × (arenaOk next (length a) ≡ true) × (lengthsOk (length key) 0 ≡ true) × (leb (next + 0 + indexLen (length key)) (length a) ≡ true)
+  index-passed : (true ≡ true) × (nextOk (length a) next ≡ true) × (lengthsOk (length key) 0 ≡ true) × (leb (next + 0 + indexLen (length key)) (length a) ≡ true)
   index-passed = index-exactly (length a) next (length key) .is-0 (ap builtNumber e)
 
   index-fits : next + 0 + indexLen (length key) ≤ length a
@@ -204,7 +205,7 @@ module _ (a : List ℕ) (m : Call) (next : ℕ) (key : List ℕ) (page : PageId)
 
   index-fit : IndexFit index-after m next key page
   index-fit =
-      let r = arena-true next (length a) (index-passed .1) in
+      let r = next-true (length a) next (index-passed .1) in
       record {
         carried = w;
         page-fits = wp;

@@ -1,11 +1,13 @@
--- Runs of stores: a remote frame, and a delta's frame for any key and value. One module a store.
+-- Runs of stores: a remote frame where there is one, and a delta's frame for any key and value. One module a store.
 -- Assumes nothing.
-use mathlib.Core.Path.{_≡_, refl, sym, ap}
+use mathlib.Core.Path.{_≡_, refl, sym, ap, _∙_}
 use mathlib.Core.List.{List, [], _++_, append-nil}
 use Prim.Native.Nat.{ℕ, _+_, _-_, _≤_}
 use native.Mathlib.Omega.{arith}
 use lib.ListN.{length, replicate, length-replicate}
-use Rattle.spans.specs.Span.{put}
+use borrow.Author.Tests.{le-ltb}
+use Rattle.spans.specs.Span.{part, put}
+use Rattle.spans.proofs.Part.{part-all}
 use Rattle.spans.proofs.Put.{put-chain}
 use Rattle.spans.proofs.Writing.{Writing, begin, wrote, finished, front}
 use Rattle.numbers.specs.Number.{le}
@@ -16,7 +18,7 @@ use Rattle.frames.proofs.Stores.{length-box}
 use Rattle.image.specs.declared.Call.{Call}
 use Rattle.image.specs.Sizes.{pad}
 use Rattle.image.specs.Image.{boxOf, remoteFrame}
-use Rattle.delta.specs.Deltas.{deltaHead, deltaFrame}
+use Rattle.delta.specs.Deltas.{farOf, deltaHead, deltaFrame}
 use Rattle.delta.proofs.Lengths.{length-head}
 
 -- a piece of known length (it belongs in `spans`, beside `wrote`)
@@ -27,54 +29,18 @@ module _ (a₀ : List ℕ) (low : ℕ) (whole a : List ℕ) (to : ℕ) (z x y : 
   pub room-n : to + n ≤ length a
   room-n = rw l at (front a₀ low whole a to z x y h e)
 
--- ---- a remote frame
+-- ---- a remote frame: its writer takes the value as a part of a slice
 
-module _ (a : List ℕ) (at : ℕ) (m : Call) (v : List ℕ) (room : at + length (remoteFrame m v) ≤ length a) where
-  abbrev box : List ℕ
-  box = boxBytes (boxOf m (8 + length v) 3 1 0 0 0)
+module _ (a : List ℕ) (at : ℕ) (m : Call) (v : List ℕ) (h : m .limit ≤ length v) where
+  far-is : farOf m v ≡ remoteFrame m (part v 0 (length v))
+  unfolding farOf
+  far-is = rw (le-ltb (length v) (m .limit) h, part-all v) refl
 
-  abbrev far-whole : List ℕ
-  far-whole = put a at (remoteFrame m v)
+  pub far-room : at + length (farOf m v) ≤ length a → at + length (remoteFrame m (part v 0 (length v))) ≤ length a
+  far-room r = rw far-is at r
 
-  far-bytes : remoteFrame m v ≡ box ++ (le 8 (length v) ++ (v ++ pad (8 + length v)))
-  unfolding remoteFrame
-  far-bytes = refl
-
-  f0 : Writing a 0 far-whole a at (remoteFrame m v)
-  f0 = begin a 0 at _ (omega arith) room
-
-  pub far-room : at + boxLen ≤ length a
-  far-room = room-n a 0 far-whole a at _ box _ f0 far-bytes boxLen (length-box (boxOf m (8 + length v) 3 1 0 0 0))
-
-  module _ (a₁ : List ℕ) (e₁ : a₁ ≡ put a at box) where
-    f1 : Writing a 0 far-whole a₁ (at + boxLen) (le 8 (length v) ++ (v ++ pad (8 + length v)))
-    f1 = wrote-n a 0 far-whole a at _ box _ f0 far-bytes boxLen (length-box (boxOf m (8 + length v) 3 1 0 0 0)) a₁ e₁
-
-    pub far-size-room : at + boxLen + 8 ≤ length a₁
-    far-size-room = room-n a 0 far-whole a₁ (at + boxLen) _ (le 8 (length v)) _ f1 refl 8 (length-le 8 (length v))
-
-    module _ (a₂ : List ℕ) (e₂ : a₂ ≡ put a₁ (at + boxLen) (le 8 (length v))) where
-      f2 : Writing a 0 far-whole a₂ (at + boxLen + 8) (v ++ pad (8 + length v))
-      f2 = wrote-n a 0 far-whole a₁ (at + boxLen) _ (le 8 (length v)) _ f1 refl 8 (length-le 8 (length v)) a₂ e₂
-
-      pub far-copy-room : at + boxLen + 8 + length v ≤ length a₂
-      far-copy-room = room-n a 0 far-whole a₂ (at + boxLen + 8) _ v _ f2 refl (length v) refl
-
-      module _ (a₃ : List ℕ) (e₃ : a₃ ≡ put a₂ (at + boxLen + 8) v) (r : ℕ) (e : r ≡ frameLen (8 + length v)) where
-        f3 : Writing a 0 far-whole a₃ (at + boxLen + 8 + length v) (pad (8 + length v))
-        f3 = wrote-n a 0 far-whole a₂ (at + boxLen + 8) _ v _ f2 refl (length v) refl a₃ e₃
-
-        zeros-are : pad (8 + length v) ≡ replicate (r - (32 + (8 + length v))) 0 ++ []
-        unfolding pad
-        zeros-are = rw e (sym (append-nil {A = ℕ} (replicate (frameLen (8 + length v) - (32 + (8 + length v))) 0)))
-
-        pub far-zeros-room : at + boxLen + 8 + length v + (r - (32 + (8 + length v))) ≤ length a₃
-        far-zeros-room = room-n a 0 far-whole a₃ (at + boxLen + 8 + length v) _ (replicate (r - (32 + (8 + length v))) 0) [] f3 zeros-are (r - (32 + (8 + length v))) (length-replicate {A = ℕ} (r - (32 + (8 + length v))) 0)
-
-        pub far-end : (a₄ : List ℕ) → a₄ ≡ put a₃ (at + boxLen + 8 + length v) (replicate (r - (32 + (8 + length v))) 0) → a₄ ≡ far-whole
-        far-end a₄ q =
-            finished a 0 far-whole a₄ (at + boxLen + 8 + length v + (r - (32 + (8 + length v)))) []
-            (wrote-n a 0 far-whole a₃ (at + boxLen + 8 + length v) _ (replicate (r - (32 + (8 + length v))) 0) [] f3 zeros-are (r - (32 + (8 + length v))) (length-replicate {A = ℕ} (r - (32 + (8 + length v))) 0) a₄ q) refl
+  pub far-stored : (a′ : List ℕ) → a′ ≡ put a at (remoteFrame m (part v 0 (length v))) → a′ ≡ put a at (farOf m v)
+  far-stored a′ q = q ∙ ap (put a at) (sym far-is)
 
 -- ---- a delta's box header and lengths
 

@@ -2,13 +2,13 @@
 -- Assumes nothing.
 use mathlib.Core.Path.{_≡_, refl, sym, ap, _∙_}
 use mathlib.Core.List.{List}
-use mathlib.Core.Bool.{Bool, true, false, _&&_, not}
-use Prim.Native.Nat.{ℕ, _+_, _%_, _≤_, _<_}
+use mathlib.Core.Bool.{true, false}
+use Prim.Native.Nat.{ℕ, _+_, _≤_, _<_}
 use native.Mathlib.Omega.{arith}
 use native.Mathlib.Decide.{decLe}
 use native.Mathlib.Nat.{lt-of-not-le}
-use borrow.Author.Tests.{le-leb, lt-leb, leb-true, eqb-true}
-use lib.Dec.{leb, eqb}
+use borrow.Author.Tests.{le-leb, lt-leb, leb-true}
+use lib.Dec.{leb}
 use lib.ListN.{length}
 use Rattle.spans.specs.Span.{put}
 use Rattle.spans.proofs.Put.{put-chain, length-put}
@@ -23,30 +23,13 @@ use Rattle.frames.proofs.Frames.{and-l, and-r}
 use Rattle.frames.proofs.Clerks.{take-room, take-none}
 use Rattle.image.specs.declared.Call.{Call}
 use Rattle.image.specs.Sizes.{farLen}
-use Rattle.delta.specs.declared.Built.{Built}
+use Rattle.image.specs.declared.Built.{Built}
 use Rattle.delta.specs.Deltas.{farOf, leafFrame, indexFrame, leafDelta, leafLen, indexLen}
-use Rattle.delta.specs.Built.{limitOk, arenaOk, lengthsOk, judged, leafBuilt, indexBuilt, addressOr}
+use Rattle.image.specs.Call.{limitOk, nextOk}
+use Rattle.delta.specs.Built.{lengthsOk, judged, leafBuilt, indexBuilt, addressOr}
 use Rattle.delta.proofs.Lengths.{length-far, length-leaf-frame, length-index-frame}
 
 -- ---- tests that passed
-
-pub not-true : (b : Bool) → not b ≡ true → b ≡ false
-not-true false e = refl
-not-true true e = absurd (let z : _≡_ {A = ℕ} 0 1 = cc in omega arith)
-
-pub not-false : (b : Bool) → not b ≡ false → b ≡ true
-not-false true e = refl
-not-false false e = absurd (let z : _≡_ {A = ℕ} 0 1 = cc in omega arith)
-
-pub limit-true : (l : ℕ) → limitOk l ≡ true → (1 ≤ l) × (l ≤ 65536)
-unfolding limitOk
-limit-true l e = (leb-true 1 l (and-l (leb 1 l) (leb l 65536) e), leb-true l 65536 (and-r (leb 1 l) (leb l 65536) e))
-
-pub arena-true : (next len : ℕ) → arenaOk next len ≡ true → (8 ≤ next) × (next % 8 ≡ 0) × (next ≤ len)
-unfolding arenaOk
-arena-true next len e =
-    let f = and-l (leb 8 next && eqb (next % 8) 0) (leb next len) e in
-    (leb-true 8 next (and-l (leb 8 next) (eqb (next % 8) 0) f), eqb-true (next % 8) 0 (and-r (leb 8 next) (eqb (next % 8) 0) f), leb-true next len (and-r (leb 8 next && eqb (next % 8) 0) (leb next len) e))
 
 pub lengths-true : (k v : ℕ) → lengthsOk k v ≡ true → (k ≤ 4096) × (v ≤ 65536)
 unfolding lengthsOk
@@ -100,11 +83,11 @@ address-zero next len far n at h e z =
 -- ---- the answer, number by number
 
 module _ (next len key value far n : ℕ) where
-  pub judged-2 : arenaOk next len ≡ false → judged next len key value far n ≡ Built.Refused Refusal.BadArena
+  pub judged-2 : nextOk len next ≡ false → judged next len key value far n ≡ Built.Refused Refusal.BadArena
   unfolding judged
   judged-2 e = rw e refl
 
-  module _ (e₂ : arenaOk next len ≡ true) where
+  module _ (e₂ : nextOk len next ≡ true) where
     pub judged-3 : lengthsOk key value ≡ false → judged next len key value far n ≡ Built.Refused Refusal.BadList
     unfolding judged
     judged-3 e = rw (e₂, e) refl

@@ -1,24 +1,17 @@
 -- What a delta's call answers: document 01's numbers of refusal, the lowest first, each on the whole input; and the arena afterwards.
 -- Assumes nothing.
-use Prim.Native.Nat.{ℕ, _+_, _%_}
+use Prim.Native.Nat.{ℕ, _+_}
 use mathlib.Core.List.{List}
 use mathlib.Core.Bool.{Bool, _&&_, cond}
-use lib.Dec.{leb, eqb}
+use lib.Dec.{leb}
 use Rattle.spans.specs.Span.{put}
 use Rattle.frames.specs.declared.Refusal.{Refusal}
 use Rattle.frames.specs.Layout.{addr}
 use Rattle.image.specs.declared.Call.{Call}
 use Rattle.image.specs.Sizes.{farLen}
-use Rattle.delta.specs.declared.Built.{Built}
+use Rattle.image.specs.declared.Built.{Built}
+use Rattle.image.specs.Call.{limitOk, nextOk}
 use Rattle.delta.specs.Deltas.{leafLen, indexLen}
-
--- 1 "inline limit not 1..65,536"
-unfoldable pub limitOk : ℕ → Bool
-limitOk limit = leb 1 limit && leb limit 65536
-
--- 2 "next free address below 8, not a multiple of 8, or above the arena's length"
-unfoldable pub arenaOk : ℕ → ℕ → Bool
-arenaOk next len = leb 8 next && eqb (next % 8) 0 && leb next len
 
 -- 3 "A delta's key and value over their limits are 3": "key over 4,096, value over 65,536"
 unfoldable pub lengthsOk : ℕ → ℕ → Bool
@@ -30,15 +23,15 @@ roomOr next len far n = cond (leb (next + far + n) len) (Built.At (addr (next + 
 
 -- the rest of the table behind number 1
 unfoldable pub judged : ℕ → ℕ → ℕ → ℕ → ℕ → ℕ → Built
-unfolding arenaOk lengthsOk
+unfolding lengthsOk
 judged next len key value far n =
-    cond (arenaOk next len)
+    cond (nextOk len next)
     (cond (lengthsOk key value) (roomOr next len far n) (Built.Refused Refusal.BadList))
     (Built.Refused Refusal.BadArena)
 
 -- a leaf delta: 1, 2, 3, 9
 unfoldable pub leafBuilt : Call → ℕ → ℕ → ℕ → ℕ → Built
-unfolding limitOk judged
+unfolding judged
 leafBuilt m len next key value =
     cond (limitOk (m .limit))
     (judged next len key value (farLen (m .limit) value 0) (leafLen (m .limit) key value))

@@ -17,14 +17,6 @@ use Rattle.image.specs.declared.Call.{Call}
 use Rattle.image.specs.Sizes.{pad}
 use Rattle.image.specs.Image.{boxOf, remoteFrame}
 
--- "lsn is the larger of the given and the checkpoint's"
-abbrev pub larger : ℕ → ℕ → ℕ
-larger a b = cond (ltb a b) b a
-
--- what the frames' headers carry; a delta has no budget
-abbrev pub callOf : ℕ → ℕ → ℕ → ℕ → ℕ → Call
-callOf limit group txid lsn ckpt = record { limit = limit; budget = 0; group = group; txid = txid; lsn = larger lsn ckpt }
-
 -- "Inline exactly when size is below the inline limit"; a delta's value has no history
 unfoldable pub valueOf : ℕ → ℕ → List ℕ → List ℕ
 valueOf limit far v = cond (ltb (length v) limit) (inlineBytes noHist v) (remoteBytes noHist (length v) far)

@@ -1,16 +1,11 @@
--- Document 01's number for each answer of the public calls: 0 where the call answers.
+-- Document 01's number for each answer of the readers: 0 where the call answers. A building call's is image's `builtNumber`.
 -- Assumes nothing.
 use Prim.Native.Nat.{ℕ}
 use Rattle.frames.specs.Refusals.{numberOf}
-use Rattle.delta.specs.declared.Built.{Built}
 use Rattle.delta.specs.declared.LeafKey.{LeafKey}
 use Rattle.delta.specs.declared.IndexKey.{IndexKey}
 use Rattle.delta.specs.declared.Value.{Value}
 use Rattle.delta.specs.declared.Child.{Child}
-
-abbrev pub builtNumber : Built → ℕ
-builtNumber (Built.At a n) = 0
-builtNumber (Built.Refused r) = numberOf r
 
 abbrev pub leafKeyNumber : LeafKey → ℕ
 leafKeyNumber (LeafKey.Is v p) = 0

@@ -7,6 +7,7 @@ use frames::DeltaRead;
 use frames::PageId;
 use frames::Refusal;
 use frames::RemoteRead;
+use image::Built;
 use image::Call;
 use order::Ver;
 use pages::Place;
@@ -17,44 +18,18 @@ ghost use mathlib.Core.Path.{_≡_};
 ghost use Prim.Native.Nat.{_+_, _≤_};
 ghost use lib.ListN.{length};
 ghost use Rattle.spans.specs.Span.{put};
-ghost use Rattle.image.specs.Image.{remoteFrame};
-ghost use Rattle.delta.specs.Deltas.{larger, callOf, valueOf, farOf, deltaHead, leafFrame, indexFrame, leafDelta, leafKeyLen, indexKeyLen, leafLen, indexLen};
-ghost use Rattle.delta.specs.Built.{limitOk, arenaOk, lengthsOk, addressOr, leafBuilt, indexBuilt, afterwards};
+ghost use Rattle.image.specs.Call.{callOf};
+ghost use Rattle.delta.specs.Deltas.{valueOf, farOf, deltaHead, leafFrame, indexFrame, leafDelta, leafKeyLen, indexKeyLen, leafLen, indexLen};
+ghost use Rattle.delta.specs.Built.{lengthsOk, addressOr, leafBuilt, indexBuilt, afterwards};
 ghost use Rattle.delta.specs.Read.{deltaIs, keyIn, leafKeyAt, indexKeyAt, valueTo, valIn, valueAt, childAt};
 
-// Where a delta stands, and the next free address; or why it is refused.
-pub enum Built {
-    At(Addr, usize),
-    Refused(Refusal),
-}
-
 // ---- judging
-
-// "inline limit not 1..65,536" is 1.
-fn limit_ok(limit: usize) -> bool
-    ensures { λ r. ⌜ r ≡ limitOk limit ⌝ }
-{
-    (1 <= limit) & (limit <= 65536)
-}
-
-// "next free address below 8, not a multiple of 8, or above the arena's length" is 2.
-fn arena_ok(next: usize, len: usize) -> bool
-    ensures { λ r. ⌜ r ≡ arenaOk next len ⌝ }
-{
-    (8 <= next) & (next % 8 == 0) & (next <= len)
-}
 
 // "A delta's key and value over their limits are 3".
 fn lengths_ok(key: usize, value: usize) -> bool
     ensures { λ r. ⌜ r ≡ lengthsOk key value ⌝ }
 {
     (key <= 4096) & (value <= 65536)
-}
-
-fn larger(a: u64, b: u64) -> u64
-    ensures { λ r. ⌜ r ≡ larger a b ⌝ }
-{
-    if a < b { b } else { a }
 }
 
 // A leaf key's encoded size.
@@ -109,44 +84,17 @@ fn placed(next: usize, limit: usize, far: usize, len: usize) -> usize
 
 // ---- writing
 
-// A remote frame that holds v.
-fn put_remote(a: &mut [u8], at: usize, m: Call, v: &[u8])
-    requires { ⌜ length (now v) ≤ 65536 ⌝ }
-    requires { ⌜ at + length (remoteFrame m (now v)) ≤ length (now a) ⌝ }
-    ensures { λ _. ⌜ now (a .exit) ≡ put (now (a .entry)) at (remoteFrame m (now (v .entry))) ⌝ }
-{
-    let n = v.len();
-    let payload = (8 + n) as u32;
-    let h = BoxHeader {
-        payload_size: payload,
-        kind: 3,
-        node_type: 1,
-        flag: 0,
-        group: m.group,
-        link: Addr(0),
-        txid: 0,
-        lsn: m.lsn,
-    };
-    frames::put_box(a, at, h);
-    let s = at + BoxHeader::HDR_LEN;
-    numbers::put_u64(a, s, n as u64);
-    let p = s + 8;
-    spans::copy(a, p, v);
-    let z = p + n;
-    let k = frames::frame_len(payload) - (32 + (8 + n));
-    spans::zeros(a, z, k);
-}
-
-// The same for a value at or above the limit; nothing below it.
+// The remote frame of a value at or above the limit; nothing below it.
 fn put_far(a: &mut [u8], at: usize, m: Call, v: &[u8])
     requires { ⌜ length (now v) ≤ 65536 ⌝ }
     requires { ⌜ at + length (farOf m (now v)) ≤ length (now a) ⌝ }
     ensures { λ _. ⌜ now (a .exit) ≡ put (now (a .entry)) at (farOf m (now (v .entry))) ⌝ }
 {
-    if v.len() < m.limit {
+    let n = v.len();
+    if n < m.limit {
         return;
     }
-    put_remote(a, at, m, v);
+    history::remote_frame(a, 0, v, false, 0, n, at, m);
 }
 
 // A value: its bytes, or the address of its remote frame.
@@ -239,13 +187,13 @@ pub fn from_key_val(
     key: &[u8],
     value: &[u8],
 ) -> Built
-    ensures { λ r. ⌜ r ≡ leafBuilt (callOf limit group (ver .txid) lsn ckpt) (length (now (a .entry))) next (length (now (key .entry))) (length (now (value .entry))) ⌝ }
-    ensures { λ r. ⌜ now (a .exit) ≡ afterwards r (now (a .entry)) next (leafDelta (callOf limit group (ver .txid) lsn ckpt) next ver (now (key .entry)) (now (value .entry))) ⌝ }
+    ensures { λ r. ⌜ r ≡ leafBuilt (callOf limit 0 group (ver .txid) lsn ckpt) (length (now (a .entry))) next (length (now (key .entry))) (length (now (value .entry))) ⌝ }
+    ensures { λ r. ⌜ now (a .exit) ≡ afterwards r (now (a .entry)) next (leafDelta (callOf limit 0 group (ver .txid) lsn ckpt) next ver (now (key .entry)) (now (value .entry))) ⌝ }
 {
-    if !limit_ok(limit) {
+    if !image::limit_ok(limit) {
         return Built::Refused(Refusal::BadLimit);
     }
-    if !arena_ok(next, a.len()) {
+    if !image::next_ok(a.len(), next) {
         return Built::Refused(Refusal::BadArena);
     }
     if !lengths_ok(key.len(), value.len()) {
@@ -257,13 +205,7 @@ pub fn from_key_val(
     if at == 0 {
         return Built::Refused(Refusal::NoRoom);
     }
-    let m = Call {
-        limit: limit,
-        budget: 0,
-        group: group,
-        txid: ver.txid,
-        lsn: larger(lsn, ckpt),
-    };
+    let m = image::call_of(limit, 0, group, ver.txid, lsn, ckpt);
     put_far(a, next, m, value);
     put_leaf(a, at, m, next, ver, key, value);
     Built::At(Addr(at as u64), at + len)
@@ -281,9 +223,9 @@ pub fn from_key_index(
     page: PageId,
 ) -> Built
     ensures { λ r. ⌜ r ≡ indexBuilt (length (now (a .entry))) next (length (now (key .entry))) ⌝ }
-    ensures { λ r. ⌜ now (a .exit) ≡ afterwards r (now (a .entry)) next (indexFrame (callOf 0 group txid lsn ckpt) (now (key .entry)) page) ⌝ }
+    ensures { λ r. ⌜ now (a .exit) ≡ afterwards r (now (a .entry)) next (indexFrame (callOf 0 0 group txid lsn ckpt) (now (key .entry)) page) ⌝ }
 {
-    if !arena_ok(next, a.len()) {
+    if !image::next_ok(a.len(), next) {
         return Built::Refused(Refusal::BadArena);
     }
     if !lengths_ok(key.len(), 0) {
@@ -294,13 +236,7 @@ pub fn from_key_index(
     if at == 0 {
         return Built::Refused(Refusal::NoRoom);
     }
-    let m = Call {
-        limit: 0,
-        budget: 0,
-        group: group,
-        txid: txid,
-        lsn: larger(lsn, ckpt),
-    };
+    let m = image::call_of(0, 0, group, txid, lsn, ckpt);
     put_index(a, at, m, key, page);
     Built::At(Addr(at as u64), at + len)
 }

@@ -21,13 +21,14 @@ use Rattle.sst.specs.Halve.{halve}
 use Rattle.sst.specs.Search.{newerAt, keyCmp, rightKind, fitsPrefix, readyAt, halved, outcomeAt}
 use Rattle.image.specs.Sizes.{pad, farLen}
 use Rattle.image.specs.Image.{remoteFrame}
-use Rattle.delta.specs.declared.Built.{Built}
+use Rattle.image.specs.declared.Built.{Built}
 use Rattle.delta.specs.declared.LeafKey.{LeafKey}
 use Rattle.delta.specs.declared.IndexKey.{IndexKey}
 use Rattle.delta.specs.declared.Value.{Value}
 use Rattle.delta.specs.declared.Child.{Child}
-use Rattle.delta.specs.Deltas.{callOf, valueOf, farOf, deltaHead, deltaFrame, leafFrame, indexFrame, leafDelta, leafKeyLen, indexKeyLen, leafLen, indexLen}
-use Rattle.delta.specs.Built.{limitOk, arenaOk, lengthsOk, judged, leafBuilt, indexBuilt}
+use Rattle.image.specs.Call.{larger, callOf}
+use Rattle.delta.specs.Deltas.{valueOf, farOf, deltaHead, deltaFrame, leafFrame, indexFrame, leafDelta, leafKeyLen, indexKeyLen, leafLen, indexLen}
+use Rattle.delta.specs.Built.{lengthsOk, judged, leafBuilt, indexBuilt}
 use Rattle.delta.specs.Read.{deltaIs, leafKeyAt, indexKeyAt, valueAt, childAt}
 use Rattle.delta.specs.Read as D
 use Rattle.overlay.specs.declared.Laid.{Laid}
@@ -38,13 +39,13 @@ builtRow (Built.At a n) image = 0 ∷ a .0 ∷ n ∷ image
 builtRow (Built.Refused r) image = numberOf r ∷ []
 
 unfoldable pub leafRow : ℕ → ℕ → ℕ → ℕ → ℕ → ℕ → ℕ → ℕ → List ℕ → List ℕ → List ℕ
-unfolding le enc uleb boxBytes verBytes leafFront leafKey flagOf histBytes frontBytes inlineBytes remoteBytes sizeOf pad farLen remoteFrame valueOf farOf deltaHead deltaFrame leafFrame leafDelta leafKeyLen leafLen limitOk arenaOk lengthsOk judged leafBuilt
+unfolding larger le enc uleb boxBytes verBytes leafFront leafKey flagOf histBytes frontBytes inlineBytes remoteBytes sizeOf pad farLen remoteFrame valueOf farOf deltaHead deltaFrame leafFrame leafDelta leafKeyLen leafLen lengthsOk judged leafBuilt
 leafRow len next limit group lsn ckpt txid cmd key val =
-    builtRow (leafBuilt (callOf limit group txid lsn ckpt) len next (length key) (length val)) (leafDelta (callOf limit group txid lsn ckpt) next (verOf txid cmd) key val)
+    builtRow (leafBuilt (callOf limit 0 group txid lsn ckpt) len next (length key) (length val)) (leafDelta (callOf limit 0 group txid lsn ckpt) next (verOf txid cmd) key val)
 
 unfoldable pub indexRow : ℕ → ℕ → ℕ → ℕ → ℕ → ℕ → List ℕ → ℕ → List ℕ
-unfolding le enc uleb boxBytes indexKey pad deltaHead deltaFrame indexFrame indexKeyLen indexLen arenaOk lengthsOk judged indexBuilt
-indexRow len next txid group lsn ckpt key page = builtRow (indexBuilt len next (length key)) (indexFrame (callOf 0 group txid lsn ckpt) key (pageId page))
+unfolding larger le enc uleb boxBytes indexKey pad deltaHead deltaFrame indexFrame indexKeyLen indexLen lengthsOk judged indexBuilt
+indexRow len next txid group lsn ckpt key page = builtRow (indexBuilt len next (length key)) (indexFrame (callOf 0 0 group txid lsn ckpt) key (pageId page))
 
 abbrev keyRow : List ℕ → LeafKey → List ℕ
 keyRow s (LeafKey.Is v p) = 0 ∷ v .txid ∷ v .cmd ∷ partIn s p

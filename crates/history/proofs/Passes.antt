@@ -18,6 +18,7 @@ use Rattle.values.specs.Vals.{sizeOf}
 use Rattle.paging.specs.Cuts.{total}
 use Rattle.sources.specs.declared.Cursor.{Cursor}
 use Rattle.sources.specs.declared.Item.{Item}
+use Rattle.sources.specs.Keys.{srcOf}
 use Rattle.sources.specs.Source.{Entry, Placed, entryOf, entries, only, Chosen}
 use Rattle.image.specs.declared.Call.{Call}
 use Rattle.image.specs.Sizes.{farLen, valLen, cost, costsOf, fars}
@@ -25,7 +26,7 @@ use Rattle.image.specs.Image.{oldSlots, oldRec, oldRecs, remoteFrame, farFrame,
 use Rattle.image.proofs.Lengths.{length-old, length-far, length-remote-frame}
 use Rattle.history.proofs.Writes.{wrote-le, room-le}
 
-take-cons : (k : ℕ) (x : Entry) (xs ys : List Entry) → ys ≡ x ∷ xs → 0 < k → take k ys ≡ x ∷ take (k - 1) xs
+pub take-cons : (k : ℕ) (x : Entry) (xs ys : List Entry) → ys ≡ x ∷ xs → 0 < k → take k ys ≡ x ∷ take (k - 1) xs
 take-cons zero x xs ys e p = absurd (omega arith)
 take-cons (suc k) x xs ys e p = rw (e, sub-one)
 
@@ -145,8 +146,14 @@ module _ (l w : List ℕ) (i : Item) (m : Call) (p : Placed l w i) where
     pub kept-ret : m .limit ≤ i .vlen → (i .kept .0 ≡ 0 → ⊥) → (at ≡ at + length (farFrame m (entryOf l w i))) × (a ≡ put a at (farFrame m (entryOf l w i)))
     kept-ret h k = nothing (kept-none h k)
 
-    pub far-asked : m .limit ≤ i .vlen → i .kept .0 ≡ 0 → at + length (farFrame m (entryOf l w i)) ≤ length a → at + length (remoteFrame m (entryOf l w i .val)) ≤ length a
+    far-asked : m .limit ≤ i .vlen → i .kept .0 ≡ 0 → at + length (farFrame m (entryOf l w i)) ≤ length a → at + length (remoteFrame m (entryOf l w i .val)) ≤ length a
     far-asked h k r = rw (far-one h k) at r
+
+    -- what the frame's writer asks of the value's place
+    pub far-asks : m .limit ≤ i .vlen → i .kept .0 ≡ 0 → at + length (farFrame m (entryOf l w i)) ≤ length a
+        → (i .vlen ≤ 65536) × ((i .vat + i .vlen ≤ length (srcOf l w (i .low))) × (at + length (remoteFrame m (part (srcOf l w (i .low)) (i .vat) (i .vlen))) ≤ length a))
+    unfolding entryOf
+    far-asks h k r = (p .vsmall, (p .val, far-asked h k r))
 
     far-long : length (remoteFrame m (entryOf l w i .val)) ≡ frameLen (8 + i .vlen)
     far-long = length-remote-frame m (entryOf l w i .val) ∙ ap (λ (n : ℕ). frameLen (8 + n)) (val-long l w i p)
@@ -154,6 +161,7 @@ module _ (l w : List ℕ) (i : Item) (m : Call) (p : Placed l w i) where
     pub far-fit : m .limit ≤ i .vlen → i .kept .0 ≡ 0 → at + length (farFrame m (entryOf l w i)) ≤ length a → at + frameLen (8 + i .vlen) ≤ length a
     far-fit h k r = omega (arith, far-asked h k r, far-long)
 
-    pub far-ret : m .limit ≤ i .vlen → i .kept .0 ≡ 0 → (r : ℕ) (a′ : List ℕ) → r ≡ frameLen (8 + i .vlen) → a′ ≡ put a at (remoteFrame m (entryOf l w i .val))
+    pub far-ret : m .limit ≤ i .vlen → i .kept .0 ≡ 0 → (r : ℕ) (a′ : List ℕ) → r ≡ frameLen (8 + i .vlen) → a′ ≡ put a at (remoteFrame m (part (srcOf l w (i .low)) (i .vat) (i .vlen)))
         → (at + r ≡ at + length (farFrame m (entryOf l w i))) × (a′ ≡ put a at (farFrame m (entryOf l w i)))
+    unfolding entryOf
     far-ret h k r a′ e q = rw (far-one h k) (ap (λ (n : ℕ). at + n) (e ∙ sym far-long), q)

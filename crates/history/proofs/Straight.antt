@@ -125,56 +125,59 @@ module _ (l a : List ℕ) (low at : ℕ) (i : Item) (limit far : ℕ) (over : lo
 
 -- ---- a remote frame
 
-module _ (l a : List ℕ) (low at : ℕ) (i : Item) (m : Call) (over : low ≤ at) (p : Placed l (take low a) i)
-    (room : at + length (remoteFrame m (entryOf l (take low a) i .val)) ≤ length a) where
+module _ (l a : List ℕ) (low at : ℕ) (inside : Bool) (from n : ℕ) (m : Call) (over : low ≤ at) (p : from + n ≤ length (srcOf l (take low a) inside))
+    (room : at + length (remoteFrame m (part (srcOf l (take low a) inside) from n)) ≤ length a) where
+  abbrev value : List ℕ
+  value = part (srcOf l (take low a) inside) from n
+
   abbrev box : List ℕ
-  box = boxBytes (boxOf m (8 + i .vlen) 3 1 0 0 0)
+  box = boxBytes (boxOf m (8 + n) 3 1 0 0 0)
 
   abbrev far-whole : List ℕ
-  far-whole = put a at (remoteFrame m (entryOf l (take low a) i .val))
+  far-whole = put a at (remoteFrame m value)
 
-  far-bytes : remoteFrame m (entryOf l (take low a) i .val) ≡ box ++ (le 8 (i .vlen) ++ (valueOf l a low i ++ pad (8 + i .vlen)))
-  unfolding remoteFrame entryOf
-  far-bytes = rw (length-part (srcOf l (take low a) (i .low)) (i .vat) (i .vlen) (p .val)) refl
+  far-bytes : remoteFrame m value ≡ box ++ (le 8 n ++ (value ++ pad (8 + n)))
+  unfolding remoteFrame
+  far-bytes = rw (length-part (srcOf l (take low a) inside) from n p) refl
 
-  f0 : Writing a low far-whole a at (remoteFrame m (entryOf l (take low a) i .val))
+  f0 : Writing a low far-whole a at (remoteFrame m value)
   f0 = begin a low at _ over room
 
   pub far-room : at + boxLen ≤ length a
-  far-room = room-n a low far-whole a at _ box _ f0 far-bytes boxLen (length-box (boxOf m (8 + i .vlen) 3 1 0 0 0))
+  far-room = room-n a low far-whole a at _ box _ f0 far-bytes boxLen (length-box (boxOf m (8 + n) 3 1 0 0 0))
 
   module _ (a₁ : List ℕ) (e₁ : a₁ ≡ put a at box) where
-    f1 : Writing a low far-whole a₁ (at + boxLen) (le 8 (i .vlen) ++ (valueOf l a low i ++ pad (8 + i .vlen)))
-    f1 = wrote-n a low far-whole a at _ box _ f0 far-bytes boxLen a₁ (at + boxLen) (length-box (boxOf m (8 + i .vlen) 3 1 0 0 0)) e₁ refl
+    f1 : Writing a low far-whole a₁ (at + boxLen) (le 8 n ++ (value ++ pad (8 + n)))
+    f1 = wrote-n a low far-whole a at _ box _ f0 far-bytes boxLen a₁ (at + boxLen) (length-box (boxOf m (8 + n) 3 1 0 0 0)) e₁ refl
 
     pub far-room1 : at + boxLen + 8 ≤ length a₁
-    far-room1 = room-le a low far-whole a₁ (at + boxLen) _ 8 (i .vlen) _ f1 refl
+    far-room1 = room-le a low far-whole a₁ (at + boxLen) _ 8 n _ f1 refl
 
-    module _ (a₂ : List ℕ) (e₂ : a₂ ≡ put a₁ (at + boxLen) (le 8 (i .vlen))) where
-      f2 : Writing a low far-whole a₂ (at + boxLen + 8) (valueOf l a low i ++ pad (8 + i .vlen))
-      f2 = wrote-le a low far-whole a₁ (at + boxLen) _ 8 (i .vlen) _ f1 refl a₂ (at + boxLen + 8) e₂ refl
+    module _ (a₂ : List ℕ) (e₂ : a₂ ≡ put a₁ (at + boxLen) (le 8 n)) where
+      f2 : Writing a low far-whole a₂ (at + boxLen + 8) (value ++ pad (8 + n))
+      f2 = wrote-le a low far-whole a₁ (at + boxLen) _ 8 n _ f1 refl a₂ (at + boxLen + 8) e₂ refl
 
-      pub far-asks : (low ≤ at + boxLen + 8) × ((at + boxLen + 8 + i .vlen ≤ length a₂) × (i .vat + i .vlen ≤ length (srcOf l (take low a₂) (i .low))))
-      far-asks = part-asks a low far-whole a₂ (at + boxLen + 8) _ _ l (i .low) (i .vat) (i .vlen) f2 refl (p .val)
+      pub far-asks : (low ≤ at + boxLen + 8) × ((at + boxLen + 8 + n ≤ length a₂) × (from + n ≤ length (srcOf l (take low a₂) inside)))
+      far-asks = part-asks a low far-whole a₂ (at + boxLen + 8) _ _ l inside from n f2 refl p
 
-      pub far-fits : at + boxLen + 8 + i .vlen ≤ length a
+      pub far-fits : at + boxLen + 8 + n ≤ length a
       far-fits = omega (arith, far-asks .1 .0, f2 .long)
 
-      module _ (a₃ : List ℕ) (e₃ : a₃ ≡ put a₂ (at + boxLen + 8) (part (srcOf l (take low a₂) (i .low)) (i .vat) (i .vlen))) where
-        f3 : Writing a low far-whole a₃ (at + boxLen + 8 + i .vlen) (pad (8 + i .vlen))
-        f3 = wrote-part a low far-whole a₂ (at + boxLen + 8) _ _ l (i .low) (i .vat) (i .vlen) f2 refl (p .val) a₃ (at + boxLen + 8 + i .vlen) e₃ refl
+      module _ (a₃ : List ℕ) (e₃ : a₃ ≡ put a₂ (at + boxLen + 8) (part (srcOf l (take low a₂) inside) from n)) where
+        f3 : Writing a low far-whole a₃ (at + boxLen + 8 + n) (pad (8 + n))
+        f3 = wrote-part a low far-whole a₂ (at + boxLen + 8) _ _ l inside from n f2 refl p a₃ (at + boxLen + 8 + n) e₃ refl
 
-        zeros-are : (r : ℕ) → r ≡ frameLen (8 + i .vlen) → pad (8 + i .vlen) ≡ replicate (r - (32 + (8 + i .vlen))) 0 ++ []
+        zeros-are : (r : ℕ) → r ≡ frameLen (8 + n) → pad (8 + n) ≡ replicate (r - (32 + (8 + n))) 0 ++ []
         unfolding pad
-        zeros-are r e = rw e (sym (append-nil (replicate (frameLen (8 + i .vlen) - (32 + (8 + i .vlen))) 0)))
+        zeros-are r e = rw e (sym (append-nil (replicate (frameLen (8 + n) - (32 + (8 + n))) 0)))
 
-        pub far-zeros : (r : ℕ) → r ≡ frameLen (8 + i .vlen) → at + boxLen + 8 + i .vlen + (r - (32 + (8 + i .vlen))) ≤ length a₃
-        far-zeros r e = room-n a low far-whole a₃ (at + boxLen + 8 + i .vlen) _ (replicate (r - (32 + (8 + i .vlen))) 0) [] f3 (zeros-are r e) _ (length-replicate _ 0)
+        pub far-zeros : (r : ℕ) → r ≡ frameLen (8 + n) → at + boxLen + 8 + n + (r - (32 + (8 + n))) ≤ length a₃
+        far-zeros r e = room-n a low far-whole a₃ (at + boxLen + 8 + n) _ (replicate (r - (32 + (8 + n))) 0) [] f3 (zeros-are r e) _ (length-replicate _ 0)
 
-        pub far-end : (r : ℕ) → r ≡ frameLen (8 + i .vlen) → (a₄ : List ℕ) → a₄ ≡ put a₃ (at + boxLen + 8 + i .vlen) (replicate (r - (32 + (8 + i .vlen))) 0) → a₄ ≡ far-whole
+        pub far-end : (r : ℕ) → r ≡ frameLen (8 + n) → (a₄ : List ℕ) → a₄ ≡ put a₃ (at + boxLen + 8 + n) (replicate (r - (32 + (8 + n))) 0) → a₄ ≡ far-whole
         far-end r e a₄ q =
-            finished a low far-whole a₄ (at + boxLen + 8 + i .vlen + (r - (32 + (8 + i .vlen)))) []
-            (wrote-n a low far-whole a₃ (at + boxLen + 8 + i .vlen) _ (replicate (r - (32 + (8 + i .vlen))) 0) [] f3 (zeros-are r e) _ a₄ _ (length-replicate _ 0) q refl) refl
+            finished a low far-whole a₄ (at + boxLen + 8 + n + (r - (32 + (8 + n)))) []
+            (wrote-n a low far-whole a₃ (at + boxLen + 8 + n) _ (replicate (r - (32 + (8 + n))) 0) [] f3 (zeros-are r e) _ a₄ _ (length-replicate _ 0) q refl) refl
 
 -- ---- a history page's headers
 

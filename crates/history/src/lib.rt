@@ -210,14 +210,23 @@ fn old_recs(
     }
 }
 
-// A remote frame.
-fn remote_frame(a: &mut [u8], low: usize, list: &[u8], i: Item, at: usize, m: Call)
+// The remote frame of a value of n bytes, which stands in the lent slice, or in the arena below low.
+pub fn remote_frame(
+    a: &mut [u8],
+    low: usize,
+    list: &[u8],
+    inside: bool,
+    from: usize,
+    n: usize,
+    at: usize,
+    m: Call,
+)
     requires { ⌜ low ≤ at ⌝ }
-    requires { ⌜ Placed (now list) (take low (now a)) i ⌝ }
-    requires { ⌜ at + length (remoteFrame m (entryOf (now list) (take low (now a)) i .val)) ≤ length (now a) ⌝ }
-    ensures { λ _. ⌜ now (a .exit) ≡ put (now (a .entry)) at (remoteFrame m (entryOf (now (list .entry)) (take low (now (a .entry))) i .val)) ⌝ }
+    requires { ⌜ n ≤ 65536 ⌝ }
+    requires { ⌜ from + n ≤ length (srcOf (now list) (take low (now a)) inside) ⌝ }
+    requires { ⌜ at + length (remoteFrame m (part (srcOf (now list) (take low (now a)) inside) from n)) ≤ length (now a) ⌝ }
+    ensures { λ _. ⌜ now (a .exit) ≡ put (now (a .entry)) at (remoteFrame m (part (srcOf (now (list .entry)) (take low (now (a .entry))) inside) from n)) ⌝ }
 {
-    let n = i.vlen;
     let payload = (8 + n) as u32;
     let h = BoxHeader {
         payload_size: payload,
@@ -233,7 +242,7 @@ fn remote_frame(a: &mut [u8], low: usize, list: &[u8], i: Item, at: usize, m: Ca
     let s = at + BoxHeader::HDR_LEN;
     numbers::put_u64(a, s, n as u64);
     let v = s + 8;
-    copy_part(a, low, list, i.low, i.vat, n, v);
+    copy_part(a, low, list, inside, from, n, v);
     let z = v + n;
     let k = frames::frame_len(payload) - (32 + (8 + n));
     spans::zeros(a, z, k);
@@ -255,7 +264,7 @@ fn far_frame(a: &mut [u8], low: usize, list: &[u8], i: Item, at: usize, m: Call)
     if kept.0 != 0 {
         return at;
     }
-    remote_frame(a, low, list, i, at, m);
+    remote_frame(a, low, list, i.low, i.vat, n, at, m);
     at + frames::frame_len((8 + n) as u32)
 }
 

@@ -18,7 +18,7 @@ use Rattle.values.specs.Keys.{verBytes}
 use Rattle.values.specs.Vals.{noHist, sizeOf, frontSize, inlineBytes, remoteBytes}
 use Rattle.values.proofs.Laws.{length-ver, length-inline, length-remote}
 use Rattle.paging.specs.Cuts.{total}
-use Rattle.sources.specs.Source.{Entry}
+use Rattle.sources.specs.Source.{Entry, wanted, only}
 use Rattle.image.specs.declared.Call.{Call}
 use Rattle.image.specs.Sizes.{pad, farLen, valLen, cost, costsOf, fars}
 use Rattle.image.specs.Image.{boxOf, baseOf, farAddr, valBytes, remoteFrame, farFrame, farFrames, oldRec, oldRecs, oldSlots, histHead, histSize, histPage, pageEnd}
@@ -32,6 +32,16 @@ frame-most n = omega arith
 pub length-pad : (n : ℕ) → length (pad n) ≡ frameLen n - (boxLen + n)
 unfolding pad
 length-pad n = length-replicate (frameLen n - (boxLen + n)) 0
+
+-- of a list's entries, its heads or its old versions are no more
+few-by : (t : Bool) (e : Entry) (xs : List Entry) (n : ℕ) → length xs ≤ n → length (cond t (e ∷ xs) xs) ≤ suc n
+few-by true e xs n h = omega arith
+few-by false e xs n h = omega arith
+
+pub only-few : (b : Bool) (es : List Entry) → length (only b es) ≤ length es
+unfolding only
+only-few b [] = omega arith
+only-few b (e ∷ es) = few-by (wanted b (e .old)) e (only b es) (length es) (only-few b es)
 
 -- ---- values
 

@@ -1,4 +1,5 @@
 -- The crate's laws.
+pub mod Asked
 pub mod Lengths
 pub mod Leaf
 pub mod Cases

@@ -1,4 +1,5 @@
 -- The crate's definitions.
+pub mod Call
 pub mod Prefix
 pub mod Sizes
 pub mod Image

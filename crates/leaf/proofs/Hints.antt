@@ -4,7 +4,6 @@ use mathlib.Core.Path.{_≡_, refl, sym, ap, _∙_}
 use mathlib.Core.List.{List, [], _∷_, _++_, append-assoc}
 use mathlib.Core.Bool.{Bool, true, false, cond}
 use Prim.Native.Nat.{ℕ, zero, suc, _+_, _-_, _≤_, _<_}
-use native.Mathlib.Numerals.{sub-one}
 use native.Mathlib.Nat.{add-zero}
 use native.Mathlib.Omega.{arith}
 use borrow.Author.Tests.{lt-ltb, le-ltb}
@@ -26,7 +25,7 @@ use Rattle.image.specs.Image.{farAddr, farAddrs, histSize, pageEnd, historyEnd,
 use Rattle.history.specs.declared.Run.{Run}
 use Rattle.history.specs.Runs.{Sane, runOf, these, historyEndAt}
 use Rattle.history.proofs.Ahead.{Tells, tells-of}
-use Rattle.history.proofs.Passes.{take-nil, take-none, fars-found}
+use Rattle.history.proofs.Passes.{take-nil, take-none, take-cons, fars-found}
 use Rattle.heads.proofs.Locating.{up-history}
 use Rattle.leaf.specs.declared.Page.{Page}
 use Rattle.leaf.specs.Leaf.{hintIf, pageHint, pageHints, hintsAt, Turned, Reach}
@@ -114,10 +113,6 @@ addrs-step limit far e es = go (ltb (length (e .val)) limit) (cond (eqb (e .kept
     go : (b : Bool) (n : ℕ) → les 8 (cond b (farAddrs limit far es) (farAddr far (e .kept) ∷ farAddrs limit (far + cond b 0 n) es)) ≡ cond b [] (le 8 (farAddr far (e .kept))) ++ les 8 (farAddrs limit (far + cond b 0 n) es)
     go true n = ap (λ (k : ℕ). les 8 (farAddrs limit k es)) (sym (add-zero far))
     go false n = refl
-
-take-cons : (k : ℕ) (x : Entry) (xs ys : List Entry) → ys ≡ x ∷ xs → 0 < k → take k ys ≡ x ∷ take (k - 1) xs
-take-cons zero x xs ys e p = absurd (omega arith)
-take-cons (suc k) x xs ys e p = rw (e, sub-one)
 
 nil-addrs : (limit far : ℕ) (es : List Entry) → es ≡ [] → les 8 (farAddrs limit far es) ≡ []
 unfolding les farAddrs

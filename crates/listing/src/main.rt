@@ -1,10 +1,10 @@
 // Reads a record list of at most 16,384 bytes from standard input, builds a leaf of it at limit 64, budget 256, without boundaries, in
 // an arena of 49,152 bytes from 8 on, and lists what the page says by walking it; or prints the number of the refusal.
-use build::Built;
 use frames::Addr;
 use frames::Opened;
 use frames::PageId;
 use frames::Refusal;
+use image::Built;
 use walks::Begun;
 use walks::Item;
 use walks::Step;

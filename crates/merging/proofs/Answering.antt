@@ -1,28 +1,25 @@
 -- The public call, one law a return: 1, 2, then 4 and 5, then what the builder judges.
 -- Assumes nothing.
-use Prim.Native.Nat.{ℕ, _≤_}
+use Prim.Native.Nat.{ℕ}
 use mathlib.Core.Path.{_≡_, refl, sym, ap, _∙_}
-use mathlib.Core.Bool.{Bool, true, false, cond, _&&_}
-use mathlib.Core.List.{List, [], _∷_}
+use mathlib.Core.Bool.{Bool, true, false}
+use mathlib.Core.List.{List}
 use native.Mathlib.Omega.{arith}
-use borrow.Author.Tests.{leb-true}
 use lib.ListN.{length, take}
-use lib.Dec.{leb}
 use Rattle.frames.specs.declared.Addr.{Addr}
-use Rattle.frames.specs.declared.Refusal.{Refusal}
 use Rattle.frames.specs.declared.Refusal.the-variants.{BadLimit, BadArena, BadFrame, MixedKinds}
-use Rattle.frames.proofs.Frames.{and-l, and-r}
-use Rattle.pages.specs.Meaning.{Rows, leaf, index, Page, Said, nothing, says, meaning}
+use Rattle.pages.specs.Meaning.{Page, Said, nothing, says, meaning}
+use Rattle.sources.specs.Source.{Entry}
 use Rattle.image.specs.declared.Call.{Call}
-use Rattle.history.specs.Runs.{Sane}
-use Rattle.build.specs.declared.Built.{Built}
-use Rattle.build.specs.Table.{limitOk, budgetOk, nextOk}
+use Rattle.image.specs.Image.{Bounds}
+use Rattle.image.specs.declared.Built.{Built}
+use Rattle.image.specs.Call.{nextOk, limitsOk}
 use Rattle.build.specs.Index.{indexAnswer, indexArena}
 use Rattle.build.specs.Leaf.{leafAnswer, leafArena}
 use Rattle.merging.specs.declared.Sort.{Sort}
 use Rattle.merging.specs.declared.Sorts.{Sorts}
-use Rattle.merging.specs.Merge.{limitsOk, sortBy, sortOf, sortsBy, sortsOf, Sound, boundsIn, merged}
-use Rattle.merging.specs.Answer.{answerBy, arenaBy, sortsIn, sortsAnswer, sortsArena, mergeAnswer, mergeArena}
+use Rattle.merging.specs.Merge.{sortOf, sortsBy, sortsOf, Sound, boundsIn, merged}
+use Rattle.merging.specs.Answer.{sortsIn, sortRows, answerBy, arenaBy, sortsAnswer, sortsArena, mergeAnswer, mergeArena}
 
 -- ---- 4 and 5: pages of known kinds are sound
 
@@ -30,7 +27,7 @@ first-said : (p q : Said) → (sortsOf p q ≡ Sorts.Bad → ⊥) → (x : Page)
 first-said nothing q n = absurd (n refl)
 first-said (says x) q n = (x, refl)
 
-bad-right : (s : Sort) → sortsBy s Sort.Bad ≡ Sorts.Bad
+pub bad-right : (s : Sort) → sortsBy s Sort.Bad ≡ Sorts.Bad
 bad-right Sort.Leaf = refl
 bad-right Sort.Index = refl
 bad-right Sort.Bad = refl
@@ -55,36 +52,41 @@ indexes-not e = let z : _≡_ {A = ℕ} 0 1 = cc in omega arith
 -- ---- the answer of each kind
 
 module _ (a : List ℕ) (next : ℕ) (m : Call) (left right : Addr) (k : Sorts) (h : k ≡ sortsIn (take next a) left right) where
+  abbrev b : Bounds
+  b = boundsIn (take next a) left right
+
+  abbrev es : List Entry
+  es = merged (take next a) left right
+
   abbrev Answers : Built → List ℕ → Type 0
   Answers r a₁ = (r ≡ sortsAnswer a next m left right) × (a₁ ≡ sortsArena a next m left right)
 
-  by-kind : (r : Built) (a₁ : List ℕ) → r ≡ answerBy a next m (boundsIn (take next a) left right) (merged (take next a) left right) k → a₁ ≡ arenaBy a next m (boundsIn (take next a) left right) (merged (take next a) left right) k → Answers r a₁
+  -- what a table with this kind answers and leaves
+  abbrev answer-of : Sorts → Built
+  answer-of s = answerBy (sortRows (length a) next m b es s) next m b es s
+
+  abbrev arena-of : Sorts → List ℕ
+  arena-of s = arenaBy (sortRows (length a) next m b es s) a next m b es s
+
+  by-kind : (s : Sorts) → k ≡ s → (r : Built) (a₁ : List ℕ) → r ≡ answer-of s → a₁ ≡ arena-of s → Answers r a₁
   unfolding sortsAnswer sortsArena
-  by-kind r a₁ e f = (
-    e ∙ ap (answerBy a next m (boundsIn (take next a) left right) (merged (take next a) left right)) h,
-    f ∙ ap (arenaBy a next m (boundsIn (take next a) left right) (merged (take next a) left right)) h,
-  )
+  by-kind s q r a₁ e f = (e ∙ ap answer-of (sym q ∙ h), f ∙ ap arena-of (sym q ∙ h))
 
-  pub on-leaves : k ≡ Sorts.Leaves → (r : Built) (a₁ : List ℕ) → r ≡ leafAnswer a next m (boundsIn (take next a) left right) (merged (take next a) left right) → a₁ ≡ leafArena a next m (boundsIn (take next a) left right) (merged (take next a) left right) → Answers r a₁
-  on-leaves q r a₁ e f = by-kind r a₁ (e ∙ sym (ap (answerBy a next m (boundsIn (take next a) left right) (merged (take next a) left right)) q)) (f ∙ sym (ap (arenaBy a next m (boundsIn (take next a) left right) (merged (take next a) left right)) q))
+  pub on-leaves : k ≡ Sorts.Leaves → (r : Built) (a₁ : List ℕ) → r ≡ leafAnswer a next m b es → a₁ ≡ leafArena a next m b es → Answers r a₁
+  unfolding leafAnswer leafArena
+  on-leaves q r a₁ e f = by-kind Sorts.Leaves q r a₁ e f
 
-  pub on-indexes : k ≡ Sorts.Indexes → (r : Built) (a₁ : List ℕ) → r ≡ indexAnswer a next m (boundsIn (take next a) left right) (merged (take next a) left right) → a₁ ≡ indexArena a next m (boundsIn (take next a) left right) (merged (take next a) left right) → Answers r a₁
-  on-indexes q r a₁ e f = by-kind r a₁ (e ∙ sym (ap (answerBy a next m (boundsIn (take next a) left right) (merged (take next a) left right)) q)) (f ∙ sym (ap (arenaBy a next m (boundsIn (take next a) left right) (merged (take next a) left right)) q))
+  pub on-indexes : k ≡ Sorts.Indexes → (r : Built) (a₁ : List ℕ) → r ≡ indexAnswer a next m b es → a₁ ≡ indexArena a next m b es → Answers r a₁
+  unfolding indexAnswer indexArena
+  on-indexes q r a₁ e f = by-kind Sorts.Indexes q r a₁ e f
 
   pub on-mixed : k ≡ Sorts.Mixed → Answers (Built.Refused MixedKinds) a
-  on-mixed q = by-kind (Built.Refused MixedKinds) a (sym (ap (answerBy a next m (boundsIn (take next a) left right) (merged (take next a) left right)) q)) (sym (ap (arenaBy a next m (boundsIn (take next a) left right) (merged (take next a) left right)) q))
+  on-mixed q = by-kind Sorts.Mixed q (Built.Refused MixedKinds) a refl refl
 
   pub on-bad : k ≡ Sorts.Bad → Answers (Built.Refused BadFrame) a
-  on-bad q = by-kind (Built.Refused BadFrame) a (sym (ap (answerBy a next m (boundsIn (take next a) left right) (merged (take next a) left right)) q)) (sym (ap (arenaBy a next m (boundsIn (take next a) left right) (merged (take next a) left right)) q))
+  on-bad q = by-kind Sorts.Bad q (Built.Refused BadFrame) a refl refl
 
 -- ---- 1 and 2
-
-pub limits-sane : (m : Call) → limitsOk (m .limit) (m .budget) ≡ true → Sane m
-unfolding limitsOk
-limits-sane m e =
-    let x = and-l (limitOk (m .limit)) (budgetOk (m .budget)) e in
-    let y = and-r (limitOk (m .limit)) (budgetOk (m .budget)) e in
-    record { limit = leb-true (m .limit) 65536 (and-r (leb 1 (m .limit)) (leb (m .limit) 65536) x); budget = leb-true (m .budget) 131072 (and-r (leb 256 (m .budget)) (leb (m .budget) 131072) y) }
 
 module _ (a : List ℕ) (next : ℕ) (m : Call) (left right : Addr) where
   abbrev Merges : Built → List ℕ → Type 0
@@ -103,7 +105,7 @@ module _ (a : List ℕ) (next : ℕ) (m : Call) (left right : Addr) where
         (rw (x, y), rw (x, y))
 
     pub merge-on : (u : Bool) → u ≡ nextOk (length a) next → u ≡ true → (m′ : Call) → m′ ≡ m → (r : Built) (a₁ : List ℕ) → r ≡ sortsAnswer a next m′ left right → a₁ ≡ sortsArena a next m′ left right → Merges r a₁
-    unfolding mergeAnswer mergeArena
+    unfolding mergeAnswer mergeArena sortsAnswer sortsArena
     merge-on u g h m′ z r a₁ p q =
         let x = sym e ∙ f in
         let y = sym g ∙ h in

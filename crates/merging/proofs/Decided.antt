@@ -7,7 +7,7 @@ use contract.Lifetimes.{Lfts}
 use denote.Ref.{RefT, now}
 use denote.Triple.Clauses.{AtExit}
 use Rattle.frames.specs.declared.Addr.{Addr}
-use Rattle.build.specs.declared.Built.{Built}
+use Rattle.image.specs.declared.Built.{Built}
 use Rattle.merging.proofs.merge as merge-fn
 use Rattle.merging.proofs.merge.Reads as merge
 

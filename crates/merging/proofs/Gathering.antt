@@ -1,17 +1,16 @@
 -- What is gathered from two sound pages: the boundaries lie below the next free address and are short, and they and the entries are those
 -- that the definition names.
 -- Assumes nothing.
-use Prim.Native.Nat.{ℕ, zero, suc, _+_, _*_, _≤_, _<_}
-use mathlib.Core.Path.{_≡_, refl, sym, subst, ap, _∙_}
+use Prim.Native.Nat.{ℕ, _+_, _*_, _≤_}
+use mathlib.Core.Path.{_≡_, refl, sym, ap, _∙_}
 use mathlib.Core.Bool.{Bool, true, false, cond, _&&_, _||_}
-use mathlib.Core.List.{List, [], _∷_}
+use mathlib.Core.List.{List, []}
 use native.Mathlib.Omega.{arith}
-use borrow.Author.Tests.{leb-true, ne-eqb}
+use borrow.Author.Tests.{leb-true, le-leb}
 use lib.ListN.{length}
 use lib.Dec.{leb, eqb}
 use Rattle.spans.specs.Span.{part}
 use Rattle.spans.proofs.Part.{length-part, partOr-in}
-use Rattle.spans.proofs.Tests.{ask}
 use Rattle.frames.specs.declared.Addr.{Addr}
 use Rattle.frames.specs.declared.BoxHeader.{BoxHeader}
 use Rattle.frames.specs.declared.BaseHeader.{BaseHeader}
@@ -19,26 +18,26 @@ use Rattle.frames.specs.declared.FrameRead.{FrameRead}
 use Rattle.frames.specs.declared.PageRead.{PageRead}
 use Rattle.frames.specs.declared.Body.{Body}
 use Rattle.frames.specs.declared.Opened.{Opened}
-use Rattle.frames.specs.Layout.{boxLen, baseLen, addr, boxAt, baseFields, zerosOk, leafOk, indexOk, manyOk, historyOk, payloadOk, lengthsOk, baseOk, pageOf, pageAt, bodyOf, openOf, openAt, Inside}
+use Rattle.frames.specs.Layout.{boxLen, baseLen, pageId, boxAt, baseFields, zerosOk, leafOk, indexOk, manyOk, historyOk, payloadOk, lengthsOk, baseOk, pageOf, pageAt, bodyOf, openOf, openAt, Inside}
 use Rattle.frames.proofs.Frames.{and-l, and-r, open-inside}
 use Rattle.pages.specs.declared.BoundsRead.{BoundsRead}
-use Rattle.pages.specs.Edges.{partIn, boundsOf, boundsAt, edgeOf, loAt, hiAt}
+use Rattle.pages.specs.Edges.{partIn, boundsOf, boundsAt, loAt, hiAt}
 use Rattle.pages.specs.Meaning.{Page, says, meaning}
 use Rattle.pages.proofs.Given.{Sound, sound-given}
 use Rattle.sources.specs.declared.Cursor.{Cursor}
 use Rattle.sources.specs.declared.Begun.{Begun}
 use Rattle.sources.specs.Lists.{firstOf}
 use Rattle.sources.specs.Pages.{pageFirst}
-use Rattle.sources.specs.Source.{Entry, entries}
+use Rattle.sources.specs.Source.{entries}
 use Rattle.image.specs.Prefix.{common}
-use Rattle.image.specs.Image.{Bounds}
 use Rattle.edges.specs.declared.Edges.{Edges}
 use Rattle.edges.specs.Edges as edges-specs
-use Rattle.edges.specs.Edges.{Within, edgeBytes}
+use Rattle.edges.specs.Edges.{Within, edgeBytes, edgeOf as edge-of}
 use Rattle.build.specs.Index.{Held}
+use Rattle.base.proofs.Calls.{held}
 use Rattle.paired.proofs.On.{frontOf, first-is, bounds-are}
 use Rattle.merging.specs.declared.Gathered.{Gathered}
-use Rattle.merging.specs.Merge.{siblingOf, boundsIn, entriesFrom, merged, edgesIn, gatheredBy, gathered}
+use Rattle.merging.specs.Merge.{boundsIn, entriesFrom, merged, edgesIn, gathered}
 
 -- ---- a page's boundaries are short (it belongs to `frames`)
 
@@ -71,16 +70,10 @@ open-short s a b e = go (boxAt s a) e
     go (FrameRead.Frame h) q = by h (eqb (h .kind) 1) (leb baseLen (h .«payload_size»)) (baseOk h (baseFields s (a .0 + boxLen))) refl q
     go FrameRead.Bad q = absurd (no q)
 
--- common bytes are bytes of lo (it belongs to `image`)
-common-le : (a b : List ℕ) → common a b ≤ length a
-unfolding common
-common-le [] b = omega arith
-common-le (x ∷ a) [] = omega arith
-common-le (x ∷ a) (y ∷ b) = go (eqb x y) (common-le a b)
-  where
-    go : (t : Bool) → common a b ≤ length a → cond t (suc (common a b)) 0 ≤ length (x ∷ a)
-    go true h = omega (arith, h)
-    go false h = omega arith
+-- common bytes are bytes of lo
+front-low : (lo hi : List ℕ) → length lo ≤ 4096 → length hi ≤ 4096 → common lo hi ≤ length lo
+front-low lo hi h k =
+    held lo hi [] (edge-of lo) (edge-of hi) (common lo hi) (pageId 0) refl refl refl true (rw (le-leb (length lo) 4096 h, le-leb (length hi) 4096 k) refl) refl .shared
 
 -- ---- what is gathered
 
@@ -153,8 +146,27 @@ module _ (w : List ℕ) (left right : Addr) (p q : Page) (m : meaning w left ≡
   unfolding boundsOf
   hi-few = open-short w right d (h .opened) .1
 
+  lo-long : length (partIn w (boundsOf b .lo)) ≡ boundsOf b .lo .len
+  lo-long = ap length lo-part ∙ length-part w (boundsOf b .lo .at) (boundsOf b .lo .len) lo-in
+
+  hi-long : length (partIn w (boundsOf d .hi)) ≡ boundsOf d .hi .len
+  hi-long = ap length hi-part ∙ length-part w (boundsOf d .hi .at) (boundsOf d .hi .len) hi-in
+
+  -- the boundaries keep document 01's lengths
+  pub lo-short : length (boundsIn w left right .lo) ≤ 4096
+  unfolding boundsIn
+  lo-short = omega (arith, ap length lo-is, lo-long, lo-few)
+
+  pub hi-short : length (boundsIn w left right .hi) ≤ 4096
+  unfolding boundsIn
+  hi-short = omega (arith, ap length hi-is, hi-long, hi-few)
+
+  pub prefix-short : boundsIn w left right .prefix ≤ length (boundsIn w left right .lo)
+  unfolding boundsIn
+  prefix-short = front-low (loAt w left) (hiAt w right) lo-short hi-short
+
   shares : common (partIn w (boundsOf b .lo)) (partIn w (boundsOf d .hi)) ≤ boundsOf b .lo .len
-  shares = omega (arith, common-le (partIn w (boundsOf b .lo)) (partIn w (boundsOf d .hi)), ap length lo-part ∙ length-part w (boundsOf b .lo .at) (boundsOf b .lo .len) lo-in)
+  shares = omega (arith, front-low (partIn w (boundsOf b .lo)) (partIn w (boundsOf d .hi)) (omega (arith, lo-long, lo-few)) (omega (arith, hi-long, hi-few)), lo-long)
 
   bounds-is : edges-specs.boundsOf [] [] w held-edges ≡ boundsIn w left right
   unfolding boundsIn edgeBytes

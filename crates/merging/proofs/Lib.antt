@@ -3,4 +3,6 @@ pub mod Gathering
 pub mod Merging
 pub mod Said
 pub mod Answering
+pub mod Refusing
+pub mod Cases
 pub mod Decided

@@ -13,7 +13,7 @@ use Rattle.frames.specs.declared.Opened.{Opened}
 use Rattle.frames.specs.declared.Refusal.{Refusal}
 use Rattle.frames.specs.Layout.{openAt}
 use Rattle.pages.specs.declared.Checked.{Checked}
-use Rattle.pages.specs.Meaning.{Rows, leaf, index, Page, Said, nothing, says, headsFrom, childrenFrom, pageSays, meaning, checkOf}
+use Rattle.pages.specs.Meaning.{leaf, index, Page, Said, nothing, says, headsFrom, childrenFrom, pageSays, meaning, checkOf}
 use Rattle.pages.proofs.Given as given
 use Rattle.pages.proofs.Given.{sound-given}
 use Rattle.pages.specs.declared.BoundsRead.{BoundsRead}

@@ -1,24 +1,24 @@
 -- What is merged, in the words of what the two pages say: lo of the left, hi and sibling of the right, every record of the left, then of the
 -- right, in order and marked.
 -- Assumes nothing.
-use Prim.Native.Nat.{ℕ}
-use mathlib.Core.Path.{_≡_, refl, sym, subst, ap, _∙_}
-use mathlib.Core.List.{List, [], _++_, map}
+use Prim.Native.Nat.{ℕ, _^_, _<_}
+use mathlib.Core.Path.{_≡_, sym, subst, ap}
+use mathlib.Core.List.{List, [], _++_}
+use native.Mathlib.Omega.{arith}
 use borrow.Author.Tests.{ne-eqb}
 use Rattle.numbers.specs.Number.{Bytes}
 use Rattle.frames.specs.declared.Addr.{Addr}
-use Rattle.pages.specs.Edges.{boundsOf, boundsAt, loAt, hiAt}
+use Rattle.pages.specs.Edges.{boundsOf, boundsAt}
 use Rattle.pages.specs.Meaning.{Head, Child, leaf, index, Page, says, pageSays, meaning}
-use Rattle.pages.proofs.Given.{Sound, sound-given}
+use Rattle.pages.proofs.Given.{sound-given}
 use Rattle.pages.proofs.Says.{lo-says, hi-says}
 use Rattle.walks.specs.Listed.{entriesOf}
 use Rattle.sources.specs.declared.Begun.{Begun}
 use Rattle.sources.specs.Lists.{firstOf}
 use Rattle.sources.specs.Pages.{pageFirst}
-use Rattle.sources.specs.Source.{Entry, entries}
-use Rattle.image.specs.Prefix.{common}
-use Rattle.image.specs.Image.{Bounds}
+use Rattle.sources.specs.Source.{Entry}
 use Rattle.paired.specs.Pairs.{bare, child, NoPage, NoVersion, Reads}
+use Rattle.paired.proofs.On.{sibling-wide}
 use Rattle.paired.proofs.Pages.{two-leaves, two-indexes}
 use Rattle.merging.specs.Merge.{boundsBetween, siblingOf, boundsIn, entriesFrom, merged, Merged}
 
@@ -32,6 +32,12 @@ module _ (w : List ℕ) (left right : Addr) (p q : Page) (m : meaning w left ≡
   pub bounds-said : boundsIn w left right ≡ boundsBetween p q
   unfolding boundsIn boundsBetween
   bounds-said = rw (lo-says w left p m, hi-says w right q n, sibling-said)
+
+  pub sibling-fits : Bytes w → boundsIn w left right .sibling < 256 ^ 8
+  unfolding boundsIn pageSays
+  sibling-fits y =
+      let g = sound-given w right q n in
+      omega (arith, sibling-said, ap (λ (z : Page). z .sibling .0) (g .said), sibling-wide w y right (g .body) (g .opened))
 
 -- ---- entries
 

@@ -4,14 +4,13 @@
 use Prim.Native.Nat.{ℕ}
 use mathlib.Core.Path.{_≡_}
 use mathlib.Core.List.{List, [], map}
-use mathlib.Core.Bool.{Bool, true, _&&_}
+use mathlib.Core.Bool.{true}
 use Rattle.frames.specs.declared.Addr.{Addr}
 use Rattle.pages.specs.declared.Place.{Place}
 use Rattle.pages.specs.declared.BoundsRead.{BoundsRead}
 use Rattle.pages.specs.declared.Bounds as pages-bounds
 use Rattle.pages.specs.Edges.{partIn, boundsAt, loAt, hiAt}
 use Rattle.pages.specs.Meaning.{Rows, leaf, index, Page, Said, nothing, says, meaning}
-use Rattle.sources.specs.declared.Cursor.{Cursor}
 use Rattle.sources.specs.declared.Begun.{Begun}
 use Rattle.sources.specs.Lists.{firstOf}
 use Rattle.sources.specs.Pages.{pageFirst}
@@ -22,14 +21,9 @@ use Rattle.image.specs.Prefix.{common}
 use Rattle.image.specs.Image.{Bounds}
 use Rattle.edges.specs.declared.Edge.{Edge}
 use Rattle.edges.specs.declared.Edges.{Edges}
-use Rattle.build.specs.Table.{limitOk, budgetOk}
 use Rattle.merging.specs.declared.Sort.{Sort}
 use Rattle.merging.specs.declared.Sorts.{Sorts}
 use Rattle.merging.specs.declared.Gathered.{Gathered}
-
--- 1 BAD LIMIT: "inline limit not 1..65,536; budget not 256..131,072", of index pages too
-unfoldable pub limitsOk : ℕ → ℕ → Bool
-limitsOk limit budget = limitOk limit && budgetOk budget
 
 -- ---- 4 and 5
 

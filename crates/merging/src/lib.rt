@@ -1,11 +1,11 @@
 // Merging: two pages below the next free address become one, built anew from every record of the left, then of the right. Both are
 // checked first; then the builder judges and writes.
-use build::Built;
 use edges::Edge;
 use edges::Edges;
 use frames::Addr;
 use frames::Opened;
 use frames::Refusal;
+use image::Built;
 use image::Call;
 use pages::BoundsRead;
 use pages::Checked;
@@ -19,8 +19,8 @@ ghost use Rattle.pages.specs.Meaning.{meaning};
 ghost use Rattle.history.specs.Runs.{Sane};
 ghost use Rattle.build.specs.Index.{indexAnswer, indexArena};
 ghost use Rattle.build.specs.Leaf.{leafAnswer, leafArena};
-ghost use Rattle.base.specs.Calls.{larger, callOf};
-ghost use Rattle.merging.specs.Merge.{sortOf, sortsBy, sortsOf, limitsOk, gathered, Sound, boundsIn, merged};
+ghost use Rattle.image.specs.Call.{callOf};
+ghost use Rattle.merging.specs.Merge.{sortOf, sortsBy, sortsOf, gathered, Sound, boundsIn, merged};
 ghost use Rattle.merging.specs.Answer.{sortsAnswer, sortsArena, mergeAnswer, mergeArena};
 
 // The kind of a sound page.
@@ -89,13 +89,6 @@ fn sorts_of(low: &[u8], left: Addr, right: Addr) -> Sorts
     let x = sort_of(low, left);
     let y = sort_of(low, right);
     sorts_by(x, y)
-}
-
-// 1
-fn limits_ok(limit: usize, budget: usize) -> bool
-    ensures { λ r. ⌜ r ≡ limitsOk limit budget ⌝ }
-{
-    ((1 <= limit) & (limit <= 65536)) & ((256 <= budget) & (budget <= 131072))
 }
 
 // The places of what is merged.
@@ -168,13 +161,6 @@ fn merge_leaves(a: &mut [u8], next: usize, left: Addr, right: Addr, m: Call, non
     build::build_leaf(a, next, none, c, m, none, none, e)
 }
 
-// "lsn is the larger of the given and the checkpoint's"
-fn larger(x: u64, y: u64) -> u64
-    ensures { λ r. ⌜ r ≡ larger x y ⌝ }
-{
-    if x < y { y } else { x }
-}
-
 // Pages that were judged, by their kinds.
 fn merge_sorts(a: &mut [u8], next: usize, left: Addr, right: Addr, m: Call, none: &[u8]) -> Built
     requires { ⌜ next ≤ length (now a) ⌝ }
@@ -208,19 +194,13 @@ pub fn merge(
     ensures { λ r. ⌜ r ≡ mergeAnswer (now (a .entry)) next (callOf limit budget group txid lsn checkpoint) left right ⌝ }
     ensures { λ _. ⌜ now (a .exit) ≡ mergeArena (now (a .entry)) next (callOf limit budget group txid lsn checkpoint) left right ⌝ }
 {
-    if !limits_ok(limit, budget) {
+    if !image::limits_ok(limit, budget) {
         return Built::Refused(Refusal::BadLimit);
     }
     let len = a.len();
-    if !build::next_ok(len, next) {
+    if !image::next_ok(len, next) {
         return Built::Refused(Refusal::BadArena);
     }
-    let m = Call {
-        limit: limit,
-        budget: budget,
-        group: group,
-        txid: txid,
-        lsn: larger(lsn, checkpoint),
-    };
+    let m = image::call_of(limit, budget, group, txid, lsn, checkpoint);
     merge_sorts(a, next, left, right, m, b"")
 }

@@ -1,9 +1,9 @@
 -- A cursor that stands on a page below the free address: how it begins there, what its step finds, and what it keeps from step to step.
 -- Assumes nothing.
-use Prim.Native.Nat.{ℕ, _+_, _-_, _*_, _^_, _≤_, _<_}
+use Prim.Native.Nat.{ℕ, _+_, _-_, _^_, _≤_, _<_}
 use mathlib.Core.Path.{_≡_, refl, sym, subst, ap, _∙_}
 use mathlib.Core.Bool.{Bool, true, false, cond}
-use mathlib.Core.List.{List, [], _∷_, _++_}
+use mathlib.Core.List.{List}
 use native.Mathlib.Omega.{arith}
 use borrow.Author.Tests.{le-leb, eqb-true, eqb-false, eq-eqb, ne-eqb}
 use lib.ListN.{length}
@@ -21,9 +21,8 @@ use Rattle.frames.specs.declared.FrameRead.{FrameRead}
 use Rattle.frames.specs.declared.PageRead.{PageRead}
 use Rattle.frames.specs.declared.Body.{Body}
 use Rattle.frames.specs.declared.Opened.{Opened}
-use Rattle.frames.specs.declared.RemoteRead.{RemoteRead}
 use Rattle.frames.specs.declared.Refusal.{Refusal}
-use Rattle.frames.specs.Layout.{boxLen, baseLen, addr, pageId, boxAt, baseFields, baseOk, pageOf, pageAt, bodyOf, openOf, openAt, remoteAt, Inside}
+use Rattle.frames.specs.Layout.{boxLen, baseLen, addr, pageId, boxAt, baseFields, baseOk, pageOf, pageAt, bodyOf, openOf, openAt, remoteAt}
 use Rattle.frames.proofs.Frames.{open-inside}
 use Rattle.pages.specs.declared.Place.{Place}
 use Rattle.pages.specs.declared.BoundsRead.{BoundsRead}
@@ -40,39 +39,50 @@ use Rattle.sources.specs.declared.Item.{Item}
 use Rattle.sources.specs.declared.Begun.{Begun}
 use Rattle.sources.specs.declared.Step.{Step}
 use Rattle.sources.specs.declared.Step.the-variants.{Got, End, Bad}
-use Rattle.sources.specs.Lists.{sameKey}
-use Rattle.sources.specs.Keys.{srcOf}
 use Rattle.sources.specs.Pages.{wholeOf, wholeAt, firstIn, pageFirst, pageItem, pagePast, itemAt, walkedOf, walked, turnedOf, turned, pagesOf, pagesNext}
-use Rattle.sources.specs.Source.{Entry, nextOf, entryOf, entries}
-use Rattle.sources.specs.Marks.{Each, Held, Wide, Keeps}
-use Rattle.sources.proofs.Marked.{each, first-turns}
+use Rattle.sources.specs.Source.{nextOf, entryOf, entries}
+use Rattle.sources.specs.Marks.{Each, Held, Keeps}
+use Rattle.sources.proofs.Marked.{each}
 use Rattle.paired.specs.Pairs.{Carried}
 
 -- ---- how a cursor begins on a page
 
--- a page's count of elements is a u16 (it belongs to `frames`)
-elems-are : (s : List ℕ) (a : Addr) (b : Body) → openAt s a ≡ Opened.Is b → (b .at ≡ a .0 + boxLen) × (b .elems ≡ leAt 2 s (a .0 + boxLen + 4))
+-- where a page's count of elements and its sibling stand (it belongs to `frames`)
+record Fields (s : List ℕ) (a : Addr) (b : Body) : Type 0 where
+  at : b .at ≡ a .0 + boxLen
+  elems : b .elems ≡ leAt 2 s (a .0 + boxLen + 4)
+  sibling : b .sibling .0 ≡ leAt 8 s (a .0 + boxLen + 8)
+
+fields-are : (s : List ℕ) (a : Addr) (b : Body) → openAt s a ≡ Opened.Is b → Fields s a b
 unfolding openAt pageAt bodyOf baseFields
-elems-are s a b e = go (boxAt s a) e
+fields-are s a b e = go (boxAt s a) e
   where
     no : Opened.Bad ≡ Opened.Is b → ⊥
     no z = let x : _≡_ {A = ℕ} 0 1 = cc in omega arith
 
-    by : (h : BoxHeader) (t u v : Bool) → openOf a (cond t (cond u (cond v (PageRead.Page h (baseFields s (a .0 + boxLen))) PageRead.Bad) PageRead.Bad) PageRead.Bad) ≡ Opened.Is b → (b .at ≡ a .0 + boxLen) × (b .elems ≡ leAt 2 s (a .0 + boxLen + 4))
-    by h true true true q = let x : bodyOf a h (baseFields s (a .0 + boxLen)) ≡ b = cc in rw (← x) (refl, refl)
+    by : (h : BoxHeader) (t u v : Bool) → openOf a (cond t (cond u (cond v (PageRead.Page h (baseFields s (a .0 + boxLen))) PageRead.Bad) PageRead.Bad) PageRead.Bad) ≡ Opened.Is b → Fields s a b
+    by h true true true q = let x : bodyOf a h (baseFields s (a .0 + boxLen)) ≡ b = cc in rw (← x) (record { at = refl; elems = refl; sibling = refl })
     by h true true false q = absurd (no q)
     by h true false v q = absurd (no q)
     by h false u v q = absurd (no q)
 
-    go : (f : FrameRead) → openOf a (pageOf s (a .0) f) ≡ Opened.Is b → (b .at ≡ a .0 + boxLen) × (b .elems ≡ leAt 2 s (a .0 + boxLen + 4))
+    go : (f : FrameRead) → openOf a (pageOf s (a .0) f) ≡ Opened.Is b → Fields s a b
     go (FrameRead.Frame h) q = by h (eqb (h .kind) 1) (leb baseLen (h .«payload_size»)) (baseOk h (baseFields s (a .0 + boxLen))) q
     go FrameRead.Bad q = absurd (no q)
 
+-- the count is a u16
 elems-few : (s : List ℕ) → Bytes s → (a : Addr) (b : Body) → openAt s a ≡ Opened.Is b → b .elems ≤ 65535
 elems-few s y a b e =
     let i = open-inside s a b e .0 in
-    let k = elems-are s a b e in
-    omega (arith, k .1, leAt-lt s (a .0 + boxLen + 4) 2 (omega (arith, k .0, i .slots, i .records, i .payload, i .arena)) y)
+    let k = fields-are s a b e in
+    omega (arith, k .elems, leAt-lt s (a .0 + boxLen + 4) 2 (omega (arith, k .at, i .slots, i .records, i .payload, i .arena)) y)
+
+-- the sibling's page id a u64
+pub sibling-wide : (s : List ℕ) → Bytes s → (a : Addr) (b : Body) → openAt s a ≡ Opened.Is b → b .sibling .0 < 256 ^ 8
+sibling-wide s y a b e =
+    let i = open-inside s a b e .0 in
+    let k = fields-are s a b e in
+    omega (arith, k .sibling, leAt-lt s (a .0 + boxLen + 8) 8 (omega (arith, k .at, i .slots, i .records, i .payload, i .arena)) y)
 
 -- a walk over a whole page
 abbrev pub wholeWalk : Body → Walk

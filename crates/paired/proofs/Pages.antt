@@ -1,11 +1,11 @@
 -- Two pages that say something, read one behind the other: the source begins and ends well, and lists the left's records, then the right's.
 -- Assumes nothing.
-use Prim.Native.Nat.{ℕ, _+_, _-_, _≤_, _<_}
+use Prim.Native.Nat.{ℕ, _-_}
 use mathlib.Core.Path.{_≡_, refl, sym, subst, ap, _∙_}
 use mathlib.Core.Bool.{Bool, true, false, cond}
 use mathlib.Core.List.{List, [], _∷_, _++_, map, append-nil}
 use native.Mathlib.Omega.{arith}
-use borrow.Author.Tests.{le-leb, eqb-true, eqb-false, eq-eqb, ne-eqb}
+use borrow.Author.Tests.{eq-eqb, ne-eqb}
 use lib.ListN.{length, take, drop}
 use lib.Seq.{take-length}
 use lib.Dec.{eqb}
@@ -39,7 +39,7 @@ use Rattle.sources.specs.declared.Step.{Step}
 use Rattle.sources.specs.declared.Step.the-variants.{Got, End, Bad}
 use Rattle.sources.specs.Keys.{keyBytes}
 use Rattle.sources.specs.Lists.{firstOf}
-use Rattle.sources.specs.Pages.{pageFirst, pageItem, pagePast, walked, turned, pagesOf, pagesNext}
+use Rattle.sources.specs.Pages.{pageFirst, pageItem, pagePast, walked, turned, pagesNext}
 use Rattle.sources.specs.Source.{Entry, nextOf, entryOf, entries, wellFormed}
 use Rattle.sources.specs.Marks.{Each}
 use Rattle.sources.proofs.Sourced.{found, ended, odd}

@@ -1,3 +1,4 @@
 -- The crate's laws.
 pub mod Places
 pub mod Inside
+pub mod Quick

@@ -1,9 +1,13 @@
 // A page's parts: one decoder of a record at a slot, for leaf, index and history pages; its boundaries, key rests and values, lent on.
 ghost use mathlib.Core.Path.{_≡_};
 ghost use Prim.Native.Nat.{_+_, _≤_};
+ghost use mathlib.Core.Bool.{true, false};
 ghost use lib.ListN.{length};
 ghost use Rattle.spans.specs.Span.{part, partOr};
 ghost use Rattle.frames.specs.Layout.{Inside};
+ghost use Rattle.values.specs.Keys.{skipOf};
+ghost use Rattle.values.specs.Vals.{noHist, valOf, valAt};
+ghost use Rattle.values.specs.declared.FrontRead.{FrontRead};
 ghost use Rattle.records.specs.Records.{slotAt, verIn, keyIn, keyAtSlot, valIn, recIn, recAt};
 ghost use Rattle.records.specs.Parts.{loIn, hiIn, prefixIn};
 use frames::Addr;
@@ -100,6 +104,41 @@ fn key_in(s: &[u8], b: Body, at: usize) -> KeyRead
     }
 }
 
+fn skip_of(kind: u8) -> usize
+    ensures { λ r. ⌜ r ≡ skipOf kind ⌝ }
+{
+    if kind == Body::INDEX { 0 } else { 12 }
+}
+
+// The same. A length of one byte is read here, so that this is small enough to stand in its caller's loop.
+fn short_key(s: &[u8], b: Body, at: usize) -> KeyRead
+    requires { ⌜ Inside (now s) b ⌝ }
+    ensures { λ r. ⌜ r ≡ keyIn (now (s .entry)) b at ⌝ }
+{
+    let e = b.end;
+    let t = &s[..e];
+    if at < e {
+        let n = t[at] as usize;
+        if n < 128 {
+            if b.kind != Body::HISTORY {
+                let skip = skip_of(b.kind);
+                if skip <= n {
+                    if n <= e - at - 1 {
+                        if b.prefix_len + (n - skip) <= 4096 {
+                            return KeyRead::Key {
+                                ver_at: at + 1,
+                                rest_at: at + 1 + skip,
+                                rest_len: n - skip,
+                            };
+                        }
+                    }
+                }
+            }
+        }
+    }
+    key_in(s, b, at)
+}
+
 // The key of slot i: all that a search reads.
 pub fn key_at(s: &[u8], b: Body, i: usize) -> KeyRead
     requires { ⌜ Inside (now s) b ⌝ }
@@ -108,7 +147,7 @@ pub fn key_at(s: &[u8], b: Body, i: usize) -> KeyRead
     let SlotRead::At(p) = slot_at(s, b, i) else {
         return KeyRead::Bad;
     };
-    key_in(s, b, p)
+    short_key(s, b, p)
 }
 
 // The value at a place of a page, and its remote frame judged with it; only a leaf's head has history.
@@ -218,6 +257,173 @@ pub fn rec_at(s: &[u8], b: Body, i: usize) -> RecRead
         return RecRead::Bad;
     };
     rec_in(s, b, p)
+}
+
+// ---- the same for a walk's steps: a value that stands in its page is read here, any other as above
+
+// A value's size and bytes behind its front.
+fn bytes_at(t: &[u8], at: usize, h: HistRef) -> Val
+    ensures { λ r. ⌜ r ≡ valOf (now (t .entry)) (FrontRead.Front h false at) ⌝ }
+{
+    if spans::room(t.len(), at, 4) {
+        let n = numbers::read_u32(t, at) as usize;
+        if 65536 < n {
+            return Val::Bad;
+        }
+        let p = at + 4;
+        if spans::room(t.len(), p, n) {
+            return Val::Inline {
+                hist: h,
+                at: p,
+                size: n,
+                next: p + n,
+            };
+        }
+    }
+    Val::Bad
+}
+
+fn no_hist() -> HistRef
+    ensures { λ r. ⌜ r ≡ noHist ⌝ }
+{
+    HistRef {
+        page: Addr(0),
+        slot: 0,
+        count: 0,
+    }
+}
+
+// A head's value.
+fn head_val(t: &[u8], at: usize) -> Val
+    ensures { λ r. ⌜ r ≡ valAt (now (t .entry)) at true ⌝ }
+{
+    if at < t.len() {
+        let f = t[at];
+        if f == 0 {
+            return bytes_at(t, at + 1, no_hist());
+        }
+        if f == 1 {
+            if spans::room(t.len(), at + 1, 14) {
+                let count = numbers::read_u32(t, at + 1 + 10);
+                if count != 0 {
+                    let h = HistRef {
+                        page: Addr(numbers::read_u64(t, at + 1)),
+                        slot: numbers::read_u16(t, at + 1 + 8),
+                        count: count,
+                    };
+                    return bytes_at(t, at + 1 + 14, h);
+                }
+            }
+        }
+    }
+    Val::decode_from(t, at, true)
+}
+
+// An old version's value.
+fn old_val(t: &[u8], at: usize) -> Val
+    ensures { λ r. ⌜ r ≡ valAt (now (t .entry)) at false ⌝ }
+{
+    if at < t.len() {
+        if t[at] == 0 {
+            return bytes_at(t, at + 1, no_hist());
+        }
+    }
+    Val::decode_from(t, at, false)
+}
+
+// The head at a place of a leaf.
+fn head_in(s: &[u8], b: Body, p: usize) -> RecRead
+    requires { ⌜ Inside (now s) b ⌝ }
+    requires { ⌜ b .kind ≡ 0 ⌝ }
+    ensures { λ r. ⌜ r ≡ recIn (now (s .entry)) b p ⌝ }
+{
+    let KeyRead::Key {
+        ver_at,
+        rest_at,
+        rest_len,
+    } = short_key(s, b, p)
+    else {
+        return RecRead::Bad;
+    };
+    let e = b.end;
+    match head_val(&s[..e], rest_at + rest_len) {
+        Val::Inline {
+            hist,
+            at,
+            size,
+            next,
+        } => RecRead::Is(Rec {
+            from: p,
+            ver_at: ver_at,
+            rest_at: rest_at,
+            rest_len: rest_len,
+            hist: hist,
+            val_at: at,
+            val_len: size,
+            remote: Addr(0),
+            next: next,
+        }),
+        _ => rec_in(s, b, p),
+    }
+}
+
+// The old version at a place of a history page.
+fn old_in(s: &[u8], b: Body, p: usize) -> RecRead
+    requires { ⌜ Inside (now s) b ⌝ }
+    requires { ⌜ b .kind ≡ 2 ⌝ }
+    ensures { λ r. ⌜ r ≡ recIn (now (s .entry)) b p ⌝ }
+{
+    let e = b.end;
+    if spans::room(e, p, 12) {
+        if b.prefix_len <= 4096 {
+            match old_val(&s[..e], p + 12) {
+                Val::Inline {
+                    hist,
+                    at,
+                    size,
+                    next,
+                } => {
+                    return RecRead::Is(Rec {
+                        from: p,
+                        ver_at: p,
+                        rest_at: p + 12,
+                        rest_len: 0,
+                        hist: hist,
+                        val_at: at,
+                        val_len: size,
+                        remote: Addr(0),
+                        next: next,
+                    });
+                }
+                _ => {}
+            }
+        }
+    }
+    rec_in(s, b, p)
+}
+
+// The head of slot i of a leaf.
+pub fn head_at(s: &[u8], b: Body, i: usize) -> RecRead
+    requires { ⌜ Inside (now s) b ⌝ }
+    requires { ⌜ b .kind ≡ 0 ⌝ }
+    ensures { λ r. ⌜ r ≡ recAt (now (s .entry)) b i ⌝ }
+{
+    let SlotRead::At(p) = slot_at(s, b, i) else {
+        return RecRead::Bad;
+    };
+    head_in(s, b, p)
+}
+
+// The old version of slot i of a history page.
+pub fn old_at(s: &[u8], b: Body, i: usize) -> RecRead
+    requires { ⌜ Inside (now s) b ⌝ }
+    requires { ⌜ b .kind ≡ 2 ⌝ }
+    ensures { λ r. ⌜ r ≡ recAt (now (s .entry)) b i ⌝ }
+{
+    let SlotRead::At(p) = slot_at(s, b, i) else {
+        return RecRead::Bad;
+    };
+    old_in(s, b, p)
 }
 
 // ---- parts of the lent arena: the empty part where a place is outside it

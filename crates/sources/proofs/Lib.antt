@@ -2,6 +2,7 @@
 pub mod Walk
 pub mod Joined
 pub mod Lists
+pub mod Stepped
 pub mod Paged
 pub mod Sourced
 pub mod Marked

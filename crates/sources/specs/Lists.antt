@@ -33,6 +33,11 @@ listKey at n = record { pat = 0; plen = 0; kat = at; klen = n }
 abbrev pub firstOf : ℕ → Cursor
 firstOf kind = record { kind = kind; seen = false; key = listKey 0 0; at = 5; walk = noWalk; pre = place 0 0; then = addr 0 }
 
+-- a cursor by what a record list's step asks of it: its place, and the key before
+abbrev pub cursorAt : ℕ → Bool → ℕ → ℕ → ℕ → ℕ → Cursor
+cursorAt at seen pat plen kat klen =
+    record { kind = 0; seen = seen; key = record { pat = pat; plen = plen; kat = kat; klen = klen }; at = at; walk = noWalk; pre = place 0 0; then = addr 0 }
+
 -- "version byte 1; u32 big-endian byte count of what follows"
 unfoldable pub begunOf : List ℕ → ℕ → Begun
 begunOf l kind =

@@ -18,7 +18,7 @@ ghost use Prim.Native.Nat.{_+_, _≤_, _<_};
 ghost use lib.ListN.{length, getD};
 ghost use Rattle.order.specs.Order.{cmpBytes, startsWith};
 ghost use Rattle.sources.specs.Keys.{keyBytes};
-ghost use Rattle.sources.specs.Lists.{noWalk, firstOf, begunOf, sameKey, recordAt, indexAt, spotAt};
+ghost use Rattle.sources.specs.Lists.{noWalk, listKey, cursorAt, firstOf, begunOf, sameKey, recordAt, indexAt, spotAt};
 ghost use Rattle.sources.specs.Pages.{wholeAt, pageFirst, itemAt, walked, turned, pagesNext};
 ghost use Rattle.sources.specs.Source.{listNext, nextOf, entryOf, entries, wellFormed, wanted, ChosenBy, Skipped};
 ghost use Rattle.sources.specs.Judged.{above, risingFrom, rising, prefixed};
@@ -281,12 +281,50 @@ fn same_key(s: &[u8], c: Cursor, k: Key) -> bool
     false
 }
 
-// The entry of a record list at a cursor, and the place behind it.
-fn record_at(s: &[u8], c: Cursor) -> Spot
-    ensures { λ r. ⌜ r ≡ recordAt (now (s .entry)) c ⌝ }
+// The same of a list's key, the key before in numbers: structs handed over in memory would cost more than the comparison.
+fn is_same(
+    s: &[u8],
+    seen: bool,
+    pat: usize,
+    plen: usize,
+    bat: usize,
+    blen: usize,
+    kat: usize,
+    klen: usize,
+) -> bool
+    ensures { λ r. ⌜ r ≡ sameKey (now (s .entry)) (cursorAt 0 seen pat plen bat blen) (listKey kat klen) ⌝ }
+{
+    if seen {
+        let before = Key {
+            pat: pat,
+            plen: plen,
+            kat: bat,
+            klen: blen,
+        };
+        let k = Key {
+            pat: 0,
+            plen: 0,
+            kat: kat,
+            klen: klen,
+        };
+        return order::is_equal(compare_keys(s, before, s, k));
+    }
+    false
+}
+
+// The entry of a record list at a place, and the place behind it; whether there is a key before, and where, in numbers too.
+fn record_at(
+    s: &[u8],
+    at: usize,
+    seen: bool,
+    pat: usize,
+    plen: usize,
+    bat: usize,
+    blen: usize,
+) -> Spot
+    ensures { λ r. ⌜ r ≡ recordAt (now (s .entry)) (cursorAt at seen pat plen bat blen) ⌝ }
 {
     let n = s.len();
-    let at = c.at;
     if n < at {
         return Spot::Out;
     }
@@ -315,7 +353,7 @@ fn record_at(s: &[u8], c: Cursor) -> Spot
         kat: at + 2,
         klen: klen,
     };
-    let old = same_key(s, c, k);
+    let old = is_same(s, seen, pat, plen, bat, blen, at + 2, klen);
     let v = Ver::new(
         numbers::read_u64_be(s, tat),
         numbers::read_u32_be(s, tat + 8),
@@ -385,7 +423,15 @@ fn spot_at(s: &[u8], c: Cursor) -> Spot
     if c.kind == Cursor::INDEX {
         return index_at(s, c);
     }
-    record_at(s, c)
+    record_at(
+        s,
+        c.at,
+        c.seen,
+        c.key.pat,
+        c.key.plen,
+        c.key.kat,
+        c.key.klen,
+    )
 }
 
 // The entry of a list at a cursor, and the cursor past it.
@@ -531,7 +577,7 @@ fn walk_next(low: &[u8], c: Cursor) -> Step
     if 4294967295 < w.past.left {
         return Step::Bad;
     }
-    let st = w.step(low);
+    let st = w.plain_step(low);
     match st {
         walks::Step::Found(x, v) => {
             let k = x.key;
@@ -587,14 +633,45 @@ fn pages_next(low: &[u8], c: Cursor) -> Step
 
 // ---- the step
 
-// The entry at a cursor, and the cursor past it.
-pub fn next(list: &[u8], low: &[u8], c: Cursor) -> Step
+// The entry at a cursor of any source, and the cursor past it.
+fn any_next(list: &[u8], low: &[u8], c: Cursor) -> Step
     ensures { λ r. ⌜ r ≡ nextOf (now (list .entry)) (now (low .entry)) c ⌝ }
 {
     if c.kind == Cursor::PAGES {
         return pages_next(low, c);
     }
     list_next(list, c)
+}
+
+// The same. A record list's step stands here, by itself: a build's passes spend their time in it.
+pub fn next(list: &[u8], low: &[u8], c: Cursor) -> Step
+    ensures { λ r. ⌜ r ≡ nextOf (now (list .entry)) (now (low .entry)) c ⌝ }
+{
+    if c.kind != Cursor::RECORDS {
+        let d = c;
+        let st = any_next(list, low, d);
+        return st;
+    }
+    if list.len() <= c.at {
+        return Step::End;
+    }
+    let Spot::At(i, past) = record_at(
+        list,
+        c.at,
+        c.seen,
+        c.key.pat,
+        c.key.plen,
+        c.key.kat,
+        c.key.klen,
+    ) else {
+        return Step::Bad;
+    };
+    let k = i.key;
+    let mut d = c;
+    d.seen = true;
+    d.key = k;
+    d.at = past;
+    Step::Got(i, d)
 }
 
 fn is_wanted(want: bool, old: bool) -> bool
@@ -733,7 +810,7 @@ fn rises_from(list: &[u8], low: &[u8], first: Item, from: Cursor) -> bool
 pub fn rises(list: &[u8], low: &[u8], from: Cursor) -> bool
     ensures { λ r. ⌜ r ≡ rising (entries (now (list .entry)) (now (low .entry)) from) ⌝ }
 {
-    let st = next(list, low, from);
+    let st = any_next(list, low, from);
     match st {
         Step::Got(i, d) => rises_from(list, low, i, d),
         Step::End => true,

@@ -1,5 +1,6 @@
 -- The crate's laws.
 pub mod Turns
+pub mod Compared
 pub mod Halving
 pub mod Opens
 pub mod Rising

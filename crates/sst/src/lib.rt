@@ -1,10 +1,12 @@
 // The three searches of sst.rs: lower bound, floor and search. Each is one halving of a page's slots over a comparison that may refuse.
 ghost use mathlib.Core.Path.{_≡_};
 ghost use Prim.Native.Nat.{_+_, _≤_};
-ghost use lib.ListN.{length};
+ghost use mathlib.Core.Bool.{cond};
+ghost use lib.ListN.{length, drop};
+ghost use Rattle.order.specs.Order.{byNumber, cmpBytes, Lesser};
 ghost use Rattle.frames.specs.Layout.{Inside};
 ghost use Rattle.values.specs.Keys.{skipOf};
-ghost use Rattle.sst.specs.Halve.{asked, lowered, halve};
+ghost use Rattle.sst.specs.Halve.{lowered, halve};
 ghost use Rattle.sst.specs.Search.{newerAt, keyCmp, fitsPrefix, readyAt, halved, outcomeAt, boundIn, floorSlot, pageIn, floorIn, headIn, foundIn, searchAt, floorAt, lowerAt};
 use frames::Addr;
 use frames::Body;
@@ -91,28 +93,6 @@ pub enum Found {
 
 // ---- the comparison
 
-fn ask(c: Order) -> Cmp
-    ensures { λ r. ⌜ r ≡ asked c ⌝ }
-{
-    match c {
-        Order::Less => Cmp::Less,
-        Order::Equal => Cmp::Equal,
-        Order::Greater => Cmp::Greater,
-    }
-}
-
-// A lower bound meets no key: an equal one with a newer version comes before the probe, any other behind it.
-fn lower(c: Cmp, newer: bool) -> Cmp
-    ensures { λ r. ⌜ r ≡ lowered newer c ⌝ }
-{
-    match c {
-        Cmp::Less => Cmp::Less,
-        Cmp::Equal => { if newer { Cmp::Less } else { Cmp::Greater } }
-        Cmp::Greater => Cmp::Greater,
-        Cmp::Refuse => Cmp::Refuse,
-    }
-}
-
 // Whether the version at a place is newer than v; an index key has none.
 fn newer_at(s: &[u8], kind: u8, at: usize, v: Ver) -> bool
     requires { ⌜ at + skipOf kind ≤ length (now s) ⌝ }
@@ -122,6 +102,131 @@ fn newer_at(s: &[u8], kind: u8, at: usize, v: Ver) -> bool
         return false;
     }
     records::ver_at(s, at).newer(v)
+}
+
+// An equal key. A lower bound meets none: one with a newer version comes before the probe, any other behind it.
+fn met(s: &[u8], kind: u8, at: usize, w: Want) -> Cmp
+    requires { ⌜ at + skipOf kind ≤ length (now s) ⌝ }
+    ensures { λ r. ⌜ r ≡ cond (w .lower) (lowered (newerAt (now (s .entry)) kind at (w .ver)) Cmp.Equal) Cmp.Equal ⌝ }
+{
+    if w.lower {
+        if newer_at(s, kind, at, w.ver) {
+            return Cmp::Less;
+        }
+        return Cmp::Greater;
+    }
+    Cmp::Equal
+}
+
+fn lesser(a: usize, b: usize) -> usize
+    ensures { λ r. ⌜ Lesser a b r ⌝ }
+{
+    if a < b { a } else { b }
+}
+
+// How far two strings are the same, eight bytes at a time.
+fn words(a: &[u8], b: &[u8]) -> usize
+    ensures { λ r. ⌜ (r ≤ length (now (a .entry))) × (r ≤ length (now (b .entry))) ⌝ }
+    ensures { λ r. ⌜ cmpBytes (now (a .entry)) (now (b .entry)) ≡ cmpBytes (drop r (now (a .entry))) (drop r (now (b .entry))) ⌝ }
+{
+    let n = lesser(a.len(), b.len());
+    let mut i: usize = 0;
+    while 8 <= n - i {
+        if numbers::read_u64(a, i) != numbers::read_u64(b, i) {
+            return i;
+        }
+        i += 8;
+    }
+    i
+}
+
+fn by_number(a: usize, b: usize) -> Order
+    ensures { λ r. ⌜ r ≡ byNumber a b Order.Equal ⌝ }
+{
+    if a < b {
+        return Order::Less;
+    }
+    if b < a {
+        return Order::Greater;
+    }
+    Order::Equal
+}
+
+// What is left behind index from, byte by byte.
+fn by_ones(a: &[u8], b: &[u8], from: usize) -> Order
+    requires { ⌜ (from ≤ length (now a)) × (from ≤ length (now b)) ⌝ }
+    ensures { λ r. ⌜ r ≡ cmpBytes (drop from (now (a .entry))) (drop from (now (b .entry))) ⌝ }
+{
+    let n = lesser(a.len(), b.len());
+    let mut i = from;
+    while i < n {
+        let x = a[i];
+        let y = b[i];
+        if x < y {
+            return Order::Less;
+        }
+        if y < x {
+            return Order::Greater;
+        }
+        i += 1;
+    }
+    by_number(a.len(), b.len())
+}
+
+// The same, four bytes first.
+fn by_fours(a: &[u8], b: &[u8], from: usize) -> Order
+    requires { ⌜ (from ≤ length (now a)) × (from ≤ length (now b)) ⌝ }
+    ensures { λ r. ⌜ r ≡ cmpBytes (drop from (now (a .entry))) (drop from (now (b .entry))) ⌝ }
+{
+    let n = lesser(a.len(), b.len());
+    if n - from < 4 {
+        return by_ones(a, b, from);
+    }
+    let x = numbers::read_u32_be(a, from);
+    let y = numbers::read_u32_be(b, from);
+    if x < y {
+        return Order::Less;
+    }
+    if y < x {
+        return Order::Greater;
+    }
+    by_ones(a, b, from + 4)
+}
+
+// The same, four bytes twice.
+fn by_eight(a: &[u8], b: &[u8], from: usize) -> Order
+    requires { ⌜ (from + 8 ≤ length (now a)) × (from + 8 ≤ length (now b)) ⌝ }
+    ensures { λ r. ⌜ r ≡ cmpBytes (drop from (now (a .entry))) (drop from (now (b .entry))) ⌝ }
+{
+    let x = numbers::read_u32_be(a, from);
+    let y = numbers::read_u32_be(b, from);
+    if x < y {
+        return Order::Less;
+    }
+    if y < x {
+        return Order::Greater;
+    }
+    let u = numbers::read_u32_be(a, from + 4);
+    let v = numbers::read_u32_be(b, from + 4);
+    if u < v {
+        return Order::Less;
+    }
+    if v < u {
+        return Order::Greater;
+    }
+    by_ones(a, b, from + 4 + 4)
+}
+
+// order::compare in a shape that stands whole in the halving's loop.
+fn against(a: &[u8], b: &[u8]) -> Order
+    ensures { λ r. ⌜ r ≡ cmpBytes (now (a .entry)) (now (b .entry)) ⌝ }
+{
+    let i = words(a, b);
+    let n = lesser(a.len(), b.len());
+    if n - i < 8 {
+        return by_fours(a, b, i);
+    }
+    by_eight(a, b, i)
 }
 
 // The key of slot i against the rest of a probe.
@@ -138,11 +243,11 @@ fn key_cmp(s: &[u8], b: Body, rest: &[u8], w: Want, i: usize) -> Cmp
         return Cmp::Refuse;
     };
     let e = rest_at + rest_len;
-    let c = ask(order::compare(&s[rest_at..e], rest));
-    if w.lower {
-        return lower(c, newer_at(s, b.kind, ver_at, w.ver));
+    match against(&s[rest_at..e], rest) {
+        Order::Less => Cmp::Less,
+        Order::Equal => met(s, b.kind, ver_at, w),
+        Order::Greater => Cmp::Greater,
     }
-    c
 }
 
 // ---- the halving

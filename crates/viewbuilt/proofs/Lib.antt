@@ -1,3 +1,2 @@
 -- The crate's laws.
 pub mod Stored
-pub mod Demands

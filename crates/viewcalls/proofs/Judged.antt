@@ -1,7 +1,7 @@
 -- A leaf build from a record list by document 01's table: where it answers a page, all rows held, and that page says the list.
 -- Assumes nothing.
 use Prim.Native.Nat.{ℕ, _+_, _-_, _^_, _≤_, _<_}
-use mathlib.Core.Path.{_≡_, refl, ap, _∙_, subst}
+use mathlib.Core.Path.{_≡_, refl}
 use mathlib.Core.Bool.{Bool, true}
 use mathlib.Core.List.{List, reverse}
 use native.Mathlib.Omega.{arith}
@@ -9,33 +9,34 @@ use borrow.Author.Tests.{leb-true}
 use lib.IntN.{pos}
 use lib.ListN.{length, take}
 use Rattle.spans.specs.Span.{put}
-use Rattle.spans.proofs.Put.{length-put}
 use Rattle.numbers.specs.Number.{Bytes}
 use Rattle.order.specs.Order.{startsWith}
 use Rattle.frames.specs.declared.Addr.{Addr}
-use Rattle.frames.specs.declared.Refusal.{Refusal}
 use Rattle.frames.specs.Layout.{addr}
 use Rattle.pages.specs.Meaning.{Page, says, meaning}
 use Rattle.sources.specs.Lists.{firstOf}
 use Rattle.sources.specs.Source.{Entry, olds, heads}
-use Rattle.sources.specs.Marks.{Each, Wide, Marked}
+use Rattle.sources.specs.Marks.{Each, Wide}
 use Rattle.sources.proofs.Marked.{list-wide, marked}
 use Rattle.image.specs.declared.Call.{Call}
 use Rattle.image.specs.Prefix.{common}
 use Rattle.image.specs.Image.{Bounds, cutsOf, historyEnd, leafSize, leafRoom, leafImage}
-use Rattle.build.specs.declared.Built.{Built}
-use Rattle.build.specs.Table.{Row, judged, limitOk, budgetOk, boundsOk, entryRows}
-use Rattle.build.proofs.Tables.{All, all-go, passes}
+use Rattle.image.specs.declared.Built.{Built}
+use Rattle.image.specs.Call.{limitOk, budgetOk}
+use Rattle.build.specs.Table.{Row, judged, boundsOk, entryRows}
+use Rattle.build.proofs.Tables.{All}
 use Rattle.base.specs.Calls.{boundsFrom, listed, listRows}
 use Rattle.sst.specs.Search.{lowerAt, searchAt}
 use Rattle.walks.specs.Walk.{forwardAt, backwardAt}
 use Rattle.walks.specs.Listed.{entriesOf, Lists}
 use Rattle.viewhist.specs.Fit.{Numbers}
-use Rattle.viewleaf.specs.Grouped.{grouped, leafPage}
+use Rattle.viewleaf.specs.Grouped.{grouped, leafPage, LeafFit}
 use Rattle.viewread.specs.Asked.{recordsOf, having, between, keyIs, largest, posOf, SearchSays}
 use Rattle.viewread.proofs.Leaves.{lists-all, lists-all-back, lists-range, lists-back, search-list}
-use Rattle.viewbuilt.proofs.Stored.{stored}
-use Rattle.viewcalls.proofs.Leaf.{list-says, list-others}
+use Rattle.viewbuilt.proofs.Stored.{leaf-stored}
+use Rattle.viewcalls.proofs.Listing.{record-each}
+use Rattle.viewcalls.proofs.Fitting.{bounds-fit, call-fits, address-below, leaf-fit}
+use Rattle.viewcalls.proofs.Accepted.{all-hold, after-long, answered-says, answered-others}
 
 -- what row 1 asks of a leaf build
 pub record Limits (m : Call) (lo hi : List ℕ) : Type 0 where
@@ -57,86 +58,62 @@ module _ (a : List ℕ) (next : ℕ) (l : List ℕ) (m : Call) (lo hi : List ℕ
   abbrev rows : List Row
   rows = listRows ok a next l 0 (entryRows (take (common lo hi) lo) es (leafSize m b es + leafRoom m es) (next + length image) (length a))
 
-  abbrev leaf : Addr
-  leaf = addr (historyEnd (m .limit) next (cutsOf m es) (olds es))
+  abbrev at : ℕ
+  at = historyEnd (m .limit) next (cutsOf m es) (olds es)
 
-  module _ (p : Addr) (end : ℕ) (built : judged rows Built.Refused (Built.At leaf (next + length image)) ≡ Built.At p end)
+  module _ (p : Addr) (end : ℕ) (built : judged rows Built.Refused (Built.At (addr at) (next + length image)) ≡ Built.At p end)
       (after : List ℕ) (is : after ≡ judged rows (λ r. a) (put a next image)) where
-    apart : (r : Refusal) → Built.Refused r ≡ Built.At p end → ⊥
-    apart r e = let z : _≡_ {A = ℕ} 0 1 = cc in omega arith
-
-    passed : (Built.At leaf (next + length image) ≡ Built.At p end) × All rows
-    passed = passes Built.Refused (Built.At leaf (next + length image)) rows (Built.At p end) apart built
-
-    pub page-is : leaf ≡ p
-    page-is = let e = passed .0 in cc
-
-    pub end-is : next + length image ≡ end
-    end-is = let e = passed .0 in cc
-
-    after-is : after ≡ put a next image
-    after-is = is ∙ all-go rows (λ r. a) (put a next image) (passed .1)
-
-    below : take end after ≡ stored a next image
-    below = rw (after-is, ← end-is) refl
+    holds : All rows
+    holds = all-hold rows at (next + length image) p end built
 
     room : next + length image ≤ length a
-    room = leb-true (next + length image) (length a) (passed .1 .1 .1 .1 .1 .1 .1 .0)
+    room = leb-true (next + length image) (length a) (holds .1 .1 .1 .1 .1 .1 .0)
+
+    fit : LeafFit (take next a) m b next es
+    fit =
+        let h = holds in
+        let k = limits (h .0) in
+        leaf-fit (take next a) m b next es (next + length image) (length a) (address-below a next word (h .1 .0)) (bounds-fit lo hi sibling id (k .edges))
+        (call-fits m numbers (k .limit) (k .budget)) (record-each l (take next a) bytes (take next a)) (marked l (take next a) (firstOf 0) refl) (h .1 .1 .1)
 
     -- the arena afterwards is one of those that follow
-    pub after-long : end ≤ length after
-    after-long = rw after-is (omega (arith, length-put a next image, room, end-is))
+    pub leaf-long : end ≤ length after
+    leaf-long = after-long rows a next at image p end built room after is
 
     -- ---- on every arena that keeps the bytes below the new next free address
 
     module _ (s : List ℕ) (long : end ≤ length s) (same : take end s ≡ take end after) where
-      long′ : next + length image ≤ length s
-      long′ = omega (arith, end-is)
-
-      same′ : take (next + length image) s ≡ stored a next image
-      same′ = ap (λ (n : ℕ). take n s) end-is ∙ same ∙ below
-
       abbrev pre : List ℕ
       pre = take (common lo hi) lo
-
-      marks : Marked es
-      marks = marked l (take next a) (firstOf 0) refl
 
       wide : Each Wide es
       wide = list-wide l (take next a) (firstOf 0) (λ k. omega arith) bytes
 
       -- the page says the list
       pub leaf-says : meaning s p ≡ says (leafPage b es)
-      leaf-says =
-          let h = passed .1 in
-          let k = limits (h .0) in
-          subst (λ (q : Addr). meaning s q ≡ says (leafPage b es)) page-is
-          (list-says a next l m lo hi sibling bytes word numbers id (k .limit) (k .budget) (k .edges) (h .1 .0) (h .1 .1 .1 .0) (h .1 .1 .1 .1 .0) (h .1 .1 .1 .1 .1 .0) room s long′ same′)
+      leaf-says = answered-says rows a next at image p end built room after is s long same (leafPage b es) (leaf-stored a m b next es fit word room)
 
       -- every page that said something below the old mark still says it
       pub leaf-others : (q : Addr) (r : Page) → meaning (take next a) q ≡ says r → meaning s q ≡ says r
-      leaf-others q r z =
-          let h = passed .1 in
-          let k = limits (h .0) in
-          list-others a next l m lo hi sibling bytes word numbers id (k .limit) (k .budget) (k .edges) (h .1 .0) (h .1 .1 .1 .0) (h .1 .1 .1 .1 .0) (h .1 .1 .1 .1 .1 .0) room s long′ same′ q r z
+      leaf-others = answered-others rows a next at image p end built room after is s long same
 
       -- walked whole, it lists the list
       pub leaf-lists : Lists s pre (forwardAt s p 0 (length (heads es))) (recordsOf es)
-      leaf-lists = lists-all s p b es leaf-says marks
+      leaf-lists = lists-all s p b es leaf-says (fit .marks)
 
       -- backward, the last key first, each key newest first
       pub leaf-all-back : 0 < length (heads es) → Lists s pre (backwardAt s p (pos (length (heads es) - 1)) (pos 0)) (entriesOf (reverse (grouped es)))
-      leaf-all-back l = lists-all-back s p b es leaf-says marks l
+      leaf-all-back l = lists-all-back s p b es leaf-says (fit .marks) l
 
       -- between two lower bounds, the list's records of that range, either way
       pub leaf-range : (x y : List ℕ) → startsWith pre x ≡ true → startsWith pre y ≡ true
           → Lists s pre (forwardAt s p (posOf (lowerAt s p x largest)) (posOf (lowerAt s p y largest))) (recordsOf (having keyIs (between x y) es))
-      leaf-range x y f g = lists-range s p b es leaf-says marks wide x y f g
+      leaf-range x y f g = lists-range s p b es leaf-says (fit .marks) wide x y f g
 
       pub leaf-back : (x y : List ℕ) → startsWith pre x ≡ true → startsWith pre y ≡ true → posOf (lowerAt s p x largest) < posOf (lowerAt s p y largest)
           → Lists s pre (backwardAt s p (pos (posOf (lowerAt s p y largest) - 1)) (pos (posOf (lowerAt s p x largest)))) (entriesOf (reverse (grouped (having keyIs (between x y) es))))
-      leaf-back x y f g h = lists-back s p b es leaf-says marks wide x y f g h
+      leaf-back x y f g h = lists-back s p b es leaf-says (fit .marks) wide x y f g h
 
       -- a search finds the key's first record in the list with all its older versions, or the list has none
       pub leaf-search : (probe : List ℕ) → SearchSays s (leafPage b es) es probe (searchAt s p probe)
-      leaf-search probe = search-list s p b es leaf-says marks probe
+      leaf-search probe = search-list s p b es leaf-says (fit .marks) probe

@@ -1,6 +1,7 @@
 -- The crate's laws.
 pub mod Listing
+pub mod Accepted
+pub mod Fitting
 pub mod Intl
-pub mod Leaf
 pub mod Judged
 pub mod New

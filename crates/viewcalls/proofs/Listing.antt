@@ -14,7 +14,7 @@ use Rattle.sources.proofs.Marked.{short, list-kept, list-wide, list-plain}
 use Rattle.viewhist.specs.Fit.{Fits}
 use Rattle.viewindex.specs.Children.{Leads}
 
-each-both : {A : Type 0} (P Q R : A → Type 0) → ((x : A) → P x → Q x → R x) → (xs : List A) → Each P xs → Each Q xs → Each R xs
+pub each-both : {A : Type 0} (P Q R : A → Type 0) → ((x : A) → P x → Q x → R x) → (xs : List A) → Each P xs → Each Q xs → Each R xs
 unfolding Each
 each-both P Q R f [] p q = tt
 each-both P Q R f (x ∷ xs) p q = (f x (p .0) (q .0), each-both P Q R f xs (p .1) (q .1))

@@ -11,14 +11,17 @@ use Rattle.numbers.specs.Number.{Bytes}
 use Rattle.order.specs.Order.{startsWith}
 use Rattle.frames.specs.declared.Addr.{Addr}
 use Rattle.frames.proofs.Frames.{and-l, and-r}
-use Rattle.pages.specs.Meaning.{Page, says, meaning}
+use Rattle.pages.specs.declared.Checked.{Checked}
+use Rattle.pages.specs.Meaning.{Page, says, meaning, checkOf}
+use Rattle.pages.proofs.Says.{says-checked}
 use Rattle.sources.specs.Source.{Entry, heads}
 use Rattle.image.specs.declared.Call.{Call}
 use Rattle.image.specs.Prefix.{common}
 use Rattle.image.specs.Image.{Bounds}
 use Rattle.totals.specs.Totals.{leafAt}
-use Rattle.build.specs.declared.Built.{Built}
-use Rattle.build.specs.Table.{limitOk, budgetOk, boundsOk, leafLimits}
+use Rattle.image.specs.declared.Built.{Built}
+use Rattle.image.specs.Call.{limitOk, budgetOk}
+use Rattle.build.specs.Table.{boundsOk, leafLimits}
 use Rattle.build.specs.Leaf.{leafEnd}
 use Rattle.base.specs.Calls.{boundsFrom, listed, newAnswer, newArena}
 use Rattle.sst.specs.Search.{lowerAt, searchAt}
@@ -27,7 +30,7 @@ use Rattle.walks.specs.Listed.{entriesOf, Lists}
 use Rattle.viewhist.specs.Fit.{Numbers}
 use Rattle.viewleaf.specs.Grouped.{grouped, leafPage}
 use Rattle.viewread.specs.Asked.{recordsOf, having, between, keyIs, largest, posOf, SearchSays}
-use Rattle.viewcalls.proofs.Judged.{Limits, after-long, leaf-says, leaf-others, leaf-lists, leaf-all-back, leaf-range, leaf-back, leaf-search}
+use Rattle.viewcalls.proofs.Judged.{Limits, leaf-long, leaf-says, leaf-others, leaf-lists, leaf-all-back, leaf-range, leaf-back, leaf-search}
 
 limits : (m : Call) (lo hi : List ℕ) → leafLimits (m .limit) (m .budget) lo hi ≡ true → Limits m lo hi
 limits m lo hi e =
@@ -39,7 +42,7 @@ pub new-long : (a : List ℕ) (next : ℕ) (l : List ℕ) (m : Call) (lo hi : Li
     → (p : Addr) (end : ℕ) → newAnswer a next l m (boundsFrom lo hi sibling) ≡ Built.At p end → end ≤ length (newArena a next l m (boundsFrom lo hi sibling))
 unfolding newAnswer newArena leafEnd leafAt
 new-long a next l m lo hi sibling bytes word numbers id p end built =
-    after-long a next l m lo hi sibling bytes word numbers id (leafLimits (m .limit) (m .budget) lo hi) (limits m lo hi) p end built (newArena a next l m (boundsFrom lo hi sibling)) refl
+    leaf-long a next l m lo hi sibling bytes word numbers id (leafLimits (m .limit) (m .budget) lo hi) (limits m lo hi) p end built (newArena a next l m (boundsFrom lo hi sibling)) refl
 
 -- what the types of the call's arguments say: bytes, and numbers of their widths
 module _ (a : List ℕ) (next : ℕ) (l : List ℕ) (m : Call) (lo hi : List ℕ) (sibling : ℕ) (bytes : Bytes l) (word : length a < 256 ^ 8) (numbers : Numbers m) (id : sibling < 256 ^ 8)
@@ -61,6 +64,10 @@ module _ (a : List ℕ) (next : ℕ) (l : List ℕ) (m : Call) (lo hi : List ℕ
   pub new-says : meaning s p ≡ says (leafPage b es)
   unfolding newAnswer newArena leafEnd leafAt
   new-says = leaf-says a next l m lo hi sibling bytes word numbers id ok (limits m lo hi) p end built (newArena a next l m b) refl s long same
+
+  -- the check says sound
+  pub new-sound : checkOf (meaning s p) ≡ Checked.Sound
+  new-sound = says-checked (meaning s p) (leafPage b es) new-says
 
   -- every page that said something below the old mark still says it
   pub new-others : (q : Addr) (r : Page) → meaning (take next a) q ≡ says r → meaning s q ≡ says r

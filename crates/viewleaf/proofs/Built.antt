@@ -23,6 +23,7 @@ use Rattle.sources.specs.Marks.{Each}
 use Rattle.image.specs.declared.Call.{Call}
 use Rattle.image.specs.Sizes.{pad, fars}
 use Rattle.image.specs.Image.{farFrames, farAddrs, history, historyEnd, starts, histAddrs, Place, places, headRecs, headSlots, hints, Bounds, firstOf, leafSize, cutsOf, leafRoom, oneIf, leafFrame, leafImage}
+use Rattle.image.proofs.Lengths.{only-few}
 use Rattle.image.proofs.Leaf.{length-history, length-head-slots, leaf-hints-fit, leaf-tail-fits, length-leaf-frame, length-leaf-image}
 use Rattle.viewhist.specs.Fit.{Fits, Address}
 use Rattle.viewhist.specs.Rows.{Rows, multis}
@@ -46,15 +47,6 @@ pub each-only : (P : Entry → Type 0) (b : Bool) (es : List Entry) → Each P e
 unfolding Each only
 each-only P b [] h = tt
 each-only P b (e ∷ es) h = each-by (wanted b (e .old)) P e (only b es) (h .0) (each-only P b es (h .1))
-
-few-by : (t : Bool) (e : Entry) (xs : List Entry) (n : ℕ) → length xs ≤ n → length (cond t (e ∷ xs) xs) ≤ suc n
-few-by true e xs n h = omega arith
-few-by false e xs n h = omega arith
-
-pub only-few : (b : Bool) (es : List Entry) → length (only b es) ≤ length es
-unfolding only
-only-few b [] = omega arith
-only-few b (e ∷ es) = few-by (wanted b (e .old)) e (only b es) (length es) (only-few b es)
 
 many-ok : (n : ℕ) → (eqb (oneIf n) 0 || (eqb (oneIf n) 1 && true && true)) ≡ true
 many-ok zero = refl

@@ -27,10 +27,10 @@ use Rattle.viewleaf.proofs.Built.{each-only, body, whole, kind-is, leaf
 
 -- ---- every address is a u64
 
-each-append : (xs ys : List ℕ) → Each Word xs → Each Word ys → Each Word (xs ++ ys)
+pub each-append : {A : Type 0} (P : A → Type 0) (xs ys : List A) → Each P xs → Each P ys → Each P (xs ++ ys)
 unfolding Each
-each-append [] ys p q = q
-each-append (x ∷ xs) ys p q = (p .0, each-append xs ys (p .1) q)
+each-append P [] ys p q = q
+each-append P (x ∷ xs) ys p q = (p .0, each-append P xs ys (p .1) q)
 
 page-end : (limit at : ℕ) (es : List Entry) → at + frameLen (histSize limit es) + fars limit es ≡ pageEnd limit at es
 unfolding pageEnd
@@ -67,7 +67,7 @@ hist-word s limit (n ∷ ns) at es f h =
     let here = take n es in
     let far = at + frameLen (histSize limit here) in
     let next = pageEnd limit at here in
-    each-append (farAddrs limit far here) (histAddrs limit next ns (drop n es)) (addrs-word s limit here far (each-take (Fits s) n es f) (omega (arith, page-end limit at here, end-above limit ns next (drop n es))))
+    each-append Word (farAddrs limit far here) (histAddrs limit next ns (drop n es)) (addrs-word s limit here far (each-take (Fits s) n es f) (omega (arith, page-end limit at here, end-above limit ns next (drop n es))))
     (hist-word s limit ns next (drop n es) (each-drop (Fits s) n es f) h)
 
 -- ---- a room of 0 lists nothing
@@ -158,6 +158,6 @@ module _ (s : List ℕ) (m : Call) (b : Bounds) (first : ℕ) (es : List Entry) 
       let f = leaf-hints-fit m es first far q in
       let hs = histAddrs (m .limit) first (cutsOf m es) (olds es) in
       hint-back s fars-of (hints-at + 4 + 8 * length pages + 4) k
-      (each-append hs (farAddrs (m .limit) far (heads es)) (hist-word s (m .limit) (cutsOf m es) first (olds es) (each-only (Fits s) true es (fit .each)) word)
+      (each-append Word hs (farAddrs (m .limit) far (heads es)) (hist-word s (m .limit) (cutsOf m es) first (olds es) (each-only (Fits s) true es (fit .each)) word)
       (addrs-word s (m .limit) (heads es) far (each-only (Fits s) false es (fit .each)) far-word)) h (omega (arith, whole s m b first es fit lies))
       (remotes-lie s (body s m b first es fit lies) (leafRoom m es) pages fars-of (omega arith) small (leaf-hints-fit m es first far) (hints-lie s m b first es fit lies) q)

@@ -5,6 +5,7 @@ pub mod Steps
 pub mod Listing
 pub mod Says
 pub mod Shorter
+pub mod Turns
 pub mod Held
 pub mod Hands
 pub mod Decided

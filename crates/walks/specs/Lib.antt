@@ -3,3 +3,4 @@ pub mod Walk
 pub mod Refused
 pub mod Listed
 pub mod Cases
+pub mod Turned

@@ -1,168 +1,316 @@
-//! Search, lower bound and full walks of this library beside sst.rs and BaseIter, in one run: the same arena, the same probes in the
-//! same order, both warmed alike, rounds in turn, medians. Ratios are ours to theirs. `tools/bench` builds and runs it.
+//! This library, called through its C interface, beside the Rust (sst.rs, BaseIter, BaseRevIter, base.rs) and two databases in one run:
+//! the same pages, the same probes in the same order, warmed alike, rounds in turn. `tools/bench` builds and runs it and writes
+//! docs/BENCH.md and docs/bench.svg; `--print` only prints, `--only WORD` times the calls whose name has the word.
 
-use oracle::answer::{Bounds, Stamp};
-use oracle::arena::Arena;
-use oracle::list::Entry;
+mod cases;
+mod ffi;
+mod others;
+mod plot;
+mod report;
+mod timing;
+
+use cases::{BOUNDS, BUDGET, Case, LIMIT, PROBES, STAMP};
+use ffi::*;
 use oracle::Ver;
-use std::hint::black_box;
-use std::time::Instant;
+use report::Row;
+use std::time::Duration;
+use timing::{Contestant, Time, race};
 
-unsafe extern "C" {
-    fn ct_search(arena: *const u8, len: usize, addr: u64, key: *const u8, klen: usize) -> u64;
-    fn ct_lower_bound(arena: *const u8, len: usize, addr: u64, key: *const u8, klen: usize, txid: u64, cmd: u32) -> u64;
-    fn ct_walk(arena: *const u8, len: usize, addr: u64, elems: usize) -> u64;
-    fn ct_check(arena: *const u8, len: usize, addr: u64) -> u32;
-    fn ct_new_leaf(
-        arena: *mut u8,
-        len: usize,
-        next: usize,
-        list: *const u8,
-        list_len: usize,
-        none: *const u8,
-        none_len: usize,
-        limit: usize,
-        budget: usize,
-        txid: u64,
-    ) -> u64;
-}
-
-struct Case {
-    arena: Arena,
-    list: Vec<u8>,
-    addr: u64,
-    keys: Vec<Vec<u8>>,
-    probes: Vec<usize>,
-}
-
-/// `n` keys, every third with two older versions, values of eight bytes. Short keys are ours of the aircraft: serial and temperature.
-fn case(n: usize, long: bool) -> Case {
-    let mut x: u64 = 20261115;
-    let mut next = || {
-        x = x.wrapping_mul(6364136223846793005).wrapping_add(1442695040888963407);
-        x >> 33
-    };
-    let mut keys: Vec<Vec<u8>> = (0..n)
-        .map(|i| {
-            let mut k = ((i / 700) as u32 + 7).to_be_bytes().to_vec();
-            k.extend(((i % 700) as u16 * 3 + 30_000).to_be_bytes());
-            if long {
-                k.splice(0..0, b"glacier/northern-icefield/season-2026/line-0042/".iter().copied());
-                k.extend((0..10).map(|j| (i * 31 + j * 7) as u8));
-            }
-            k
-        })
-        .collect();
-    keys.sort();
-    keys.dedup();
-    let values: Vec<[u8; 8]> = (0..3 * n).map(|i| (i as u64).to_le_bytes()).collect();
-    let mut entries = Vec::new();
-    for (i, k) in keys.iter().enumerate() {
-        for v in 0..if i % 3 == 0 { 3 } else { 1 } {
-            entries.push(Entry { key: k, txid: 100 - v, cmd: 0, value: &values[3 * i + v as usize] });
-        }
-    }
-    let mut arena = Arena::new(4096 + entries.len() * 160, 0);
-    let stamp = Stamp { txid: 1, group: 0, lsn: 0, checkpoint: 0 };
-    let bounds = Bounds { lo: &[], hi: &[], sibling: 0 };
-    let built = arena.build_leaf(8, 64, 131_072, &stamp, &bounds, &entries);
-    let list = house(&entries);
-    let count = keys.len();
-    let probes = (0..4096).map(|_| next() as usize % count).collect();
-    Case { arena, list, addr: built.addr, keys, probes }
-}
-
-/// The entries as a record list in document 01's house form.
-fn house(entries: &[Entry]) -> Vec<u8> {
-    let mut body = Vec::new();
-    for e in entries {
-        body.extend((e.key.len() as u16).to_be_bytes());
-        body.extend(e.key);
-        body.extend(e.txid.to_be_bytes());
-        body.extend(e.cmd.to_be_bytes());
-        body.extend((e.value.len() as u32).to_be_bytes());
-        body.extend(e.value);
-    }
-    let mut list = vec![1];
-    list.extend((body.len() as u32).to_be_bytes());
-    list.extend(body);
-    list
-}
-
-/// Builds: ours reads the list, judges it and writes; the Rust has its entries at hand and judges nothing. A record's nanoseconds.
-fn builds(c: &Case) -> (f64, f64, usize) {
-    let entries = oracle::list::entries(&c.list).expect("a list");
-    let (stamp, bounds) = (Stamp { txid: 1, group: 0, lsn: 0, checkpoint: 0 }, Bounds { lo: &[], hi: &[], sibling: 0 });
-    let mut ours = vec![0u8; c.arena.bytes().len()];
-    let mut theirs = Arena::new(ours.len(), 0);
-    let n = entries.len();
-    let none: [u8; 0] = [];
-    let p = ours.as_mut_ptr();
-    // SAFETY: the buffers outlive the calls and do not overlap.
-    let build = || unsafe { ct_new_leaf(p, c.arena.bytes().len(), 8, c.list.as_ptr(), c.list.len(), none.as_ptr(), 0, 64, 131_072, 1) };
-    let (a, b) = timed(n, build, || theirs.build_leaf(8, 64, 131_072, &stamp, &bounds, &entries).next);
-    assert!(ours == c.arena.bytes(), "the bytes differ");
-    (a, b, n)
-}
-
-/// Nanoseconds a call: the median of rounds, ours and theirs in turn.
-fn timed(calls: usize, mut ours: impl FnMut() -> u64, mut theirs: impl FnMut() -> u64) -> (f64, f64) {
-    assert_eq!(ours(), theirs(), "the answers differ");
-    let (mut a, mut b) = (Vec::new(), Vec::new());
-    for _ in 0..31 {
-        let t = Instant::now();
-        black_box(ours());
-        a.push(t.elapsed().as_nanos() as f64 / calls as f64);
-        let t = Instant::now();
-        black_box(theirs());
-        b.push(t.elapsed().as_nanos() as f64 / calls as f64);
-    }
-    a.sort_by(f64::total_cmp);
-    b.sort_by(f64::total_cmp);
-    (a[15], b[15])
-}
+/// Lookups a round, and rounds until the probes begin again.
+const CALLS: usize = 512;
+const ROUNDS: usize = PROBES / CALLS;
+const EACH: Duration = Duration::from_millis(400);
+const NONE: [u8; 0] = [];
 
 fn main() {
-    println!("| call | keys | kind | ours ns | Rust ns | ratio |");
-    println!("|---|---|---|---|---|---|");
+    let args: Vec<String> = std::env::args().skip(1).collect();
+    let only = args
+        .iter()
+        .position(|a| a == "--only")
+        .and_then(|i| args.get(i + 1))
+        .cloned()
+        .unwrap_or_default();
+    let mut rows = Vec::new();
     for long in [false, true] {
         for n in [100, 1_000, 10_000] {
-            let c = case(n, long);
-            let (p, len) = (c.arena.bytes().as_ptr(), c.arena.bytes().len());
-            // SAFETY: the arena and the keys outlive every call.
-            assert_eq!(unsafe { ct_check(p, len, c.addr) }, 0, "the page is not sound");
-            let page = c.arena.leaf_page(c.addr);
-            let kind = if long { "64-byte keys" } else { "6-byte keys" };
-            let elems = c.keys.len();
-            let row = |name: &str, (a, b): (f64, f64)| println!("| {name} | {elems} | {kind} | {a:.1} | {b:.1} | {:.2} |", a / b);
-
-            row(
-                "search",
-                timed(
-                    c.probes.len(),
-                    || c.probes.iter().map(|&i| unsafe { ct_search(p, len, c.addr, c.keys[i].as_ptr(), c.keys[i].len()) } as usize).map(|slot| (slot < elems) as u64).sum(),
-                    || c.probes.iter().map(|&i| page.search(&c.keys[i], &mut ()).is_some() as u64).sum(),
-                ),
-            );
-            row(
-                "lower bound",
-                timed(
-                    c.probes.len(),
-                    || c.probes.iter().map(|&i| unsafe { ct_lower_bound(p, len, c.addr, c.keys[i].as_ptr(), c.keys[i].len(), 50, 0) }).fold(0, u64::wrapping_add),
-                    || c.probes.iter().map(|&i| page.lower_bound(&c.keys[i], Ver::new(50, 0), &mut ()) as u64).fold(0, u64::wrapping_add),
-                ),
-            );
-            let (a, b, _) = builds(&c);
-            row("build, a record", (a, b));
-            let records = elems + 2 * elems.div_ceil(3);
-            row(
-                "walk with history",
-                timed(
-                    records,
-                    || unsafe { ct_walk(p, len, c.addr, elems) },
-                    || page.walk(0, elems).map(|(k, v)| (k.raw.len() + page.value(&v).len()) as u64).sum(),
-                ),
-            );
+            page(&Case::new(n, long), &only, &mut rows);
         }
+    }
+    let table = report::table(&rows);
+    print!("{table}");
+    if !args.iter().any(|a| a == "--print") {
+        report::write(&table, &plot::svg(&rows));
+    }
+}
+
+/// Every row of one page.
+fn page(case: &Case, only: &str, rows: &mut Vec<Row>) {
+    let n = case.keys.len();
+    let mut row =
+        |call: &'static str, calls: usize, contestants: &mut [Contestant], names: &[String]| {
+            if call.contains(only) {
+                eprintln!("{call}, {n} keys of {} bytes", case.keys[0].len());
+                let times: Vec<Time> = race(calls, EACH, contestants);
+                let others = names.iter().cloned().zip(times[2..].iter().copied()).collect();
+                rows.push(Row {
+                    call,
+                    keys: n,
+                    key_len: case.keys[0].len(),
+                    ours: times[0],
+                    rust: times[1],
+                    others,
+                });
+            }
+        };
+    let (arena, built) = case.leaf();
+    let (p, len, addr) = (arena.bytes().as_ptr(), arena.bytes().len(), built.addr);
+    let leaf = arena.leaf_page(addr);
+    // Short rounds, so that few of them meet another program; each takes the next probes, so that all of the page is asked for.
+    let keys = |round: usize| {
+        case.probes[round % ROUNDS * CALLS..][..CALLS].iter().map(|&i| &case.keys[i][..])
+    };
+
+    // A lookup ends with the value's bytes in hand, for everybody.
+    let mut ours = |round| {
+        let mut out = [0u64; 10];
+        keys(round).fold(0, |sum: u64, key| {
+            // SAFETY: here and below, arenas, keys and words outlive the calls.
+            let refused = unsafe {
+                ct_search(p, len, addr, key.as_ptr(), key.len(), out.as_mut_ptr(), out.len())
+            };
+            assert!(refused == 0 && out[0] == 1, "the key is there");
+            sum.wrapping_add(number(&arena.bytes()[out[4] as usize..]))
+        })
+    };
+    let mut rust = |round| {
+        keys(round).fold(0, |sum: u64, key| {
+            sum.wrapping_add(number(
+                leaf.value(&leaf.search(key, &mut ()).expect("the key is there").1),
+            ))
+        })
+    };
+    let newest = || case.keys.iter().enumerate().map(|(i, k)| (&k[..], case.value(i)));
+    let (lmdb, sqlite) = (others::Lmdb::open(newest()), others::Sqlite::open(newest()));
+    let mut from_lmdb = |round| {
+        keys(round)
+            .fold(0, |sum: u64, key| sum.wrapping_add(lmdb.as_ref().map_or(0, |db| db.lookup(key))))
+    };
+    let mut from_sqlite = |round| {
+        keys(round).fold(0, |sum: u64, key| {
+            sum.wrapping_add(sqlite.as_ref().map_or(0, |db| db.lookup(key)))
+        })
+    };
+    let mut lookups: Vec<Contestant> = vec![&mut ours, &mut rust];
+    let mut names = Vec::new();
+    match &lmdb {
+        Some(db) => {
+            lookups.push(&mut from_lmdb);
+            names.push(db.version.clone());
+        }
+        None => eprintln!("LMDB is left out: liblmdb.so is not there (apt-get install liblmdb0)"),
+    }
+    match &sqlite {
+        Some(db) => {
+            lookups.push(&mut from_sqlite);
+            names.push(db.version.clone());
+        }
+        None => eprintln!(
+            "SQLite is left out: libsqlite3.so is not there (apt-get install libsqlite3-0)"
+        ),
+    }
+    row("search", CALLS, &mut lookups, &names);
+
+    let mut ours = |round| {
+        let mut out = [0u64; 10];
+        keys(round).fold(0, |sum, key| {
+            unsafe {
+                ct_lower_bound(
+                    p,
+                    len,
+                    addr,
+                    key.as_ptr(),
+                    key.len(),
+                    50,
+                    0,
+                    out.as_mut_ptr(),
+                    out.len(),
+                )
+            };
+            sum + out[1]
+        })
+    };
+    row(
+        "lower bound",
+        CALLS,
+        &mut [&mut ours, &mut |round| {
+            keys(round).map(|k| leaf.lower_bound(k, Ver::new(50, 0), &mut ()) as u64).sum()
+        }],
+        &[],
+    );
+
+    let (index, root) = case.index();
+    let (ip, ilen) = (index.bytes().as_ptr(), index.bytes().len());
+    let tree = index.index_page(root.addr);
+    let mut ours = |round| {
+        let mut out = [0u64; 10];
+        keys(round).fold(0, |sum, key| {
+            unsafe {
+                ct_floor(ip, ilen, root.addr, key.as_ptr(), key.len(), out.as_mut_ptr(), out.len())
+            };
+            sum + out[2]
+        })
+    };
+    row(
+        "floor",
+        CALLS,
+        &mut [&mut ours, &mut |round| {
+            keys(round).map(|k| tree.floor(k, &mut ()).map_or(0, |f| f.1)).sum()
+        }],
+        &[],
+    );
+
+    // Walks add up the lengths of keys and values.
+    let records = case.entries(0, n).len();
+    let mut rust =
+        |_| leaf.walk(0, n).map(|(k, v)| (k.raw.len() + leaf.value(&v).len()) as u64).sum();
+    row(
+        "walk, whole",
+        records,
+        &mut [&mut |_| unsafe { ct_walk_total(p, len, addr, n) }, &mut rust],
+        &[],
+    );
+    let mut ours = |_| {
+        let mut walk = [0u64; 18];
+        unsafe { ct_forward(p, len, addr, 0, n as u64, walk.as_mut_ptr(), walk.len()) };
+        steps(p, len, &mut walk)
+    };
+    row("walk, by steps", records, &mut [&mut ours, &mut rust], &[]);
+    // The same steps as a Rust user takes them: the iterator of the crate.
+    let view = cresttrestle::View::new(arena.bytes()).page(cresttrestle::Addr::new(addr));
+    let mut ours = |_| {
+        let rows = view.walk(..).expect("a sound page").rows();
+        rows.map(|row| row.expect("a sound page"))
+            .map(|row| (row.key.rest.len() + row.value.len()) as u64)
+            .sum()
+    };
+    row("walk, by the crate", records, &mut [&mut ours, &mut rust], &[]);
+    let mut ours = |_| {
+        let mut walk = [0u64; 18];
+        unsafe { ct_backward(p, len, addr, n as i64 - 1, 0, walk.as_mut_ptr(), walk.len()) };
+        steps(p, len, &mut walk)
+    };
+    let mut rust = |_| {
+        leaf.walk_back(n as isize - 1, 0)
+            .map(|(k, v)| (k.raw.len() + leaf.value(&v).len()) as u64)
+            .sum()
+    };
+    row("walk back, by steps", records, &mut [&mut ours, &mut rust], &[]);
+
+    // The Rust has its entries at hand and judges nothing; ours reads the list, judges it, then writes.
+    let (list, entries) = (case.list(), case.entries(0, n));
+    let (mut mine, mut theirs) = (case.empty(), case.empty());
+    let mut ours = |_| {
+        let (mut out, arena) = ([0u64; 2], mine.bytes_mut());
+        let (none, limit, budget) = (NONE.as_ptr(), LIMIT as u64, BUDGET as u64);
+        unsafe {
+            let (at, len, list, count) =
+                (arena.as_mut_ptr(), arena.len(), list.as_ptr(), list.len());
+            ct_new_leaf(
+                at,
+                len,
+                8,
+                list,
+                count,
+                none,
+                0,
+                none,
+                0,
+                0,
+                limit,
+                budget,
+                0,
+                1,
+                0,
+                0,
+                out.as_mut_ptr(),
+                2,
+            )
+        };
+        out[1]
+    };
+    row(
+        "build",
+        records,
+        &mut [&mut ours, &mut |_| {
+            theirs.build_leaf(8, LIMIT, BUDGET, &STAMP, &BOUNDS, &entries).next
+        }],
+        &[],
+    );
+    assert!(mine.bytes() == theirs.bytes(), "the built bytes differ");
+
+    let (mut mine, left, right) = case.halves();
+    let mut theirs = mine.clone();
+    let mut ours = |_| {
+        let (mut out, arena) = ([0u64; 2], mine.bytes_mut());
+        let (limit, budget) = (LIMIT as u64, BUDGET as u64);
+        unsafe {
+            let (at, len) = (arena.as_mut_ptr(), arena.len());
+            ct_merge(
+                at,
+                len,
+                right.next,
+                left.addr,
+                right.addr,
+                limit,
+                budget,
+                0,
+                1,
+                0,
+                0,
+                out.as_mut_ptr(),
+                2,
+            )
+        };
+        out[1]
+    };
+    row(
+        "merge",
+        records,
+        &mut [&mut ours, &mut |_| {
+            theirs.merge(right.next, LIMIT, BUDGET, &STAMP, left.addr, right.addr).next
+        }],
+        &[],
+    );
+    assert!(mine.bytes() == theirs.bytes(), "the merged bytes differ");
+
+    // mace has no check; the judge's own (rust/oracle/src/model.rs) stands beside ours.
+    let mut ours = |_| unsafe { ct_check(p, len, addr) as u64 };
+    row(
+        "check",
+        records,
+        &mut [&mut ours, &mut |_| oracle::model::check(arena.bytes(), addr).is_err() as u64],
+        &[],
+    );
+}
+
+/// The first eight bytes as a number.
+#[inline]
+fn number(bytes: &[u8]) -> u64 {
+    u64::from_le_bytes(bytes[..8].try_into().expect("eight bytes"))
+}
+
+/// Steps a walk to its end.
+fn steps(arena: *const u8, len: usize, walk: &mut [u64; 18]) -> u64 {
+    let (mut out, mut sum) = ([0u64; 10], 0);
+    loop {
+        // SAFETY: as above.
+        let refused = unsafe {
+            ct_step(arena, len, walk.as_mut_ptr(), walk.len(), out.as_mut_ptr(), out.len())
+        };
+        assert_eq!(refused, 0, "the page is sound");
+        if out[0] == 0 {
+            return sum;
+        }
+        sum += out[2] + out[6];
     }
 }

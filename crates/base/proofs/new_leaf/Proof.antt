@@ -4,7 +4,8 @@ use borrow.Author.Tests.{not-true, not-false}
 use Prim.Native.Nat.{ℕ}
 use denote.Ref.{now}
 use lib.Seq.{length-take-le}
-use Rattle.base.specs.Calls.{callOf, boundsFrom}
+use Rattle.image.specs.Call.{callOf}
+use Rattle.base.specs.Calls.{boundsFrom}
 use Rattle.base.proofs.Calls.{next-low, held, inside, bounds-are, list-bad, at-first, list-is, bounds-ok, sane, new-one, new-two, new-three, new-on}
 use borrow.Author.Needs.{needs}
 use Rattle.base.proofs.new_leaf.Statement.{statement}
@@ -12,10 +13,10 @@ use Rattle.base.proofs.new_leaf.Tie as tie
 use Rattle.base.proofs.new_leaf.Reads as reads
 use Rattle.base.proofs.new_leaf.Lts as lts
 use Rattle.base.proofs.calc_prefix.Reads as calc-prefix-reads
-use Rattle.base.proofs.larger.Reads as larger-reads
+use Rattle.image.proofs.call_of.Reads as call-of-reads
 use Rattle.build.proofs.build_leaf.Reads as build-leaf-reads
 use Rattle.build.proofs.limits_ok.Reads as limits-ok-reads
-use Rattle.build.proofs.next_ok.Reads as next-ok-reads
+use Rattle.image.proofs.next_ok.Reads as next-ok-reads
 use Rattle.edges.proofs.edge_of.Reads as edge-of-reads
 use Rattle.sources.proofs.open_records.Reads as open-records-reads
 use Rattle.sources.proofs.well.Reads as well-reads
@@ -59,8 +60,8 @@ same-length c = search needs
 returns-4 : tie.Need-returns-4
 returns-4 c = new-three _ _ _ (callOf (c .before .before .before .before .before .before .before .before .before .before .before .before .before .before .before .args .limit) (c .before .before .before .before .before .before .before .before .before .before .before .before .before .before .before .args .budget) (c .before .before .before .before .before .before .before .before .before .before .before .before .before .before .before .args .group) (c .before .before .before .before .before .before .before .before .before .before .before .before .before .before .before .args .txid) (c .before .before .before .before .before .before .before .before .before .before .before .before .before .before .before .args .lsn) (c .before .before .before .before .before .before .before .before .before .before .before .before .before .before .before .args .checkpoint)) (boundsFrom (now (c .before .before .before .before .before .before .before .before .before .before .before .before .before .before .before .args .lo)) (now (c .before .before .before .before .before .before .before .before .before .before .before .before .before .before .before .args .hi)) (c .before .before .before .before .before .before .before .before .before .before .before .before .before .before .before .args .sibling .0)) _ (c .before .before .before .before .before .before .before .before .before .before .limits-ok .ensures) (not-false _ (c .before .before .before .before .before .before .before .before .before .if1 .left)) _ (c .before .before .before .before .before .before .before .before .next-ok .ensures) (not-false _ (c .before .before .before .before .before .before .before .if2 .left)) (list-is _ _ _ _ (c .before .before .before .before .before .before .open-records .ensures) _ (c .before .before .before .before .b .given .1) _ (c .before .well .ensures) ∙ not-true _ (c .if3 .taken))
 
-larger-requires : tie.Need-larger-requires
-larger-requires c κs = search needs
+call-of-requires : tie.Need-call-of-requires
+call-of-requires c κs = search needs
 
 edge-of-requires : tie.Need-edge-of-requires
 edge-of-requires c κs = search needs
@@ -72,13 +73,13 @@ calc-prefix-requires : tie.Need-calc-prefix-requires
 calc-prefix-requires c κs = search needs
 
 build-leaf-requires : tie.Need-build-leaf-requires
-build-leaf-requires c κs = (next-low _ _ _ (c .before .before .before .before .before .before .before .before .before .before .before .before .before .next-ok .ensures) (not-false _ (c .before .before .before .before .before .before .before .before .before .before .before .before .if2 .left)), (held (now (c .before .before .before .before .before .before .before .before .before .before .before .before .before .before .before .before .before .before .before .before .args .lo)) (now (c .before .before .before .before .before .before .before .before .before .before .before .before .before .before .before .before .before .before .before .before .args .hi)) _ _ _ _ _ (c .before .before .before .edge-of .ensures) (c .before .before .edge-of2 .ensures) (c .before .calc-prefix .ensures) _ (bounds-ok (c .before .before .before .before .before .before .before .before .before .before .before .before .before .before .before .before .before .before .before .before .args .limit) (c .before .before .before .before .before .before .before .before .before .before .before .before .before .before .before .before .before .before .before .before .args .budget) (now (c .before .before .before .before .before .before .before .before .before .before .before .before .before .before .before .before .before .before .before .before .args .lo)) (now (c .before .before .before .before .before .before .before .before .before .before .before .before .before .before .before .before .before .before .before .before .args .hi)) _ (c .before .before .before .before .before .before .before .before .before .before .before .before .before .before .before .limits-ok .ensures) (not-false _ (c .before .before .before .before .before .before .before .before .before .before .before .before .before .before .if1 .left))) refl, (inside (now (c .before .before .before .before .before .before .before .before .before .before .before .before .before .before .before .before .before .before .before .before .args .lo)) (now (c .before .before .before .before .before .before .before .before .before .before .before .before .before .before .before .before .before .before .before .before .args .hi)) _ _ _ _ _ (c .before .before .before .edge-of .ensures) (c .before .before .edge-of2 .ensures) (c .before .calc-prefix .ensures), sane (c .before .before .before .before .before .before .before .before .before .before .before .before .before .before .before .before .before .before .before .before .args .limit) (c .before .before .before .before .before .before .before .before .before .before .before .before .before .before .before .before .before .before .before .before .args .budget) (now (c .before .before .before .before .before .before .before .before .before .before .before .before .before .before .before .before .before .before .before .before .args .lo)) (now (c .before .before .before .before .before .before .before .before .before .before .before .before .before .before .before .before .before .before .before .before .args .hi)) _ (c .before .before .before .before .before .before .before .before .before .before .before .before .before .before .before .limits-ok .ensures) (not-false _ (c .before .before .before .before .before .before .before .before .before .before .before .before .before .before .if1 .left)) _ _ _)))
+build-leaf-requires c κs = (next-low _ _ _ (c .before .before .before .before .before .before .before .before .before .before .before .before .before .next-ok .ensures) (not-false _ (c .before .before .before .before .before .before .before .before .before .before .before .before .if2 .left)), (held (now (c .before .before .before .before .before .before .before .before .before .before .before .before .before .before .before .before .before .before .before .before .args .lo)) (now (c .before .before .before .before .before .before .before .before .before .before .before .before .before .before .before .before .before .before .before .before .args .hi)) _ _ _ _ _ (c .before .before .before .edge-of .ensures) (c .before .before .edge-of2 .ensures) (c .before .calc-prefix .ensures) _ (bounds-ok (c .before .before .before .before .before .before .before .before .before .before .before .before .before .before .before .before .before .before .before .before .args .limit) (c .before .before .before .before .before .before .before .before .before .before .before .before .before .before .before .before .before .before .before .before .args .budget) (now (c .before .before .before .before .before .before .before .before .before .before .before .before .before .before .before .before .before .before .before .before .args .lo)) (now (c .before .before .before .before .before .before .before .before .before .before .before .before .before .before .before .before .before .before .before .before .args .hi)) _ (c .before .before .before .before .before .before .before .before .before .before .before .before .before .before .before .limits-ok .ensures) (not-false _ (c .before .before .before .before .before .before .before .before .before .before .before .before .before .before .if1 .left))) refl, (inside (now (c .before .before .before .before .before .before .before .before .before .before .before .before .before .before .before .before .before .before .before .before .args .lo)) (now (c .before .before .before .before .before .before .before .before .before .before .before .before .before .before .before .before .before .before .before .before .args .hi)) _ _ _ _ _ (c .before .before .before .edge-of .ensures) (c .before .before .edge-of2 .ensures) (c .before .calc-prefix .ensures), rw (c .before .before .before .before .call-of .ensures) (sane (c .before .before .before .before .before .before .before .before .before .before .before .before .before .before .before .before .before .before .before .before .args .limit) (c .before .before .before .before .before .before .before .before .before .before .before .before .before .before .before .before .before .before .before .before .args .budget) (now (c .before .before .before .before .before .before .before .before .before .before .before .before .before .before .before .before .before .before .before .before .args .lo)) (now (c .before .before .before .before .before .before .before .before .before .before .before .before .before .before .before .before .before .before .before .before .args .hi)) _ (c .before .before .before .before .before .before .before .before .before .before .before .before .before .before .before .limits-ok .ensures) (not-false _ (c .before .before .before .before .before .before .before .before .before .before .before .before .before .before .if1 .left)) _ _ _))))
 
 same-length-2 : tie.Need-same-length-2
 same-length-2 c = search needs
 
 returns-5 : tie.Need-returns-5
-returns-5 c = new-on _ _ _ (callOf (c .before .before .before .before .before .before .before .before .before .before .before .before .before .before .before .before .before .before .before .before .before .before .before .args .limit) (c .before .before .before .before .before .before .before .before .before .before .before .before .before .before .before .before .before .before .before .before .before .before .before .args .budget) (c .before .before .before .before .before .before .before .before .before .before .before .before .before .before .before .before .before .before .before .before .before .before .before .args .group) (c .before .before .before .before .before .before .before .before .before .before .before .before .before .before .before .before .before .before .before .before .before .before .before .args .txid) (c .before .before .before .before .before .before .before .before .before .before .before .before .before .before .before .before .before .before .before .before .before .before .before .args .lsn) (c .before .before .before .before .before .before .before .before .before .before .before .before .before .before .before .before .before .before .before .before .before .before .before .args .checkpoint)) (boundsFrom (now (c .before .before .before .before .before .before .before .before .before .before .before .before .before .before .before .before .before .before .before .before .before .before .before .args .lo)) (now (c .before .before .before .before .before .before .before .before .before .before .before .before .before .before .before .before .before .before .before .before .before .before .before .args .hi)) (c .before .before .before .before .before .before .before .before .before .before .before .before .before .before .before .before .before .before .before .before .before .before .before .args .sibling .0)) _ (c .before .before .before .before .before .before .before .before .before .before .before .before .before .before .before .before .before .before .limits-ok .ensures) (not-false _ (c .before .before .before .before .before .before .before .before .before .before .before .before .before .before .before .before .before .if1 .left)) _ (c .before .before .before .before .before .before .before .before .before .before .before .before .before .before .before .before .next-ok .ensures) (not-false _ (c .before .before .before .before .before .before .before .before .before .before .before .before .before .before .before .if2 .left)) (list-is _ _ _ _ (c .before .before .before .before .before .before .before .before .before .before .before .before .before .before .open-records .ensures) _ (c .before .before .before .before .before .before .before .before .before .before .before .before .b .given .1) _ (c .before .before .before .before .before .before .before .before .before .well .ensures) ∙ not-false _ (c .before .before .before .before .before .before .before .before .if3 .left)) _ _ _ _ _ (ap (λ (k : ℕ). record { limit = c .before .before .before .before .before .before .before .before .before .before .before .before .before .before .before .before .before .before .before .before .before .before .before .args .limit; budget = c .before .before .before .before .before .before .before .before .before .before .before .before .before .before .before .before .before .before .before .before .before .before .before .args .budget; group = c .before .before .before .before .before .before .before .before .before .before .before .before .before .before .before .before .before .before .before .before .before .before .before .args .group; txid = c .before .before .before .before .before .before .before .before .before .before .before .before .before .before .before .before .before .before .before .before .before .before .before .args .txid; lsn = k }) (c .before .before .before .before .before .before .before .larger .ensures)) (bounds-are (now (c .before .before .before .before .before .before .before .before .before .before .before .before .before .before .before .before .before .before .before .before .before .before .before .args .lo)) (now (c .before .before .before .before .before .before .before .before .before .before .before .before .before .before .before .before .before .before .before .before .before .before .before .args .hi)) _ _ _ _ _ (c .before .before .before .before .before .before .edge-of .ensures) (c .before .before .before .before .before .edge-of2 .ensures) (c .before .before .before .before .calc-prefix .ensures)) (at-first _ (now (c .before .before .before .before .before .before .before .before .before .before .before .before .before .before .before .before .before .before .before .before .before .before .before .args .list)) _ _ (c .before .before .before .before .before .before .before .before .before .before .before .before .before .before .open-records .ensures) _ (c .before .before .before .before .before .before .before .before .before .before .before .before .b .given .1)) (c .before .before .build-leaf .ensures .0) (c .before .before .build-leaf .ensures .1)
+returns-5 c = new-on _ _ _ (callOf (c .before .before .before .before .before .before .before .before .before .before .before .before .before .before .before .before .before .before .before .before .before .before .before .args .limit) (c .before .before .before .before .before .before .before .before .before .before .before .before .before .before .before .before .before .before .before .before .before .before .before .args .budget) (c .before .before .before .before .before .before .before .before .before .before .before .before .before .before .before .before .before .before .before .before .before .before .before .args .group) (c .before .before .before .before .before .before .before .before .before .before .before .before .before .before .before .before .before .before .before .before .before .before .before .args .txid) (c .before .before .before .before .before .before .before .before .before .before .before .before .before .before .before .before .before .before .before .before .before .before .before .args .lsn) (c .before .before .before .before .before .before .before .before .before .before .before .before .before .before .before .before .before .before .before .before .before .before .before .args .checkpoint)) (boundsFrom (now (c .before .before .before .before .before .before .before .before .before .before .before .before .before .before .before .before .before .before .before .before .before .before .before .args .lo)) (now (c .before .before .before .before .before .before .before .before .before .before .before .before .before .before .before .before .before .before .before .before .before .before .before .args .hi)) (c .before .before .before .before .before .before .before .before .before .before .before .before .before .before .before .before .before .before .before .before .before .before .before .args .sibling .0)) _ (c .before .before .before .before .before .before .before .before .before .before .before .before .before .before .before .before .before .before .limits-ok .ensures) (not-false _ (c .before .before .before .before .before .before .before .before .before .before .before .before .before .before .before .before .before .if1 .left)) _ (c .before .before .before .before .before .before .before .before .before .before .before .before .before .before .before .before .next-ok .ensures) (not-false _ (c .before .before .before .before .before .before .before .before .before .before .before .before .before .before .before .if2 .left)) (list-is _ _ _ _ (c .before .before .before .before .before .before .before .before .before .before .before .before .before .before .open-records .ensures) _ (c .before .before .before .before .before .before .before .before .before .before .before .before .b .given .1) _ (c .before .before .before .before .before .before .before .before .before .well .ensures) ∙ not-false _ (c .before .before .before .before .before .before .before .before .if3 .left)) _ _ _ _ _ (c .before .before .before .before .before .before .before .call-of .ensures) (bounds-are (now (c .before .before .before .before .before .before .before .before .before .before .before .before .before .before .before .before .before .before .before .before .before .before .before .args .lo)) (now (c .before .before .before .before .before .before .before .before .before .before .before .before .before .before .before .before .before .before .before .before .before .before .before .args .hi)) _ _ _ _ _ (c .before .before .before .before .before .before .edge-of .ensures) (c .before .before .before .before .before .edge-of2 .ensures) (c .before .before .before .before .calc-prefix .ensures)) (at-first _ (now (c .before .before .before .before .before .before .before .before .before .before .before .before .before .before .before .before .before .before .before .before .before .before .before .args .list)) _ _ (c .before .before .before .before .before .before .before .before .before .before .before .before .before .before .open-records .ensures) _ (c .before .before .before .before .before .before .before .before .before .before .before .before .b .given .1)) (c .before .before .build-leaf .ensures .0) (c .before .before .build-leaf .ensures .1)
 
 pub new-leaf-spec : {M : Type 1} → statement M
 new-leaf-spec =
@@ -97,7 +98,7 @@ new-leaf-spec =
     well-requires
     same-length
     returns-4
-    larger-requires
+    call-of-requires
     edge-of-requires
     edge-of-requires-2
     calc-prefix-requires

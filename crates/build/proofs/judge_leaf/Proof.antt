@@ -3,9 +3,9 @@ use mathlib.Core.Path.{_≡_, refl, sym, ap, _∙_}
 use mathlib.Core.Bool.{true}
 use borrow.Author.Tests.{not-true, not-false}
 use denote.Ref.{now}
-use Rattle.image.proofs.Lengths.{frame-most}
+use Rattle.image.proofs.Lengths.{frame-most, only-few}
 use Rattle.build.proofs.Judging.{held-long}
-use Rattle.build.proofs.Leafing.{only-few, room-most, leaf-six, leaf-seven, leaf-many, leaf-large, leaf-full, leaf-fits}
+use Rattle.build.proofs.Leafing.{room-most, leaf-six, leaf-seven, leaf-many, leaf-large, leaf-full, leaf-fits}
 use Rattle.sources.specs.Source.{entries}
 use borrow.Author.Needs.{needs}
 use Rattle.build.proofs.judge_leaf.Statement.{statement}

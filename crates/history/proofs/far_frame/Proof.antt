@@ -1,6 +1,6 @@
 use native.Mathlib.Omega.{arith}
 use mathlib.Core.Path.{_≡_, refl, sym, ap, _∙_}
-use Rattle.history.proofs.Passes.{near-ret, kept-ret, far-asked, far-fit, far-ret}
+use Rattle.history.proofs.Passes.{near-ret, kept-ret, far-asks, far-fit, far-ret}
 use borrow.Author.Needs.{needs}
 use Rattle.history.proofs.far_frame.Statement.{statement}
 use Rattle.history.proofs.far_frame.Tie as tie
@@ -16,7 +16,7 @@ returns-2 : tie.Need-returns-2
 returns-2 c = kept-ret _ _ _ _ (c .before .before .before .before .before .before .before .pre .1 .0) _ _ (c .before .before .if1 .left) (c .if2 .taken)
 
 remote-frame-requires : tie.Need-remote-frame-requires
-remote-frame-requires c κs = (c .before .before .before .before .before .before .before .before .pre .0, (c .before .before .before .before .before .before .before .before .pre .1 .0, far-asked _ _ _ _ (c .before .before .before .before .before .before .before .before .pre .1 .0) (c .before .before .before .before .before .before .before .before .args .a .now) (c .before .before .before .before .before .before .before .before .args .at) (c .before .before .before .if1 .left) (c .before .if2 .left) (c .before .before .before .before .before .before .before .before .pre .1 .1)))
+remote-frame-requires c κs = (c .before .before .before .before .before .before .before .before .pre .0, far-asks _ _ _ _ (c .before .before .before .before .before .before .before .before .pre .1 .0) (c .before .before .before .before .before .before .before .before .args .a .now) (c .before .before .before .before .before .before .before .before .args .at) (c .before .before .before .if1 .left) (c .before .if2 .left) (c .before .before .before .before .before .before .before .before .pre .1 .1))
 
 add-frame-len : tie.Need-add-frame-len
 add-frame-len c = search needs

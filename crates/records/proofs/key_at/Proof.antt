@@ -17,13 +17,13 @@ returns : tie.Need-returns
 unfolding keyAtSlot
 returns c = simp (← c .before .before .slot-at .ensures, c .enum-told .given .1)
 
-key-in-requires : tie.Need-key-in-requires
-key-in-requires c κs = search needs
+short-key-requires : tie.Need-short-key-requires
+short-key-requires c κs = search needs
 
 returns-2 : tie.Need-returns-2
 unfolding keyAtSlot
-returns-2 c = simp (← c .before .before .before .before .slot-at .ensures, c .before .before .p .given .1, c .key-in .ensures)
+returns-2 c = simp (← c .before .before .before .before .slot-at .ensures, c .before .before .p .given .1, c .short-key .ensures)
 
 pub key-at-spec : {M : Type 1} → statement M
 key-at-spec =
-    tie.close (tie.spec slot-at-requires enum-known-p enum-told returns key-in-requires returns-2)
+    tie.close (tie.spec slot-at-requires enum-known-p enum-told returns short-key-requires returns-2)

@@ -11,10 +11,10 @@ use Rattle.replay.proofs.turn.Reads as turn-reads
 use Rattle.text.proofs.find.Reads as find-reads
 
 abbrev Inv-loop : tie.InvT-loop
-Inv-loop t arena₀ key₀ hi₀ list₀ at₀ now₀ arena key hi list at now = (at ≤ length t) × (length arena ≡ length arena₀) × (length key ≡ length key₀) × (length hi ≡ length hi₀) × (length list ≡ length list₀)
+Inv-loop t arena₀ second₀ at₀ now₀ arena second at now = (at ≤ length t) × (length arena ≡ length arena₀) × (length second ≡ length second₀)
 
 abbrev μ-loop : tie.MeasureT-loop
-μ-loop t arena₀ key₀ hi₀ list₀ at₀ now₀ arena key hi list at now = length t - at
+μ-loop t arena₀ second₀ at₀ now₀ arena second at now = length t - at
 
 loop-holds : tie.Need-loop-holds Inv-loop μ-loop
 loop-holds c = search needs
@@ -27,12 +27,6 @@ same-length c = search needs
 
 same-length-2 : tie.Need-same-length-2 Inv-loop μ-loop
 same-length-2 c = search needs
-
-same-length-3 : tie.Need-same-length-3 Inv-loop μ-loop
-same-length-3 c = search needs
-
-same-length-4 : tie.Need-same-length-4 Inv-loop μ-loop
-same-length-4 c = search needs
 
 returns : tie.Need-returns Inv-loop μ-loop
 returns c = search needs
@@ -53,22 +47,16 @@ add-at : tie.Need-add-at Inv-loop μ-loop
 add-at c = search needs
 
 loop-less : tie.Need-loop-less Inv-loop μ-loop
-loop-less c = omega (arith, c .before .before .before .before .before .before .before .before .before .before .before .before .before .before .before .find .ensures .from)
+loop-less c = omega (arith, c .before .before .before .before .before .before .before .before .before .find .ensures .from)
 
 loop-again : tie.Need-loop-again Inv-loop μ-loop
-loop-again c = (omega arith, omega (arith, c .before .before .before .before .before .before .before .before .turn .kept .1 .0), omega (arith, c .before .before .before .before .before .before .before .before .turn .kept .1 .1 .0), omega (arith, c .before .before .before .before .before .before .before .before .turn .kept .1 .1 .1 .0), omega (arith, c .before .before .before .before .before .before .before .before .turn .kept .1 .1 .1 .1 .0))
+loop-again c = (omega arith, omega (arith, c .before .before .before .before .turn .kept .1 .0), omega (arith, c .before .before .before .before .turn .kept .1 .1 .0))
 
-same-length-5 : tie.Need-same-length-5 Inv-loop μ-loop
-same-length-5 c = search needs
+same-length-3 : tie.Need-same-length-3 Inv-loop μ-loop
+same-length-3 c = search needs
 
-same-length-6 : tie.Need-same-length-6 Inv-loop μ-loop
-same-length-6 c = search needs
-
-same-length-7 : tie.Need-same-length-7 Inv-loop μ-loop
-same-length-7 c = search needs
-
-same-length-8 : tie.Need-same-length-8 Inv-loop μ-loop
-same-length-8 c = search needs
+same-length-4 : tie.Need-same-length-4 Inv-loop μ-loop
+same-length-4 c = search needs
 
 returns-2 : tie.Need-returns-2 Inv-loop μ-loop
 returns-2 c = search needs
@@ -83,8 +71,6 @@ lines-spec =
     find-requires
     same-length
     same-length-2
-    same-length-3
-    same-length-4
     returns
     sub-turn
     part-turn-start
@@ -93,8 +79,6 @@ lines-spec =
     add-at
     loop-less
     loop-again
-    same-length-5
-    same-length-6
-    same-length-7
-    same-length-8
+    same-length-3
+    same-length-4
     returns-2)

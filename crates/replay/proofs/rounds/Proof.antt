@@ -11,10 +11,10 @@ use Rattle.replay.proofs.carried.Reads as carried-reads
 use Rattle.replay.proofs.filled.Reads as filled-reads
 
 abbrev Inv-loop : tie.InvT-loop
-Inv-loop buf₀ arena₀ key₀ hi₀ list₀ have₀ st₀ k₀ buf arena key hi list have st k = (length buf ≡ length buf₀) × (length arena ≡ length arena₀) × (length key ≡ length key₀) × (length hi ≡ length hi₀) × (length list ≡ length list₀) × (k ≤ 256)
+Inv-loop buf₀ arena₀ second₀ have₀ st₀ k₀ buf arena second have st k = (length buf ≡ length buf₀) × (length arena ≡ length arena₀) × (length second ≡ length second₀) × (k ≤ 256)
 
 abbrev μ-loop : tie.MeasureT-loop
-μ-loop buf₀ arena₀ key₀ hi₀ list₀ have₀ st₀ k₀ buf arena key hi list have st k = 256 - k
+μ-loop buf₀ arena₀ second₀ have₀ st₀ k₀ buf arena second have st k = 256 - k
 
 loop-holds : tie.Need-loop-holds Inv-loop μ-loop
 loop-holds c = search needs
@@ -43,12 +43,6 @@ same-length-2 c = search needs
 same-length-3 : tie.Need-same-length-3 Inv-loop μ-loop
 same-length-3 c = search needs
 
-same-length-4 : tie.Need-same-length-4 Inv-loop μ-loop
-same-length-4 c = search needs
-
-same-length-5 : tie.Need-same-length-5 Inv-loop μ-loop
-same-length-5 c = search needs
-
 returns : tie.Need-returns Inv-loop μ-loop
 returns c = search needs
 
@@ -67,6 +61,4 @@ rounds-spec =
     same-length
     same-length-2
     same-length-3
-    same-length-4
-    same-length-5
     returns)

@@ -1,26 +1,46 @@
-use borrow.Author.Tests.{eq-eqb, ne-eqb}
-use Rattle.sources.specs.Source.{nextOf}
+-- `sources::next` meets its contract. Assumes nothing.
+use mathlib.Core.Path.{sym, ap, _∙_}
+use Rattle.sources.specs.Source.{stepOf}
+use Rattle.sources.proofs.Stepped.{record-bare, record-end, record-on}
 use borrow.Author.Needs.{needs}
 use Rattle.sources.proofs.next.Statement.{statement}
 use Rattle.sources.proofs.next.Tie as tie
-use Rattle.sources.proofs.next.Reads as reads
-use Rattle.sources.proofs.next.Lts as lts
-use Rattle.sources.proofs.list_next.Reads as list-next-reads
-use Rattle.sources.proofs.pages_next.Reads as pages-next-reads
 
-pages-next-requires : tie.Need-pages-next-requires
-pages-next-requires c κs = search needs
+any-next-requires : tie.Need-any-next-requires
+any-next-requires c κs = search needs
 
 returns : tie.Need-returns
-unfolding nextOf
-returns c = rw (eq-eqb _ _ (c .before .if1 .taken)) (c .pages-next .ensures)
-
-list-next-requires : tie.Need-list-next-requires
-list-next-requires c κs = search needs
+returns c = c .any-next .ensures
 
 returns-2 : tie.Need-returns-2
-unfolding nextOf
-returns-2 c = rw (ne-eqb _ _ (c .before .if1 .left)) (c .list-next .ensures)
+returns-2 c = record-end (c .before .before .before .before .before .before .args .list .now) (c .before .before .before .before .before .before .args .low .now) (c .before .before .before .before .before .before .args .c) (c .before .before .if1 .left) (c .if2 .taken)
+
+record-at-requires : tie.Need-record-at-requires
+record-at-requires c κs = search needs
+
+enum-known-i : tie.Need-enum-known-i
+enum-known-i c = search needs
+
+enum-told : tie.Need-enum-told
+enum-told c = search needs
+
+returns-3 : tie.Need-returns-3
+unfolding stepOf
+returns-3 c = ap (stepOf (c .before .before .before .before .before .before .before .before .before .args .c)) (sym (c .enum-told .given .1) ∙ c .before .before .record-at .ensures ∙ record-bare (c .before .before .before .before .before .before .before .before .before .args .list .now) (c .before .before .before .before .before .before .before .before .before .args .c)) ∙ record-on (c .before .before .before .before .before .before .before .before .before .args .list .now) (c .before .before .before .before .before .before .before .before .before .args .low .now) (c .before .before .before .before .before .before .before .before .before .args .c) (c .before .before .before .before .before .if1 .left) (c .before .before .before .if2 .left)
+
+returns-4 : tie.Need-returns-4
+unfolding stepOf
+returns-4 c = ap (stepOf (c .before .before .before .before .before .before .before .before .before .before .before .args .c)) (sym (c .before .before .i .given .1) ∙ c .before .before .before .before .record-at .ensures ∙ record-bare (c .before .before .before .before .before .before .before .before .before .before .before .args .list .now) (c .before .before .before .before .before .before .before .before .before .before .before .args .c)) ∙ record-on (c .before .before .before .before .before .before .before .before .before .before .before .args .list .now) (c .before .before .before .before .before .before .before .before .before .before .before .args .low .now) (c .before .before .before .before .before .before .before .before .before .before .before .args .c) (c .before .before .before .before .before .before .before .if1 .left) (c .before .before .before .before .before .if2 .left)
 
 pub next-spec : {M : Type 1} → statement M
-next-spec = tie.close (tie.spec pages-next-requires returns list-next-requires returns-2)
+next-spec =
+    tie.close
+    (tie.spec
+    any-next-requires
+    returns
+    returns-2
+    record-at-requires
+    enum-known-i
+    enum-told
+    returns-3
+    returns-4)

@@ -6,11 +6,11 @@ use Rattle.sources.proofs.rises.Statement.{statement}
 use Rattle.sources.proofs.rises.Tie as tie
 use Rattle.sources.proofs.rises.Reads as reads
 use Rattle.sources.proofs.rises.Lts as lts
-use Rattle.sources.proofs.next.Reads as next-reads
+use Rattle.sources.proofs.any_next.Reads as any-next-reads
 use Rattle.sources.proofs.rises_from.Reads as rises-from-reads
 
-next-requires : tie.Need-next-requires
-next-requires c κs = search needs
+any-next-requires : tie.Need-any-next-requires
+any-next-requires c κs = search needs
 
 enum-known-st : tie.Need-enum-known-st
 enum-known-st c = search needs
@@ -25,19 +25,19 @@ enum-told-2 : tie.Need-enum-told-2
 enum-told-2 c = search needs
 
 returns : tie.Need-returns
-returns c = rises-on _ _ _ _ _ (got _ _ _ _ _ refl (c .before .before .before .before .next .ensures) _ _ (c .before .before .st .given .1)) _ (c .rises-from .ensures)
+returns c = rises-on _ _ _ _ _ (got _ _ _ _ _ refl (c .before .before .before .before .any-next .ensures) _ _ (c .before .before .st .given .1)) _ (c .rises-from .ensures)
 
 returns-2 : tie.Need-returns-2
-returns-2 c = rises-end _ _ _ (at-end _ _ _ _ _ refl (c .before .before .next .ensures) (c .enum-told .given .1) .0)
+returns-2 c = rises-end _ _ _ (at-end _ _ _ _ _ refl (c .before .before .any-next .ensures) (c .enum-told .given .1) .0)
 
 returns-3 : tie.Need-returns-3
-returns-3 c = rises-end _ _ _ (at-bad _ _ _ _ _ refl (c .before .before .next .ensures) (c .enum-told2 .given .1) .0)
+returns-3 c = rises-end _ _ _ (at-bad _ _ _ _ _ refl (c .before .before .any-next .ensures) (c .enum-told2 .given .1) .0)
 
 pub rises-spec : {M : Type 1} → statement M
 rises-spec =
     tie.close
     (tie.spec
-    next-requires
+    any-next-requires
     enum-known-st
     rises-from-requires
     enum-told

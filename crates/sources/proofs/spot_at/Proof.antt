@@ -1,12 +1,11 @@
+-- `sources::spot_at` meets its contract. Assumes nothing.
+use mathlib.Core.Path.{_∙_}
 use borrow.Author.Tests.{eq-eqb, ne-eqb}
 use Rattle.sources.specs.Lists.{spotAt}
+use Rattle.sources.proofs.Stepped.{record-bare}
 use borrow.Author.Needs.{needs}
 use Rattle.sources.proofs.spot_at.Statement.{statement}
 use Rattle.sources.proofs.spot_at.Tie as tie
-use Rattle.sources.proofs.spot_at.Reads as reads
-use Rattle.sources.proofs.spot_at.Lts as lts
-use Rattle.sources.proofs.index_at.Reads as index-at-reads
-use Rattle.sources.proofs.record_at.Reads as record-at-reads
 
 index-at-requires : tie.Need-index-at-requires
 index-at-requires c κs = search needs
@@ -20,7 +19,7 @@ record-at-requires c κs = search needs
 
 returns-2 : tie.Need-returns-2
 unfolding spotAt
-returns-2 c = rw (ne-eqb _ _ (c .before .if1 .left)) (c .record-at .ensures)
+returns-2 c = rw (ne-eqb _ _ (c .before .if1 .left)) (c .record-at .ensures ∙ record-bare (c .before .before .before .before .args .s .now) (c .before .before .before .before .args .c))
 
 pub spot-at-spec : {M : Type 1} → statement M
 spot-at-spec = tie.close (tie.spec index-at-requires returns record-at-requires returns-2)

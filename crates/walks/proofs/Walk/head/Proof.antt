@@ -3,9 +3,8 @@ use native.Mathlib.Omega.{arith}
 use mathlib.Core.Path.{_≡_, sym, _∙_}
 use denote.Ref.{now}
 use borrow.Author.Tests.{eq-eqb, ne-eqb}
-use lib.IntN.{pos}
 use Rattle.records.proofs.Inside.{at-inside, at-slot, ver-inside}
-use Rattle.walks.specs.Walk.{bodyIn, kindOfWay, itemOf, headStep}
+use Rattle.walks.specs.Walk.{bodyIn, kindOfWay, headStep}
 use Rattle.walks.proofs.Lying.{read-inside, index-value}
 use borrow.Author.Needs.{needs}
 use Rattle.walks.proofs.Walk.head.Statement.{statement}
@@ -60,24 +59,24 @@ returns-3 : tie.Need-returns-3
 unfolding headStep
 returns-3 c = simp (← c .before .before .before .before .before .before .before .before .before .before .kind-of .ensures, ← c .before .before .before .before .before .before .before .before .before .read .ensures, c .before .before .before .before .before .before .before .r .given .1, ne-eqb _ _ (c .before .before .before .before .if1 .left), ← c .before .before .enter .ensures, c .enum-told2 .given .1)
 
-ver-at-requires : tie.Need-ver-at-requires
+item-of-requires : tie.Need-item-of-requires
 unfolding kindOfWay
-ver-at-requires c κs =
-    let g = read-inside (now (c .before .before .before .before .before .before .before .before .before .before .before .before .before .before .before .before .before .args .s)) (c .before .before .before .before .before .before .before .before .before .before .before .before .before .before .before .before .before .args .self .page) (kindOfWay (c .before .before .before .before .before .before .before .before .before .before .before .before .before .before .before .before .before .args .self .way)) (c .before .before .before .before .before .before .before .before .before .before .before .before .before .before .before .before .before .args .self .pos) (c .before .before .before .before .before .before .before .before .before .before .r .given .0 .0) (rw (c .before .before .before .before .before .before .before .before .before .before .before .before .before .kind-of .ensures) at (sym (c .before .before .before .before .before .before .before .before .before .before .before .before .read .ensures) ∙ c .before .before .before .before .before .before .before .before .before .before .r .given .1)) in
+item-of-requires c κs =
+    let g = read-inside (now (c .before .before .before .before .before .before .before .before .before .before .before .before .before .before .before .before .args .s)) (c .before .before .before .before .before .before .before .before .before .before .before .before .before .before .before .before .args .self .page) (kindOfWay (c .before .before .before .before .before .before .before .before .before .before .before .before .before .before .before .before .args .self .way)) (c .before .before .before .before .before .before .before .before .before .before .before .before .before .before .before .before .args .self .pos) (c .before .before .before .before .before .before .before .before .before .r .given .0 .0) (rw (c .before .before .before .before .before .before .before .before .before .before .before .before .kind-of .ensures) at (sym (c .before .before .before .before .before .before .before .before .before .before .before .read .ensures) ∙ c .before .before .before .before .before .before .before .before .before .r .given .1)) in
     let i = g .0 in
-    let e : kindOfWay (c .before .before .before .before .before .before .before .before .before .before .before .before .before .before .before .before .before .args .self .way) ≡ 0 = rw (ne-eqb _ _ (c .before .before .before .before .before .before .before .if1 .left)) in
-    ver-inside (now (c .before .before .before .before .before .before .before .before .before .before .before .before .before .before .before .before .before .args .s)) (bodyIn (c .before .before .before .before .before .before .before .before .before .before .before .before .before .before .before .before .before .args .self .page) (kindOfWay (c .before .before .before .before .before .before .before .before .before .before .before .before .before .before .before .before .before .args .self .way))) (c .before .before .before .before .before .before .before .before .before .before .before .before .before .before .before .before .before .args .self .pos) (c .before .before .before .before .before .before .before .before .before .before .r .given .0 .0) i (λ z. omega (arith, z, e)) (g .1)
+    let e : kindOfWay (c .before .before .before .before .before .before .before .before .before .before .before .before .before .before .before .before .args .self .way) ≡ 0 = rw (ne-eqb _ _ (c .before .before .before .before .before .before .if1 .left)) in
+    ver-inside (now (c .before .before .before .before .before .before .before .before .before .before .before .before .before .before .before .before .args .s)) (bodyIn (c .before .before .before .before .before .before .before .before .before .before .before .before .before .before .before .before .args .self .page) (kindOfWay (c .before .before .before .before .before .before .before .before .before .before .before .before .before .before .before .before .args .self .way))) (c .before .before .before .before .before .before .before .before .before .before .before .before .before .before .before .before .args .self .pos) (c .before .before .before .before .before .before .before .before .before .r .given .0 .0) i (λ z. omega (arith, z, e)) (g .1)
 
 on-requires-2 : tie.Need-on-requires-2
 on-requires-2 c κs =
-    let g = read-inside (now (c .before .before .before .before .before .before .before .before .before .before .before .before .before .before .before .before .before .before .args .s)) (c .before .before .before .before .before .before .before .before .before .before .before .before .before .before .before .before .before .before .args .self .page) (kindOfWay (c .before .before .before .before .before .before .before .before .before .before .before .before .before .before .before .before .before .before .args .self .way)) (c .before .before .before .before .before .before .before .before .before .before .before .before .before .before .before .before .before .before .args .self .pos) (c .before .before .before .before .before .before .before .before .before .before .before .r .given .0 .0) (rw (c .before .before .before .before .before .before .before .before .before .before .before .before .before .before .kind-of .ensures) at (sym (c .before .before .before .before .before .before .before .before .before .before .before .before .before .read .ensures) ∙ c .before .before .before .before .before .before .before .before .before .before .before .r .given .1)) in
+    let g = read-inside (now (c .before .before .before .before .before .before .before .before .before .before .before .before .before .before .before .before .before .args .s)) (c .before .before .before .before .before .before .before .before .before .before .before .before .before .before .before .before .before .args .self .page) (kindOfWay (c .before .before .before .before .before .before .before .before .before .before .before .before .before .before .before .before .before .args .self .way)) (c .before .before .before .before .before .before .before .before .before .before .before .before .before .before .before .before .before .args .self .pos) (c .before .before .before .before .before .before .before .before .before .before .r .given .0 .0) (rw (c .before .before .before .before .before .before .before .before .before .before .before .before .before .kind-of .ensures) at (sym (c .before .before .before .before .before .before .before .before .before .before .before .before .read .ensures) ∙ c .before .before .before .before .before .before .before .before .before .before .r .given .1)) in
     let i = g .0 in
-    let h = at-slot (now (c .before .before .before .before .before .before .before .before .before .before .before .before .before .before .before .before .before .before .args .s)) (bodyIn (c .before .before .before .before .before .before .before .before .before .before .before .before .before .before .before .before .before .before .args .self .page) (kindOfWay (c .before .before .before .before .before .before .before .before .before .before .before .before .before .before .before .before .before .before .args .self .way))) (c .before .before .before .before .before .before .before .before .before .before .before .before .before .before .before .before .before .before .args .self .pos) (c .before .before .before .before .before .before .before .before .before .before .before .r .given .0 .0) (g .1) in
-    (omega (arith, h, i .records, i .payload, i .arena, c .before .before .before .before .before .before .before .before .before .before .before .before .before .before .before .before .before .before .good), c .before .before .before .before .before .before .before .before .before .before .before .before .before .before .before .before .before .before .pre)
+    let h = at-slot (now (c .before .before .before .before .before .before .before .before .before .before .before .before .before .before .before .before .before .args .s)) (bodyIn (c .before .before .before .before .before .before .before .before .before .before .before .before .before .before .before .before .before .args .self .page) (kindOfWay (c .before .before .before .before .before .before .before .before .before .before .before .before .before .before .before .before .before .args .self .way))) (c .before .before .before .before .before .before .before .before .before .before .before .before .before .before .before .before .before .args .self .pos) (c .before .before .before .before .before .before .before .before .before .before .r .given .0 .0) (g .1) in
+    (omega (arith, h, i .records, i .payload, i .arena, c .before .before .before .before .before .before .before .before .before .before .before .before .before .before .before .before .before .good), c .before .before .before .before .before .before .before .before .before .before .before .before .before .before .before .before .before .pre)
 
 returns-4 : tie.Need-returns-4
-unfolding headStep itemOf
-returns-4 c = simp (← c .before .before .before .before .before .before .before .before .before .before .before .before .before .before .before .kind-of .ensures, ← c .before .before .before .before .before .before .before .before .before .before .before .before .before .before .read .ensures, c .before .before .before .before .before .before .before .before .before .before .before .before .r .given .1, ne-eqb _ _ (c .before .before .before .before .before .before .before .before .before .if1 .left), ← c .before .before .before .before .before .before .before .enter .ensures, c .before .before .before .before .before .past .given .1, c .before .ver-at .ensures, c .on2 .ensures)
+unfolding headStep
+returns-4 c = simp (← c .before .before .before .before .before .before .before .before .before .before .before .before .before .before .kind-of .ensures, ← c .before .before .before .before .before .before .before .before .before .before .before .before .before .read .ensures, c .before .before .before .before .before .before .before .before .before .before .before .r .given .1, ne-eqb _ _ (c .before .before .before .before .before .before .before .before .if1 .left), ← c .before .before .before .before .before .before .enter .ensures, c .before .before .before .before .past .given .1, c .before .item-of .ensures, c .on2 .ensures)
 
 pub head-spec : {M : Type 1} → statement M
 head-spec =
@@ -95,6 +94,6 @@ head-spec =
     enum-known-past
     enum-told-2
     returns-3
-    ver-at-requires
+    item-of-requires
     on-requires-2
     returns-4)

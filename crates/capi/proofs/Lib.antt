@@ -1,0 +1,4 @@
+pub mod Laws
+pub mod Decided
+pub mod Looping
+pub mod Totals

@@ -1,0 +1,22 @@
+-- `capi::ct_history_hints` meets its contract. Assumes nothing.
+use Rattle.pages.specs.Refused.{hintsNumber}
+use Rattle.capi.specs.Words.{hintsWords}
+use Rattle.capi.proofs.Laws.{told}
+use borrow.Author.Needs.{needs}
+use Rattle.capi.proofs.ct_history_hints.Statement.{statement}
+use Rattle.capi.proofs.ct_history_hints.Tie as tie
+
+history-hints-requires : tie.Need-history-hints-requires
+history-hints-requires c κs = search needs
+
+tell-hints-requires : tie.Need-tell-hints-requires
+tell-hints-requires c κs = search needs
+
+same-length : tie.Need-same-length
+same-length c = search needs
+
+returns : tie.Need-returns
+returns c = told hintsNumber hintsWords _ (c .before .before .before .before .history-hints .ensures) (c .before .before .tell-hints .ensures)
+
+pub ct-history-hints-spec : {M : Type 1} → statement M
+ct-history-hints-spec = tie.close (tie.spec history-hints-requires tell-hints-requires same-length returns)

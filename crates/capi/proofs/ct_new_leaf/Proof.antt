@@ -1,0 +1,28 @@
+-- `capi::ct_new_leaf` meets its contract. Assumes nothing.
+use denote.Ref.{now}
+use Rattle.image.specs.Call as call
+use Rattle.capi.specs.Words.{builtWords}
+use Rattle.capi.proofs.Laws.{told}
+use borrow.Author.Needs.{needs}
+use Rattle.capi.proofs.ct_new_leaf.Statement.{statement}
+use Rattle.capi.proofs.ct_new_leaf.Tie as tie
+
+new-leaf-requires : tie.Need-new-leaf-requires
+new-leaf-requires c κs = search needs
+
+tell-built-requires : tie.Need-tell-built-requires
+tell-built-requires c κs = search needs
+
+same-length : tie.Need-same-length
+same-length c = search needs
+
+same-length-2 : tie.Need-same-length-2
+same-length-2 c = search needs
+
+returns : tie.Need-returns
+returns c =
+    let t = told call.builtNumber builtWords (now (c .before .before .before .before .before .before .before .before .before .before .before .before .before .args .out)) (c .before .before .before .before .before .before .new-leaf .ensures .0) (c .before .before .tell-built .ensures) in
+    (t .0, (c .before .before .before .before .before .before .new-leaf .ensures .1, t .1))
+
+pub ct-new-leaf-spec : {M : Type 1} → statement M
+ct-new-leaf-spec = tie.close (tie.spec new-leaf-requires tell-built-requires same-length same-length-2 returns)

@@ -1,0 +1,68 @@
+-- What the short ways read: a key whose length is one byte, an old version's key, a value that stands in its page.
+-- Assumes nothing.
+use Prim.Native.Nat.{ℕ, _+_, _-_, _≤_, _<_}
+use mathlib.Core.Path.{_≡_, refl, sym, ap, _∙_}
+use mathlib.Core.Bool.{Bool, true, false, cond}
+use mathlib.Core.List.{List}
+use native.Mathlib.Omega.{arith}
+use borrow.Author.Tests.{le-leb, lt-leb, le-ltb, lt-ltb, eq-eqb, ne-eqb}
+use lib.ListN.{length, getD, take}
+use lib.Dec.{leb, ltb, eqb}
+use Rattle.lengths.proofs.Laws.{read-one}
+use Rattle.frames.specs.declared.Body.{Body}
+use Rattle.frames.specs.Layout.{addr, Inside}
+use Rattle.values.specs.declared.HistRef.{HistRef}
+use Rattle.values.specs.declared.Val.{Val}
+use Rattle.values.specs.declared.KeyRead.{KeyRead}
+use Rattle.values.specs.declared.FrontRead.{FrontRead}
+use Rattle.values.specs.Keys.{skipOf, keyAt}
+use Rattle.values.specs.Vals.{noHist, valOf, refAt, frontAt, valAt}
+use Rattle.records.specs.declared.RecRead.{RecRead}
+use Rattle.records.specs.Records.{keyWhole, keyIn, valIn, recOf, recIn}
+use Rattle.records.proofs.Inside.{ends}
+
+-- ---- keys
+
+short-at : (t : List ℕ) (at kind k : ℕ) → k ≡ skipOf kind → at < length t → getD t at 0 < 128 → (kind ≡ 2 → ⊥) → k ≤ getD t at 0 → at + 1 + getD t at 0 ≤ length t
+    → keyAt t at kind ≡ KeyRead.Key (at + 1) (at + 1 + k) (getD t at 0 - k)
+unfolding keyAt
+short-at t at kind k e a b h l r = simp (ne-eqb kind 2 h, read-one t at a b, ← e, le-leb _ _ l, le-leb _ _ r)
+
+pub short-in : (s : List ℕ) (b : Body) (at k : ℕ) → Inside s b → k ≡ skipOf (b .kind) → at < b .end → getD (take (b .end) s) at 0 < 128 → (b .kind ≡ 2 → ⊥)
+    → k ≤ getD (take (b .end) s) at 0 → getD (take (b .end) s) at 0 ≤ b .end - at - 1 → b .«prefix_len» + (getD (take (b .end) s) at 0 - k) ≤ 4096
+    → keyIn s b at ≡ KeyRead.Key (at + 1) (at + 1 + k) (getD (take (b .end) s) at 0 - k)
+unfolding keyIn
+short-in s b at k i e a n h l r w =
+    ap (keyWhole b) (short-at (take (b .end) s) at (b .kind) k e (omega (arith, ends s b i)) n h l (omega (arith, ends s b i)))
+    ∙ ap (λ (q : Bool). cond q (KeyRead.Key (at + 1) (at + 1 + k) (getD (take (b .end) s) at 0 - k)) KeyRead.Bad) (le-leb _ _ w)
+
+-- a history key is a version alone
+pub old-in : (s : List ℕ) (b : Body) (at : ℕ) → Inside s b → b .kind ≡ 2 → at + 12 ≤ b .end → b .«prefix_len» ≤ 4096 → keyIn s b at ≡ KeyRead.Key at (at + 12) 0
+unfolding keyIn keyAt
+old-in s b at i e a w = simp (eq-eqb (b .kind) 2 e, ends s b i, le-leb _ _ a, le-leb (b .«prefix_len» + 0) 4096 (omega arith))
+
+-- ---- values
+
+-- without history
+pub val-plain : (t : List ℕ) (at : ℕ) (head : Bool) → at < length t → getD t at 0 ≡ 0 → valAt t at head ≡ valOf t (FrontRead.Front noHist false (at + 1))
+unfolding valAt frontAt
+val-plain t at head a e = simp (lt-ltb _ _ a, e)
+
+-- with history, in its page
+pub val-hist : (t : List ℕ) (at : ℕ) → at < length t → getD t at 0 ≡ 1 → valAt t at true ≡ valOf t (refAt t (at + 1) false)
+unfolding valAt frontAt
+val-hist t at a e = simp (lt-ltb _ _ a, e)
+
+-- ---- records
+
+pub head-rec : (s : List ℕ) (b : Body) (p v r n : ℕ) (h : HistRef) (va vn next : ℕ) → b .kind ≡ 0 → keyIn s b p ≡ KeyRead.Key v r n
+    → valAt (take (b .end) s) (r + n) true ≡ Val.Inline h va vn next → recIn s b p ≡ RecRead.Is (recOf p v r n h va vn (addr 0) next)
+unfolding recIn valIn
+head-rec s b p v r n h va vn next e k q = simp (k, ne-eqb (b .kind) 1 (λ z. omega arith), eq-eqb (b .kind) 0 e, q)
+
+pub old-rec : (s : List ℕ) (b : Body) (p : ℕ) (h : HistRef) (va vn next : ℕ) → Inside s b → b .kind ≡ 2 → p + 12 ≤ b .end → b .«prefix_len» ≤ 4096
+    → valAt (take (b .end) s) (p + 12) false ≡ Val.Inline h va vn next → recIn s b p ≡ RecRead.Is (recOf p p (p + 12) 0 h va vn (addr 0) next)
+unfolding recIn valIn
+old-rec s b p h va vn next i e a w q =
+    let z : valAt (take (b .end) s) (p + 12 + 0) false ≡ Val.Inline h va vn next = ap (λ (k : ℕ). valAt (take (b .end) s) k false) (omega arith) ∙ q in
+    simp (old-in s b p i e a w, ne-eqb (b .kind) 1 (λ y. omega arith), ne-eqb (b .kind) 0 (λ y. omega arith), z)

@@ -1,0 +1,7 @@
+-- The crate's laws.
+pub mod Lists
+pub mod Pages
+pub mod Trees
+pub mod Making
+pub mod Asked
+pub mod Regrouped

@@ -1,0 +1,32 @@
+-- `walks::read_plain` meets its contract. Assumes nothing.
+use native.Mathlib.Omega.{arith}
+use mathlib.Core.Path.{sym, _∙_}
+use denote.Ref.{now}
+use Rattle.walks.specs.Walk.{readAt}
+use Rattle.walks.proofs.Lying.{fits-inside}
+use borrow.Author.Needs.{needs}
+use Rattle.walks.proofs.read_plain.Statement.{statement}
+use Rattle.walks.proofs.read_plain.Tie as tie
+
+fits-requires : tie.Need-fits-requires
+fits-requires c κs = search needs
+
+body-in-requires : tie.Need-body-in-requires
+body-in-requires c κs =
+    let i = fits-inside (now (c .before .before .before .args .s)) (c .before .before .before .args .v) (c .before .before .before .args .kind) (sym (c .before .fits2 .ensures) ∙ c .if1 .taken) in
+    omega (arith, i .records, i .payload, i .arena, c .before .before .before .good)
+
+rec-at-requires : tie.Need-rec-at-requires
+rec-at-requires c κs = rw (c .body-in .ensures) (fits-inside (now (c .before .before .before .before .args .s)) (c .before .before .before .before .args .v) (c .before .before .before .before .args .kind) (sym (c .before .before .fits2 .ensures) ∙ c .before .if1 .taken))
+
+returns : tie.Need-returns
+unfolding readAt
+returns c = simp (← c .before .before .before .fits2 .ensures, c .before .before .if1 .taken, ← c .before .body-in .ensures, c .rec-at .ensures)
+
+returns-2 : tie.Need-returns-2
+unfolding readAt
+returns-2 c = simp (← c .before .fits2 .ensures, c .if1 .left)
+
+pub read-plain-spec : {M : Type 1} → statement M
+read-plain-spec =
+    tie.close (tie.spec fits-requires body-in-requires rec-at-requires returns returns-2)

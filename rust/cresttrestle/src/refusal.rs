@@ -1,0 +1,111 @@
+//! Why a call is refused.
+
+use core::fmt;
+
+/// Why a call was refused: the lowest number of the list that applies. A refusal changes nothing, no byte of an arena.
+///
+/// ```
+/// use cresttrestle::{Addr, Refusal, View};
+///
+/// let nothing = View::new(&[0; 64]);
+/// let why = nothing.page(Addr::new(8)).check().unwrap_err();
+/// assert_eq!(why, Refusal::BadFrame);
+/// assert_eq!(why.number(), 4);
+/// assert_eq!(why.to_string(), "bad frame: no frame at the address, bytes not as laid out, or a position outside the page");
+/// ```
+#[derive(Clone, Copy, Debug, PartialEq, Eq, PartialOrd, Ord, Hash)]
+#[repr(u8)]
+pub enum Refusal {
+    /// Inline limit not 1 to 65,536, budget not 256 to 131,072, or a boundary over 4,096 bytes.
+    BadLimit = 1,
+    /// The next free address is below 8, not a multiple of 8, or above the arena's length.
+    BadArena = 2,
+    /// The list is not in the house form, a key is over 4,096 bytes or a value over 65,536.
+    BadList = 3,
+    /// No frame at the address, bytes not as laid out, or a position outside the page.
+    BadFrame = 4,
+    /// A merge of a leaf with an index page.
+    MixedKinds = 5,
+    /// An entry that is not above the one before.
+    OutOfOrder = 6,
+    /// A key or probe that does not begin with the page's prefix.
+    WrongPrefix = 7,
+    /// Over 65,535 entries, or a page over 16,777,216 bytes.
+    TooBig = 8,
+    /// The frames do not fit behind the next free address.
+    NoRoom = 9,
+}
+
+impl Refusal {
+    /// Every refusal, lowest number first.
+    pub const ALL: [Refusal; 9] = [
+        Refusal::BadLimit,
+        Refusal::BadArena,
+        Refusal::BadList,
+        Refusal::BadFrame,
+        Refusal::MixedKinds,
+        Refusal::OutOfOrder,
+        Refusal::WrongPrefix,
+        Refusal::TooBig,
+        Refusal::NoRoom,
+    ];
+
+    /// The number, 1 to 9.
+    pub const fn number(self) -> u8 {
+        self as u8
+    }
+
+    /// The refusal of a number, none for 0 and above 9.
+    ///
+    /// ```
+    /// use cresttrestle::Refusal;
+    ///
+    /// assert_eq!(Refusal::of(9), Some(Refusal::NoRoom));
+    /// assert_eq!(Refusal::of(0), None);
+    /// ```
+    pub const fn of(number: u8) -> Option<Refusal> {
+        match number {
+            1..=9 => Some(Self::ALL[number as usize - 1]),
+            _ => None,
+        }
+    }
+
+    /// What a C call returned: 0 is an answer.
+    pub(crate) fn judged(status: u32) -> Result<(), Refusal> {
+        if status == 0 {
+            return Ok(());
+        }
+        let why = u8::try_from(status).ok().and_then(Refusal::of);
+        Err(why.expect("the library returns 0 to 9"))
+    }
+}
+
+impl fmt::Display for Refusal {
+    fn fmt(&self, f: &mut fmt::Formatter<'_>) -> fmt::Result {
+        f.write_str(match self {
+            Refusal::BadLimit => {
+                "bad limit: inline limit not 1 to 65,536, budget not 256 to 131,072, or a boundary over 4,096 bytes"
+            }
+            Refusal::BadArena => {
+                "bad arena: the next free address is below 8, not a multiple of 8, or above the arena's length"
+            }
+            Refusal::BadList => {
+                "bad list: not in the house form, a key over 4,096 bytes or a value over 65,536"
+            }
+            Refusal::BadFrame => {
+                "bad frame: no frame at the address, bytes not as laid out, or a position outside the page"
+            }
+            Refusal::MixedKinds => "mixed kinds: a leaf cannot be merged with an index page",
+            Refusal::OutOfOrder => "out of order: an entry is not above the one before",
+            Refusal::WrongPrefix => {
+                "wrong prefix: a key or probe does not begin with the page's prefix"
+            }
+            Refusal::TooBig => "too big: over 65,535 entries, or a page over 16,777,216 bytes",
+            Refusal::NoRoom => {
+                "no room: the frames do not fit behind the arena's next free address"
+            }
+        })
+    }
+}
+
+impl core::error::Error for Refusal {}

@@ -1,0 +1,167 @@
+//! Document 01's cases by number, through the safe calls.
+
+use cresttrestle::*;
+
+type Rows<'r> = &'r [(&'r [u8], (u64, u32), &'r [u8])];
+
+fn rows(rows: Rows<'_>) -> Vec<u8> {
+    let mut buffer = vec![0; 4096];
+    let mut list = RowList::lent(&mut buffer).unwrap();
+    for &(key, (txid, cmd), value) in rows {
+        list.push(key, Ver::new(txid, cmd), value).unwrap();
+    }
+    list.bytes().to_vec()
+}
+
+const P5: Rows<'_> = &[(b"a", (5, 0), b"xy")];
+const P7: Rows<'_> = &[(b"a", (5, 0), b"xy"), (b"a", (3, 0), b"z")];
+
+#[test]
+fn p3_prefix() {
+    assert_eq!(calc_prefix(b"ab", Some(b"ad")), 1);
+    assert_eq!(calc_prefix(b"ab", Some(b"ab")), 2);
+    assert_eq!(calc_prefix(b"ab", None), 0);
+    assert_eq!(calc_prefix(b"ab", Some(b"")), 0);
+}
+
+#[test]
+fn p5_p6_room() {
+    let mut bytes = [0xee; 112];
+    let mut arena = Arena::new(&mut bytes);
+    assert_eq!(arena.new_leaf(&rows(P5), Bounds::default(), Build::default()), Ok(Addr::new(8)));
+    assert_eq!(arena.next(), Addr::new(112));
+    // size 65, slot 44, behind the box header of 32
+    assert_eq!(arena.bytes()[40..44], 65u32.to_le_bytes());
+    assert_eq!(arena.bytes()[80..84], 44u32.to_le_bytes());
+
+    let mut bytes = [0xee; 111];
+    let mut arena = Arena::new(&mut bytes);
+    let refused = arena.new_leaf(&rows(P5), Bounds::default(), Build::default());
+    assert_eq!(refused, Err(Refusal::NoRoom));
+    assert_eq!(arena.next(), Addr::FIRST);
+    assert_eq!(bytes, [0xee; 111], "a refusal changes nothing");
+}
+
+#[test]
+fn p7_history() {
+    let mut bytes = [0; 240];
+    let mut arena = Arena::new(&mut bytes);
+    let leaf = arena.new_leaf(&rows(P7), Bounds::default(), Build::default()).unwrap();
+    assert_eq!((leaf, arena.next()), (Addr::new(104), Addr::new(240)));
+    let page = arena.page(leaf);
+    assert_eq!(page.check(), Ok(()));
+    let (found, reads) = page.search_counted(b"a").unwrap();
+    let history = Some(History { page: Addr::new(8), slot: 0, count: 1 });
+    assert_eq!(found, Some(Found { slot: 0, ver: Ver::new(5, 0), value: b"xy", history }));
+    assert_eq!(reads, 1);
+    let listed: Vec<_> = page.walk(..).unwrap().rows().map(Result::unwrap).collect();
+    let key = Key { prefix: b"", rest: b"a" };
+    assert_eq!(
+        listed,
+        [
+            Row {
+                key,
+                ver: Ver::new(5, 0),
+                value: b"xy",
+                remote: None,
+                entered: Some(Addr::new(8))
+            },
+            Row { key, ver: Ver::new(3, 0), value: b"z", remote: None, entered: None },
+        ]
+    );
+    assert!(page.history_hints().unwrap().eq([Addr::new(8)]));
+    assert_eq!(page.remote_hints().unwrap().len(), 0);
+}
+
+#[test]
+fn p9_floor() {
+    let mut buffer = [0; 64];
+    let mut list = IndexList::lent(&mut buffer).unwrap();
+    list.push(b"b", PageId::new(1)).unwrap();
+    list.push(b"d", None).unwrap();
+    let mut bytes = [0; 256];
+    let mut arena = Arena::new(&mut bytes);
+    let index = arena.new_intl(list.bytes(), Bounds::default(), Build::default()).unwrap();
+    for (probe, slot, page) in
+        [(b"a", 0, PageId::new(1)), (b"c", 0, PageId::new(1)), (b"d", 1, None), (b"e", 1, None)]
+    {
+        assert_eq!(arena.page(index).floor(probe), Ok(Some(Floor { slot, page })));
+    }
+    let children: Vec<_> =
+        arena.page(index).walk(..).unwrap().children().map(Result::unwrap).collect();
+    assert_eq!(children.len(), 2);
+    assert!(children[1].key == b"d"[..] && children[1].page.is_none());
+    assert_eq!(arena.page(index).walk(..).unwrap().rows().count(), 0);
+}
+
+#[test]
+fn p11_twice() {
+    let twice = rows(&[(b"a", (5, 0), b""), (b"a", (5, 0), b"")]);
+    let mut bytes = [0; 512];
+    let refused = Arena::new(&mut bytes).new_leaf(&twice, Bounds::default(), Build::default());
+    assert_eq!(refused, Err(Refusal::OutOfOrder));
+}
+
+#[test]
+fn p13_another_temperature() {
+    let list = rows(&[(&[0x00, 0xd4], (5, 0), b"row")]);
+    let bounds = Bounds { lo: &[0x00, 0x00], hi: Some(&[0x00, 0xff]), sibling: None };
+    let mut bytes = [0; 512];
+    let mut arena = Arena::new(&mut bytes);
+    let leaf = arena.new_leaf(&list, bounds, Build::default()).unwrap();
+    let page = arena.page(leaf);
+    assert_eq!(page.search(&[0xfe, 0xd4]), Err(Refusal::WrongPrefix));
+    assert!(page.search(&[0x00, 0xd4]).unwrap().is_some());
+    let record = page.walk(..).unwrap().next().unwrap().unwrap();
+    assert!(record.key() == [0x00, 0xd4][..]);
+    assert_eq!((record.key().prefix, record.key().rest), (&[0x00][..], &[0xd4][..]));
+}
+
+#[test]
+fn lists_that_are_full_stay() {
+    let mut buffer = [0; 26];
+    let mut list = RowList::lent(&mut buffer).unwrap();
+    list.push(b"a", Ver::default(), b"12").unwrap();
+    assert_eq!(list.bytes().len(), 26);
+    let before = list.bytes().to_vec();
+    assert_eq!(list.push(b"", Ver::default(), b""), Err(ListFull));
+    assert_eq!(list.bytes(), before);
+    assert!(RowList::lent(&mut [0; 4]).is_err());
+    assert_eq!(IndexList::lent(&mut [0; 5]).unwrap().push(b"", None), Err(ListFull));
+    let mut long = vec![0; 70_000];
+    assert_eq!(
+        RowList::lent(&mut long).unwrap().push(&[0; 65_536], Ver::default(), b""),
+        Err(ListFull)
+    );
+}
+
+#[test]
+fn positions_outside_and_walks_that_end() {
+    let mut bytes = [0; 512];
+    let mut arena = Arena::new(&mut bytes);
+    let leaf = arena.new_leaf(&rows(P7), Bounds::default(), Build::default()).unwrap();
+    let page = arena.page(leaf);
+    assert_eq!(page.walk(..2).err(), Some(Refusal::BadFrame));
+    assert_eq!(page.walk(..=usize::MAX).err(), Some(Refusal::BadFrame));
+    let (begin, end) = (5, 1);
+    assert_eq!(page.walk(begin..end).unwrap().count(), 0);
+    assert_eq!(page.walk(0..=0).unwrap().count(), 2);
+    assert_eq!(page.walk_back(0, -1).err(), Some(Refusal::BadFrame));
+    assert_eq!(page.walk_back(-1, 0).unwrap().count(), 0);
+    // the old version's value claims 65,535 bytes more than its page has: the second step is refused, and the walk is over
+    let value_size = 8 + 32 + 40 + 4 + 12 + 1;
+    bytes[value_size + 2] = 1;
+    let mut walk = View::new(&bytes).page(leaf).walk(..).unwrap();
+    assert!(walk.next().unwrap().is_ok());
+    assert_eq!(walk.next().unwrap().unwrap_err(), Refusal::BadFrame);
+    assert!(walk.next().is_none());
+}
+
+#[test]
+fn refusals_by_number() {
+    for (n, why) in (1..).zip(Refusal::ALL) {
+        assert_eq!((why.number(), Refusal::of(n)), (n, Some(why)));
+        assert!(!why.to_string().is_empty());
+    }
+    assert_eq!(Refusal::of(10), None);
+}
