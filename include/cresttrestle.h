@@ -39,9 +39,11 @@ enum ct_refusal {
 /* The default budget of a history page. */
 #define CT_HIST_PAGE_BUDGET 131072
 
-/* Words of a walk, and the most words that any call writes to `out`. */
+/* Words of a walk, the most words that any call but ct_steps writes to `out`, and the words of a record: ct_steps writes one word and these
+ * for each record. */
 #define CT_WALK_WORDS 18
 #define CT_OUT_WORDS 10
+#define CT_STEP_WORDS 9
 
 /* ---- building: the arena is written from `next` on, only where 0 is returned ---- */
 
@@ -121,12 +123,19 @@ uint32_t ct_forward(const uint8_t *arena, size_t arena_len, uint64_t addr, uint6
 /* Positions start down to end, both included, of a leaf.  walk: the walk */
 uint32_t ct_backward(const uint8_t *arena, size_t arena_len, uint64_t addr, int64_t start, int64_t end, uint64_t *walk, size_t walk_len);
 
-/* The next record; each key's newest row, then its older ones, newest first. The walk moves on, unless it is at its end or refused.
+/* The next record; for many use ct_steps. Each key's newest row, then its older ones, newest first. The walk moves on, unless it is at its
+ * end or refused.
  * out: [0] 0 end, 1 a row of a leaf, 2 a key of an index page
  *      a row: [1] [2] key without the page's prefix, [3] txid, [4] cmd, [5] [6] the value, [7] its remote frame or 0,
  *             [8] the history page entered by this step or 0
  *      a key: [1] [2] key without the page's prefix, [3] page id, the rest 0;  end: all 0.  Nine words in each case */
 uint32_t ct_step(const uint8_t *arena, size_t arena_len, uint64_t *walk, size_t walk_len, uint64_t *out, size_t out_len);
+
+/* The next records, as many as `out` has room for: at most (out_len - 1) / 9. The call ends at the walk's end, at the room's end, or before
+ * a step that would be refused; that refusal is the answer of the next call, whose first step it is. The walk moves on behind the last
+ * record told; without one it stays. So with room for a record, [0] is 0 only at the walk's end.
+ * out: [0] how many records, [1] .. nine words of each, as ct_step has them, one record behind the other */
+uint32_t ct_steps(const uint8_t *arena, size_t arena_len, uint64_t *walk, size_t walk_len, uint64_t *out, size_t out_len);
 
 /* ---- deltas ---- */
 

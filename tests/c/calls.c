@@ -132,6 +132,40 @@ int main(void) {
     MUST(ct_forward(ARENA, intl, 1, 2, walk, CT_WALK_WORDS) == 0);
     MUST(ct_step(ARENA, walk, CT_WALK_WORDS, OUT) == 0 && out[0] == 2 && is(out[1], out[2], "d") && out[3] == 71 && out[4] == 0 && out[8] == 0);
 
+    /* ---- many records a call: the same records as by ct_step, for every room */
+    static uint64_t one[3][CT_STEP_WORDS], many[1 + 5 * CT_STEP_WORDS];
+    MUST(ct_forward(ARENA, merged, 0, 2, walk, CT_WALK_WORDS) == 0);
+    for (int k = 0; k < 3; k++) MUST(ct_step(ARENA, walk, CT_WALK_WORDS, one[k], CT_STEP_WORDS) == 0 && one[k][0] == 1);
+    for (size_t len = 0; len <= 1 + 5 * CT_STEP_WORDS; len++) {
+        size_t room = len < 10 ? 0 : (len - 1) / CT_STEP_WORDS, told = 0;
+        MUST(ct_forward(ARENA, merged, 0, 2, walk, CT_WALK_WORDS) == 0);
+        do {
+            memset(many, 0x55, sizeof many);
+            memcpy(last, walk, sizeof walk);
+            MUST(ct_steps(ARENA, walk, CT_WALK_WORDS, many, len) == 0);
+            size_t n = room < 3 - told ? room : 3 - told;
+            MUST(len == 0 || many[0] == n);
+            MUST(memcmp(many + 1, one[told], n * sizeof one[0]) == 0);
+            for (size_t k = len == 0 ? 0 : 1 + n * CT_STEP_WORDS; k < 1 + 5 * CT_STEP_WORDS; k++) MUST(many[k] == MARK);
+            MUST((memcmp(last, walk, sizeof walk) == 0) == (n == 0));
+            told += n;
+            if (n == 0) break;
+        } while (1);
+        MUST(told == (room == 0 ? 0u : 3u));
+    }
+    MUST(ct_forward(ARENA, intl, 0, 2, walk, CT_WALK_WORDS) == 0 && ct_steps(ARENA, walk, CT_WALK_WORDS, many, 28) == 0 && many[0] == 2);
+    MUST(many[1] == 2 && is(many[2], many[3], "b") && many[4] == 70 && many[10] == 2 && is(many[11], many[12], "d") && many[13] == 71 && many[18] == 0);
+    /* the second key's slot is bad: its two versions before it are told, then the refusal changes nothing */
+    static uint8_t broken[sizeof arena];
+    memcpy(broken, arena, sizeof arena);
+    memset(broken + merged + 32 + 40 + 4, 0xFF, 4);
+    MUST(ct_forward(broken, sizeof broken, merged, 0, 2, walk, CT_WALK_WORDS) == 0);
+    MUST(ct_steps(broken, sizeof broken, walk, CT_WALK_WORDS, many, 37) == 0 && many[0] == 2 && memcmp(many + 1, one, 2 * sizeof one[0]) == 0);
+    memset(many, 0x55, sizeof many);
+    memcpy(last, walk, sizeof walk);
+    MUST(ct_steps(broken, sizeof broken, walk, CT_WALK_WORDS, many, 37) == CT_BAD_FRAME && memcmp(last, walk, sizeof walk) == 0);
+    for (int k = 0; k < 1 + 5 * CT_STEP_WORDS; k++) MUST(many[k] == MARK);
+
     /* ---- deltas */
     mark();
     MUST(ct_delta_key(other, sizeof other, delta, OUT) == 0 && out[1] == 1 && other[out[0]] == 'a' && out[2] == 80 && out[3] == 3 && wrote(4));
@@ -184,9 +218,10 @@ int main(void) {
             x = x * 6364136223846793005u + 1442695040888963407u;
             walk[j] = (x >> 33) % (j % 3 == 0 ? 300 : 7) - (k % 50 == 0);
         }
-        uint32_t no = ct_step(ARENA, walk, (size_t)(k % (CT_WALK_WORDS + 1)), OUT);
+        uint32_t no = k % 2 == 0 ? ct_step(ARENA, walk, (size_t)(k % (CT_WALK_WORDS + 1)), OUT)
+                                 : ct_steps(ARENA, walk, (size_t)(k % (CT_WALK_WORDS + 1)), many, (size_t)(k % 47));
         MUST(no == 0 || no == CT_BAD_FRAME);
     }
-    printf("calls: 22 calls, their words, short slices, refusals and made-up walks are as the header says\n");
+    printf("calls: 23 calls, their words, short slices, refusals and made-up walks are as the header says\n");
     return 0;
 }

@@ -1,7 +1,7 @@
 /*
  * How much stack the calls take: each call runs on a painted stack of its own, and the lowest byte that is no longer paint tells how deep
  * it went, less what an empty call takes there. Prints bytes per call, the most over all its runs; fails where a lookup (search, lower
- * bound, floor, step) takes over LOOKUP_LIMIT bytes, and where an answer is wrong, since a refusal measures nothing.
+ * bound, floor, step, steps) takes over LOOKUP_LIMIT bytes, and where an answer is wrong, since a refusal measures nothing.
  */
 #include "cresttrestle.h"
 
@@ -20,6 +20,8 @@ static ucontext_t here, there;
 static uint8_t arena[1 << 18], buffer[4096], list[1 << 16], other[1 << 16];
 static const uint8_t none[1];
 static uint64_t out[CT_OUT_WORDS], walk[CT_WALK_WORDS];
+#define MANY (1 + 7 * CT_STEP_WORDS)
+static uint64_t many[MANY];
 static size_t list_len, other_len;
 static uint64_t next, leaf, right, intl, delta, old_walk;
 static uint8_t key[16];
@@ -55,6 +57,7 @@ static void run_search(void) { answer = ct_search(ARENA, leaf, key, key_len, OUT
 static void run_lower_bound(void) { answer = ct_lower_bound(ARENA, leaf, key, key_len, UINT64_MAX, UINT32_MAX, OUT); }
 static void run_floor(void) { answer = ct_floor(ARENA, intl, key, key_len, OUT); }
 static void run_step(void) { answer = ct_step(ARENA, WALK, OUT); }
+static void run_steps(void) { answer = ct_steps(ARENA, WALK, many, MANY); }
 static void run_forward(void) { answer = ct_forward(ARENA, old_walk, 0, KEYS, WALK); }
 static void run_backward(void) { answer = ct_backward(ARENA, leaf, KEYS - 1, 0, WALK); }
 static void run_overlay(void) { answer = ct_overlay(ARENA, leaf, buffer, sizeof buffer, delta, key, key_len, OUT); }
@@ -149,6 +152,16 @@ static void walk_on(uint64_t kind, int records_in_all) {
     must(answer == 0 && out[0] == 0 && n == records_in_all + 1, "ct_step");
 }
 
+/* The same by seven records a call. */
+static void walk_by_seven(int records_in_all) {
+    uint64_t n = 0;
+    do {
+        run(run_steps);
+        n += many[0];
+    } while (answer == 0 && many[0] != 0);
+    must(answer == 0 && n == (uint64_t)records_in_all, "ct_steps");
+}
+
 int main(void) {
     empty = depth(run_nothing);
     next = 8;
@@ -196,6 +209,14 @@ int main(void) {
     run_forward();
     walk_on(2, KEYS);
     tell("ct_step", 1);
+    run_forward();
+    walk_by_seven(KEYS);
+    run_backward();
+    walk_by_seven(3 * KEYS);
+    old_walk = leaf;
+    run_forward();
+    walk_by_seven(3 * KEYS);
+    tell("ct_steps", 1);
     most = begin;
     tell("ct_forward", 0);
 

@@ -43,6 +43,8 @@ use Rattle.capi.proofs.ct_backward as backward-fn
 use Rattle.capi.proofs.ct_backward.Reads as backward
 use Rattle.capi.proofs.ct_step as step-fn
 use Rattle.capi.proofs.ct_step.Reads as step
+use Rattle.capi.proofs.ct_steps as steps-fn
+use Rattle.capi.proofs.ct_steps.Reads as steps
 use Rattle.capi.proofs.ct_delta_key as delta-key-fn
 use Rattle.capi.proofs.ct_delta_key.Reads as delta-key
 use Rattle.capi.proofs.ct_delta_val as delta-val-fn
@@ -53,8 +55,6 @@ use Rattle.capi.proofs.ct_delta_child as delta-child-fn
 use Rattle.capi.proofs.ct_delta_child.Reads as delta-child
 use Rattle.capi.proofs.ct_overlay as overlay-fn
 use Rattle.capi.proofs.ct_overlay.Reads as overlay
-use Rattle.capi.proofs.ct_walk_total as walk-total-fn
-use Rattle.capi.proofs.ct_walk_total.Reads as walk-total
 
 -- a number and what a lent slice holds afterwards; the same with two lent slices
 abbrev Both : {X : Type 0} → (ℕ → X → Type 0) → (X → List ℕ) → Type 0
@@ -120,6 +120,9 @@ backward-decided κs s at i j walk = both (λ (x : AtExit backward-fn.ended κs)
 pub step-decided : (κs : Lfts 3) (s walk out : RefT (List ℕ)) → All (λ (r : ℕ) (x : AtExit step-fn.ended κs). step.Post κs (s, (walk, (out, tt))) r x) (λ (x : AtExit step-fn.ended κs). now (x .1 .0)) (λ (x : AtExit step-fn.ended κs). now (x .1 .1 .0))
 step-decided κs s walk out = all (λ (x : AtExit step-fn.ended κs). now (x .1 .0)) (λ (x : AtExit step-fn.ended κs). now (x .1 .1 .0)) _ _ _
 
+pub steps-decided : (κs : Lfts 3) (s walk out : RefT (List ℕ)) → All (λ (r : ℕ) (x : AtExit steps-fn.ended κs). steps.Post κs (s, (walk, (out, tt))) r x) (λ (x : AtExit steps-fn.ended κs). now (x .1 .0)) (λ (x : AtExit steps-fn.ended κs). now (x .1 .1 .0))
+steps-decided κs s walk out = all (λ (x : AtExit steps-fn.ended κs). now (x .1 .0)) (λ (x : AtExit steps-fn.ended κs). now (x .1 .1 .0)) _ _ _
+
 pub delta-key-decided : (κs : Lfts 2) (s : RefT (List ℕ)) (at : ℕ) (out : RefT (List ℕ)) → Both (λ (r : ℕ) (x : AtExit delta-key-fn.ended κs). delta-key.Post κs (s, (at, (out, tt))) r x) (λ (x : AtExit delta-key-fn.ended κs). now (x .1 .1 .0))
 delta-key-decided κs s at out = both (λ (x : AtExit delta-key-fn.ended κs). now (x .1 .1 .0)) _ _
 
@@ -134,6 +137,3 @@ delta-child-decided κs s at out = both (λ (x : AtExit delta-child-fn.ended κs
 
 pub overlay-decided : (κs : Lfts 4) (s : RefT (List ℕ)) (at : ℕ) (t : RefT (List ℕ)) (d : ℕ) (key out : RefT (List ℕ)) → Both (λ (r : ℕ) (x : AtExit overlay-fn.ended κs). overlay.Post κs (s, (at, (t, (d, (key, (out, tt)))))) r x) (λ (x : AtExit overlay-fn.ended κs). now (x .1 .1 .1 .1 .1 .0))
 overlay-decided κs s at t d key out = both (λ (x : AtExit overlay-fn.ended κs). now (x .1 .1 .1 .1 .1 .0)) _ _
-
-pub walk-total-decided : (κs : Lfts 1) (s : RefT (List ℕ)) (at elems : ℕ) (x : AtExit walk-total-fn.ended κs) → Decides (λ (r : ℕ). walk-total.Post κs (s, (at, (elems, tt))) r x) (λ (r : ℕ). r)
-walk-total-decided κs s at elems x = decides (λ (r : ℕ). r) _

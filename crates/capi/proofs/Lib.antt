@@ -1,4 +1,5 @@
 pub mod Laws
 pub mod Decided
 pub mod Looping
-pub mod Totals
+pub mod Running
+pub mod Batches

@@ -15,8 +15,8 @@ use Rattle.walks.specs.declared.Step.{Step}
 use Rattle.walks.specs.Walk.{stepAt}
 use Rattle.walks.specs.Listed.{Entry, entryOf, WalksTo, Lists, leadOf, LeadsTo, Leads}
 use Rattle.walks.specs.Refused.{begunNumber, stepNumber}
-use Rattle.capi.specs.Words.{written, walkIn, begunWords, stepWords, movedWords, itemWords, branchWords, endWords}
-use Rattle.capi.specs.Loop.{Row, Branch, Ended, LoopReads, LoopLists, LoopLeads}
+use Rattle.capi.specs.Words.{written, walkIn, begunWords, stepWords, movedWords}
+use Rattle.capi.specs.Loop.{Ended, LoopReads, LoopLists, LoopLeads}
 use Rattle.capi.proofs.Laws.{written-whole, written-length, walk-kept}
 
 -- one call of the loop: the walk w in the words, and the step that it takes
@@ -79,17 +79,17 @@ loop-leads s prefix (r ∷ cs) w walk out hw ho ew h =
           (long-walk s w walk out hw ho ew) (long-out s w walk out hw ho ew) (moved-on s w walk out hw ho ew x (h .1) (h .2) refl) (h .4),
     )
 
+pub begun-in : (b : Begun) (walk : List ℕ) → 18 ≤ length walk → (w : Walk) → b ≡ Begun.Is w → walkIn (written (begunWords b) walk) ≡ w
+begun-in b walk hw w e = ap (λ (z : Begun). walkIn (written (begunWords z) walk)) e ∙ walk-kept w walk hw
+
 -- what ct_forward and ct_backward leave is the walk that was begun; so with viewcalls, which gives Lists and Leads for what a build stored,
 -- demand 3 holds of the C loop
 module _ (s prefix : List ℕ) (b : Begun) (walk out : List ℕ) (hw : 18 ≤ length walk) (ho : 9 ≤ length out) where
   long : 18 ≤ length (written (begunWords b) walk)
   long = omega (arith, hw, written-length (begunWords b) walk)
 
-  in-words : (w : Walk) → b ≡ Begun.Is w → walkIn (written (begunWords b) walk) ≡ w
-  in-words w e = ap (λ (z : Begun). walkIn (written (begunWords z) walk)) e ∙ walk-kept w walk hw
-
   pub begun-lists : (es : List Entry) → Lists s prefix b es → (begunNumber b ≡ 0) × LoopLists s prefix (written (begunWords b) walk) out es
-  begun-lists es h = (ap begunNumber (h .begun), loop-lists s prefix es (h .walk) (written (begunWords b) walk) out long ho (in-words (h .walk) (h .begun)) (h .lists))
+  begun-lists es h = (ap begunNumber (h .begun), loop-lists s prefix es (h .walk) (written (begunWords b) walk) out long ho (begun-in b walk hw (h .walk) (h .begun)) (h .lists))
 
   pub begun-leads : (cs : List Child) → Leads s prefix b cs → (begunNumber b ≡ 0) × LoopLeads s prefix (written (begunWords b) walk) out cs
-  begun-leads cs h = (ap begunNumber (h .begun), loop-leads s prefix cs (h .walk) (written (begunWords b) walk) out long ho (in-words (h .walk) (h .begun)) (h .leads))
+  begun-leads cs h = (ap begunNumber (h .begun), loop-leads s prefix cs (h .walk) (written (begunWords b) walk) out long ho (begun-in b walk hw (h .walk) (h .begun)) (h .leads))

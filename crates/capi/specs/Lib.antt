@@ -1,3 +1,3 @@
 pub mod Words
 pub mod Loop
-pub mod Total
+pub mod Steps

@@ -2,7 +2,7 @@
 // on, writes the words of the answer to `out` and returns the number of the refusal, 0 where there is none.
 ghost use mathlib.Core.Path.{_≡_};
 ghost use mathlib.Core.List.{[], _∷_};
-ghost use Prim.Native.Nat.{_+_, _<_, _^_};
+ghost use Prim.Native.Nat.{_+_, _*_, _<_, _^_};
 ghost use lib.ListN.{length, getD};
 ghost use Rattle.spans.specs.Span.{put};
 ghost use Rattle.frames.specs.Refusals.{numberOf};
@@ -25,7 +25,7 @@ ghost use Rattle.delta.specs.Deltas as deltas;
 ghost use Rattle.delta.specs.Read.{leafKeyAt, indexKeyAt, valueAt, childAt};
 ghost use Rattle.delta.specs.Refused as refused;
 ghost use Rattle.overlay.specs.Overlay.{laidAt, laidNumber};
-ghost use Rattle.capi.specs.Total.{totalFrom, totalOf};
+ghost use Rattle.capi.specs.Steps.{runOf, runWords, roomIn, runNumber, runWalk, runEnd, runSays, stepsAt, stepsWords};
 ghost use Rattle.capi.specs.Words.{written, prefixWords, builtWords, boundsWords, pageWords, hintsWords, hintsFrom, hintWords, foundWords, boundWords, floorWords, sheetIn, pastIn, walkIn, sheetWords, walkWords, begunWords, itemWords, branchWords, endWords, stepWords, movedWords, leafKeyWords, indexKeyWords, valueWords, childWords, laidWords};
 use delta::Child;
 use delta::IndexKey;
@@ -612,20 +612,23 @@ pub extern "C" fn ct_backward(arena: &[u8], at: u64, start: i64, end: i64, walk:
     tell_begun(walk, x)
 }
 
-fn store_item(out: &mut [u64], x: Item)
-    ensures { λ _. ⌜ now (out .exit) ≡ written (itemWords x) (now (out .entry)) ⌝ }
+// A record's nine words from word k on.
+fn store_item(out: &mut [u64], k: usize, x: Item)
+    requires { ⌜ k + 9 < 2 ^ 64 ⌝ }
+    ensures { λ _. ⌜ now (out .exit) ≡ put (now (out .entry)) k (itemWords x) ⌝ }
 {
-    store_three(out, 0, 1, x.key.at as u64, x.key.len as u64);
-    store_three(out, 3, x.ver.txid, x.ver.cmd as u64, x.value.at as u64);
-    store_three(out, 6, x.value.len as u64, x.remote.0, x.named.0);
+    store_three(out, k, 1, x.key.at as u64, x.key.len as u64);
+    store_three(out, k + 3, x.ver.txid, x.ver.cmd as u64, x.value.at as u64);
+    store_three(out, k + 6, x.value.len as u64, x.remote.0, x.named.0);
 }
 
-fn store_branch(out: &mut [u64], x: Branch)
-    ensures { λ _. ⌜ now (out .exit) ≡ written (branchWords x) (now (out .entry)) ⌝ }
+fn store_branch(out: &mut [u64], k: usize, x: Branch)
+    requires { ⌜ k + 9 < 2 ^ 64 ⌝ }
+    ensures { λ _. ⌜ now (out .exit) ≡ put (now (out .entry)) k (branchWords x) ⌝ }
 {
-    store_three(out, 0, 2, x.key.at as u64, x.key.len as u64);
-    store_three(out, 3, x.page.0, 0, 0);
-    store_three(out, 6, 0, 0, 0);
+    store_three(out, k, 2, x.key.at as u64, x.key.len as u64);
+    store_three(out, k + 3, x.page.0, 0, 0);
+    store_three(out, k + 6, 0, 0, 0);
 }
 
 fn store_end(out: &mut [u64])
@@ -636,29 +639,74 @@ fn store_end(out: &mut [u64])
     store_three(out, 6, 0, 0, 0);
 }
 
-// A step's record goes to `out`, the walk moved on back to its words.
-fn tell_step(walk: &mut [u64], out: &mut [u64], x: Step) -> u32
-    ensures { λ r. ⌜ r ≡ stepNumber x ⌝ }
-    ensures { λ _. ⌜ now (walk .exit) ≡ written (movedWords x) (now (walk .entry)) ⌝ }
-    ensures { λ _. ⌜ now (out .exit) ≡ written (stepWords x) (now (out .entry)) ⌝ }
+// What a run of steps came to: how many records, the number of the refusal that ended it (0 without), and the walk behind the last record.
+struct Run {
+    count: usize,
+    number: u32,
+    walk: Walk,
+}
+
+// At most `room` steps, each record's words behind the one's before, from word `first` on. The one caller of `step` in the library, which
+// puts the whole step into this loop.
+fn fill(arena: &[u8], from: Walk, out: &mut [u64], first: usize, room: usize) -> Run
+    requires { ⌜ first + 9 * room < 2 ^ 64 ⌝ }
+    ensures { λ r. ⌜ r ≡ runOf room 0 (now (arena .entry)) from ⌝ }
+    ensures { λ _. ⌜ now (out .exit) ≡ put (now (out .entry)) first (runWords room (now (arena .entry)) from) ⌝ }
 {
-    match x {
-        Step::Found(i, w) => {
-            store_walk(walk, w);
-            store_item(out, i);
-            0
+    let mut w = from;
+    let mut at: usize = first;
+    let mut k: usize = 0;
+    while k < room {
+        match w.step(arena) {
+            Step::Found(x, next) => {
+                store_item(out, at, x);
+                w = next;
+                at += 9;
+                k += 1;
+            }
+            Step::Leads(x, next) => {
+                store_branch(out, at, x);
+                w = next;
+                at += 9;
+                k += 1;
+            }
+            Step::End => {
+                return Run {
+                    count: k,
+                    number: 0,
+                    walk: w,
+                };
+            }
+            Step::Refused(r) => {
+                return Run {
+                    count: k,
+                    number: no(r),
+                    walk: w,
+                };
+            }
         }
-        Step::Leads(b, w) => {
-            store_walk(walk, w);
-            store_branch(out, b);
-            0
-        }
-        Step::End => {
-            store_end(out);
-            0
-        }
-        Step::Refused(r) => no(r),
     }
+    Run {
+        count: k,
+        number: 0,
+        walk: w,
+    }
+}
+
+// One step's run: the end has words, too, the record stands there already; the walk moved on goes back to its words.
+fn tell_step(walk: &mut [u64], out: &mut [u64], x: Run) -> u32
+    ensures { λ r. ⌜ r ≡ runNumber x ⌝ }
+    ensures { λ _. ⌜ now (walk .exit) ≡ written (runWalk x) (now (walk .entry)) ⌝ }
+    ensures { λ _. ⌜ now (out .exit) ≡ written (runEnd x) (now (out .entry)) ⌝ }
+{
+    if x.count == 0 {
+        if x.number == 0 {
+            store_end(out);
+        }
+        return x.number;
+    }
+    store_walk(walk, x.walk);
+    0
 }
 
 #[no_mangle]
@@ -668,50 +716,45 @@ pub extern "C" fn ct_step(arena: &[u8], walk: &mut [u64], out: &mut [u64]) -> u3
     ensures { λ _. ⌜ now (out .exit) ≡ written (stepWords (stepAt (now (arena .entry)) (walkIn (now (walk .entry))))) (now (out .entry)) ⌝ }
 {
     let w = walk_in(&walk[..]);
-    let x = w.step(arena);
+    let x = fill(arena, w, out, 0, 1);
     tell_step(walk, out, x)
 }
 
-// The lengths of all key rests and values that a walk lists, added up.
-fn total(arena: &[u8], from: Walk) -> u64
-    ensures { λ r. ⌜ r ≡ totalFrom 100000000 (now (arena .entry)) from 0 ⌝ }
+// How many records fit into so many words, the first of which says how many there are.
+fn room_in(len: usize) -> usize
+    ensures { λ r. ⌜ r ≡ roomIn len ⌝ }
+    ensures { λ r. ⌜ 1 + 9 * r < 2 ^ 64 ⌝ }
 {
-    let mut w = from;
-    let mut sum: u64 = 0;
-    let mut k: usize = 0;
-    while k < 100000000 {
-        match w.step(arena) {
-            Step::Found(x, next) => {
-                let rest = walks::rest_of(arena, x).len();
-                let value = walks::value_of(arena, x).len();
-                sum = std::num::wrapping_add_u64(sum, rest as u64);
-                sum = std::num::wrapping_add_u64(sum, value as u64);
-                w = next;
-                k += 1;
-            }
-            Step::Leads(_, _) => {
-                return sum;
-            }
-            Step::End => {
-                return sum;
-            }
-            Step::Refused(_) => {
-                return sum;
-            }
-        }
-    }
-    sum
+    if len == 0 { 0 } else { (len - 1) / 9 }
 }
 
-// For rust/bench alone, not in the header: the same for the whole walk over a leaf page, 0 where it is refused.
-#[no_mangle]
-pub extern "C" fn ct_walk_total(arena: &[u8], at: u64, elems: usize) -> u64
-    ensures { λ r. ⌜ r ≡ totalOf (now (arena .entry)) (forwardAt (now (arena .entry)) (addr at) 0 elems) ⌝ }
+// The count goes in front of the records, the walk moved on back to its words; a refused first step changes neither.
+fn tell_run(walk: &mut [u64], out: &mut [u64], x: Run) -> u32
+    ensures { λ r. ⌜ r ≡ runNumber x ⌝ }
+    ensures { λ _. ⌜ now (walk .exit) ≡ written (runWalk x) (now (walk .entry)) ⌝ }
+    ensures { λ _. ⌜ now (out .exit) ≡ written (runSays x []) (now (out .entry)) ⌝ }
 {
-    match walks::forward(arena, Addr(at), 0, elems) {
-        Begun::Is(w) => total(arena, w),
-        Begun::Refused(_) => 0,
+    if x.count == 0 {
+        if x.number == 0 {
+            store(out, 0, 0);
+        }
+        return x.number;
     }
+    store(out, 0, x.count as u64);
+    store_walk(walk, x.walk);
+    0
+}
+
+#[no_mangle]
+pub extern "C" fn ct_steps(arena: &[u8], walk: &mut [u64], out: &mut [u64]) -> u32
+    ensures { λ r. ⌜ r ≡ runNumber (stepsAt (now (arena .entry)) (now (walk .entry)) (length (now (out .entry)))) ⌝ }
+    ensures { λ _. ⌜ now (walk .exit) ≡ written (runWalk (stepsAt (now (arena .entry)) (now (walk .entry)) (length (now (out .entry))))) (now (walk .entry)) ⌝ }
+    ensures { λ _. ⌜ now (out .exit) ≡ written (stepsWords (now (arena .entry)) (now (walk .entry)) (length (now (out .entry)))) (now (out .entry)) ⌝ }
+{
+    let room = room_in(out.len());
+    let w = walk_in(&walk[..]);
+    let x = fill(arena, w, out, 1, room);
+    tell_run(walk, out, x)
 }
 
 // ---- deltas

@@ -1,4 +1,4 @@
-//! The calls of include/cresttrestle.h that are timed (the crate cresttrestle links the library), and `ct_walk_total`, a whole walk in one call, which serves this driver alone.
+//! The calls of include/cresttrestle.h that are timed (the crate cresttrestle links the library).
 
 unsafe extern "C" {
     pub fn ct_check(arena: *const u8, len: usize, addr: u64) -> u32;
@@ -57,7 +57,14 @@ unsafe extern "C" {
         out: *mut u64,
         words: usize,
     ) -> u32;
-    pub fn ct_walk_total(arena: *const u8, len: usize, addr: u64, elems: usize) -> u64;
+    pub fn ct_steps(
+        arena: *const u8,
+        len: usize,
+        walk: *mut u64,
+        walk_words: usize,
+        out: *mut u64,
+        words: usize,
+    ) -> u32;
     pub fn ct_new_leaf(
         arena: *mut u8,
         len: usize,

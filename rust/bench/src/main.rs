@@ -173,18 +173,18 @@ fn page(case: &Case, only: &str, rows: &mut Vec<Row>) {
     let records = case.entries(0, n).len();
     let mut rust =
         |_| leaf.walk(0, n).map(|(k, v)| (k.raw.len() + leaf.value(&v).len()) as u64).sum();
-    row(
-        "walk, whole",
-        records,
-        &mut [&mut |_| unsafe { ct_walk_total(p, len, addr, n) }, &mut rust],
-        &[],
-    );
+    let mut ours = |_| {
+        let mut walk = [0u64; 18];
+        unsafe { ct_forward(p, len, addr, 0, n as u64, walk.as_mut_ptr(), walk.len()) };
+        runs(p, len, &mut walk)
+    };
+    row("walk", records, &mut [&mut ours, &mut rust], &[]);
     let mut ours = |_| {
         let mut walk = [0u64; 18];
         unsafe { ct_forward(p, len, addr, 0, n as u64, walk.as_mut_ptr(), walk.len()) };
         steps(p, len, &mut walk)
     };
-    row("walk, by steps", records, &mut [&mut ours, &mut rust], &[]);
+    row("walk, step by step", records, &mut [&mut ours, &mut rust], &[]);
     // The same steps as a Rust user takes them: the iterator of the crate.
     let view = cresttrestle::View::new(arena.bytes()).page(cresttrestle::Addr::new(addr));
     let mut ours = |_| {
@@ -197,14 +197,14 @@ fn page(case: &Case, only: &str, rows: &mut Vec<Row>) {
     let mut ours = |_| {
         let mut walk = [0u64; 18];
         unsafe { ct_backward(p, len, addr, n as i64 - 1, 0, walk.as_mut_ptr(), walk.len()) };
-        steps(p, len, &mut walk)
+        runs(p, len, &mut walk)
     };
     let mut rust = |_| {
         leaf.walk_back(n as isize - 1, 0)
             .map(|(k, v)| (k.raw.len() + leaf.value(&v).len()) as u64)
             .sum()
     };
-    row("walk back, by steps", records, &mut [&mut ours, &mut rust], &[]);
+    row("walk back", records, &mut [&mut ours, &mut rust], &[]);
 
     // The Rust has its entries at hand and judges nothing; ours reads the list, judges it, then writes.
     let (list, entries) = (case.list(), case.entries(0, n));
@@ -297,6 +297,22 @@ fn page(case: &Case, only: &str, rows: &mut Vec<Row>) {
 #[inline]
 fn number(bytes: &[u8]) -> u64 {
     u64::from_le_bytes(bytes[..8].try_into().expect("eight bytes"))
+}
+
+/// Reads a walk to its end, up to 32 records a call.
+fn runs(arena: *const u8, len: usize, walk: &mut [u64; 18]) -> u64 {
+    let (mut out, mut sum) = ([0u64; 1 + 9 * 32], 0);
+    loop {
+        // SAFETY: as above.
+        let refused = unsafe {
+            ct_steps(arena, len, walk.as_mut_ptr(), walk.len(), out.as_mut_ptr(), out.len())
+        };
+        assert_eq!(refused, 0, "the page is sound");
+        if out[0] == 0 {
+            return sum;
+        }
+        sum += out[1..].chunks_exact(9).take(out[0] as usize).map(|r| r[2] + r[6]).sum::<u64>();
+    }
 }
 
 /// Steps a walk to its end.

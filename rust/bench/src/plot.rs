@@ -15,7 +15,7 @@ const GRID: &str = "#d9dfe4";
 const BOUND: &str = "#b3261e";
 const DASHED: &str = r#"stroke-width="1.6" stroke-dasharray="5 3""#;
 /// What order 12 allows.
-const BOUNDS: [(&str, f64); 3] = [("search", 1.5), ("lower bound", 1.5), ("walk, whole", 2.0)];
+const BOUNDS: [(&str, f64); 3] = [("search", 1.5), ("lower bound", 1.5), ("walk", 2.0)];
 
 struct Svg(String);
 

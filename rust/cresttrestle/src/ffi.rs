@@ -7,8 +7,9 @@ use crate::refusal::Refusal;
 #[cfg(not(target_pointer_width = "64"))]
 compile_error!("the library is built for hosts with 64-bit addresses");
 
-/// Words of a walk.
+/// Words of a walk, and of a record that it hands back.
 pub(crate) const WALK_WORDS: usize = 18;
+pub(crate) const RECORD_WORDS: usize = 9;
 
 type Words<const N: usize> = Result<[u64; N], Refusal>;
 
@@ -178,7 +179,7 @@ unsafe extern "C" {
         walk: *mut u64,
         walk_len: usize,
     ) -> u32;
-    fn ct_step(
+    fn ct_steps(
         arena: *const u8,
         arena_len: usize,
         walk: *mut u64,
@@ -470,10 +471,16 @@ pub(crate) fn backward(arena: &[u8], addr: u64, start: i64, end: i64) -> Words<W
     words(|walk, n| unsafe { ct_backward(arena.as_ptr(), arena.len(), addr, start, end, walk, n) })
 }
 
+/// How many records in `out[0]`, then the words of each.
 #[inline]
-pub(crate) fn step(arena: &[u8], walk: &mut [u64; WALK_WORDS]) -> Words<9> {
-    words(|out, n| unsafe {
-        ct_step(arena.as_ptr(), arena.len(), walk.as_mut_ptr(), WALK_WORDS, out, n)
+pub(crate) fn steps(
+    arena: &[u8],
+    walk: &mut [u64; WALK_WORDS],
+    out: &mut [u64],
+) -> Result<(), Refusal> {
+    Refusal::judged(unsafe {
+        let (words, room) = (out.as_mut_ptr(), out.len());
+        ct_steps(arena.as_ptr(), arena.len(), walk.as_mut_ptr(), WALK_WORDS, words, room)
     })
 }
 

@@ -7,7 +7,7 @@ use core::iter::FusedIterator;
 #[cfg(feature = "alloc")]
 use alloc::vec::Vec;
 
-use crate::ffi::{self, WALK_WORDS};
+use crate::ffi::{self, RECORD_WORDS, WALK_WORDS};
 use crate::names::{Addr, PageId, Ver};
 use crate::page::part;
 use crate::refusal::Refusal;
@@ -161,6 +161,9 @@ impl<'a> Record<'a> {
     }
 }
 
+/// How many records a walk reads in one call of the library.
+const AHEAD: usize = 7;
+
 /// A walk: the records of a page in order, until the end or the first that is refused. Made by [`Page::walk`](crate::Page::walk),
 /// [`walk_back`](crate::Page::walk_back) and [`range`](crate::Page::range). It allocates nothing; a copy goes on from where it stands.
 #[derive(Clone, Debug)]
@@ -168,12 +171,15 @@ pub struct Walk<'a> {
     bytes: &'a [u8],
     prefix: &'a [u8],
     words: [u64; WALK_WORDS],
+    /// The number of records read ahead, then their words.
+    read: [u64; 1 + AHEAD * RECORD_WORDS],
+    taken: usize,
     ended: bool,
 }
 
 impl<'a> Walk<'a> {
     pub(crate) fn new(bytes: &'a [u8], prefix: &'a [u8], words: [u64; WALK_WORDS]) -> Self {
-        Walk { bytes, prefix, words, ended: false }
+        Walk { bytes, prefix, words, read: [0; _], taken: 0, ended: false }
     }
 
     /// The rows alone: all records of a leaf, none of an index page.
@@ -186,8 +192,19 @@ impl<'a> Walk<'a> {
         self.filter_map(|record| record.map(Record::child).transpose())
     }
 
-    fn record(&self, words: [u64; 9]) -> Option<Record<'a>> {
-        let [what, rest, rest_len, first, cmd, value, value_len, remote, entered] = words;
+    /// Reads the next records; none at the end. A refused step is told behind the records before it.
+    fn refill(&mut self) -> Option<Result<(), Refusal>> {
+        self.taken = 0;
+        self.read[0] = 0;
+        let told = ffi::steps(self.bytes, &mut self.words, &mut self.read);
+        // a refused step would be refused again for ever
+        self.ended = self.read[0] == 0;
+        (!self.ended || told.is_err()).then_some(told)
+    }
+
+    #[inline]
+    fn record(&self, words: &[u64; RECORD_WORDS]) -> Option<Record<'a>> {
+        let [what, rest, rest_len, first, cmd, value, value_len, remote, entered] = *words;
         let key = Key { prefix: self.prefix, rest: part(self.bytes, rest, rest_len) };
         match what {
             1 => Some(Record::Row(Row {
@@ -206,15 +223,19 @@ impl<'a> Walk<'a> {
 impl<'a> Iterator for Walk<'a> {
     type Item = Result<Record<'a>, Refusal>;
 
+    #[inline]
     fn next(&mut self) -> Option<Self::Item> {
         if self.ended {
             return None;
         }
-        let record =
-            ffi::step(self.bytes, &mut self.words).map(|words| self.record(words)).transpose();
-        // a refused step would be refused again for ever
-        self.ended = !matches!(record, Some(Ok(_)));
-        record
+        if self.taken as u64 == self.read[0] {
+            if let Err(refusal) = self.refill()? {
+                return Some(Err(refusal));
+            }
+        }
+        let words = self.read[1..].chunks_exact(RECORD_WORDS).nth(self.taken)?;
+        self.taken += 1;
+        self.record(words.try_into().ok()?).map(Ok)
     }
 }
 

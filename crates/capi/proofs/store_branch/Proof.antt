@@ -1,7 +1,7 @@
 -- `capi::store_branch` meets its contract. Assumes nothing.
 use mathlib.Core.Path.{refl}
+use mathlib.Core.List.{[], _∷_}
 use Rattle.spans.proofs.Put.{put-chain}
-use Rattle.capi.specs.Words.{written}
 use borrow.Author.Needs.{needs}
 use Rattle.capi.proofs.store_branch.Statement.{statement}
 use Rattle.capi.proofs.store_branch.Tie as tie
@@ -9,8 +9,14 @@ use Rattle.capi.proofs.store_branch.Tie as tie
 store-three-requires : tie.Need-store-three-requires
 store-three-requires c κs = search needs
 
+add-store-three : tie.Need-add-store-three
+add-store-three c = search needs
+
 store-three-requires-2 : tie.Need-store-three-requires-2
 store-three-requires-2 c κs = search needs
+
+add-store-three-2 : tie.Need-add-store-three-2
+add-store-three-2 c = search needs
 
 store-three-requires-3 : tie.Need-store-three-requires-3
 store-three-requires-3 c κs = search needs
@@ -19,8 +25,7 @@ same-length : tie.Need-same-length
 same-length c = search needs
 
 returns : tie.Need-returns
-unfolding written
-returns c = put-chain _ 0 _ _ (put-chain _ 0 _ _ (c .before .before .before .before .before .before .before .before .before .before .store-three .ensures) (c .before .before .before .before .before .before .store-three2 .ensures) refl) (c .before .before .store-three3 .ensures) refl
+returns c = put-chain _ (c .before .before .before .before .before .before .before .before .before .before .before .before .before .args .k) _ _ (put-chain _ (c .before .before .before .before .before .before .before .before .before .before .before .before .before .args .k) _ _ (c .before .before .before .before .before .before .before .before .before .before .store-three .ensures) (c .before .before .before .before .before .before .store-three2 .ensures) refl) (c .before .before .store-three3 .ensures) refl
 
 pub store-branch-spec : {M : Type 1} → statement M
-store-branch-spec = tie.close (tie.spec store-three-requires store-three-requires-2 store-three-requires-3 same-length returns)
+store-branch-spec = tie.close (tie.spec store-three-requires add-store-three store-three-requires-2 add-store-three-2 store-three-requires-3 same-length returns)
