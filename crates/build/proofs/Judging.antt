@@ -57,6 +57,15 @@ longs p (x ∷ es) e =
     let q = ask (startsWith p (x .key)) (prefixed p es) false true (λ z. absurd (let y : _≡_ {A = ℕ} 0 1 = cc in omega arith)) e in
     (prefix-long p (x .key) (q .0), longs p es (q .1))
 
+-- every key begins with no prefix
+all-begin : (es : List Entry) → true ≡ prefixed [] es
+unfolding prefixed startsWith
+all-begin [] = refl
+all-begin (x ∷ es) = all-begin es
+
+pub no-prefix : (p : ℕ) (x : List ℕ) (es : List Entry) → p ≡ 0 → true ≡ prefixed (take p x) es
+no-prefix p x es e = rw e (all-begin es)
+
 -- the prefix's bytes where they lie
 take-part : (s : List ℕ) (at n p : ℕ) → p ≤ n → take p (part s at n) ≡ part s at p
 unfolding part

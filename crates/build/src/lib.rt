@@ -7,6 +7,7 @@ use frames::Refusal;
 use image::Built;
 use image::Call;
 use sources::Cursor;
+use sources::Risen;
 use totals::Totals;
 ghost use mathlib.Core.Path.{_≡_};
 ghost use Prim.Native.Nat.{_+_, _≤_};
@@ -58,6 +59,9 @@ pub fn begins_with(list: &[u8], low: &[u8], from: Cursor, lo: &[u8], e: Edge, p:
     requires { ⌜ p ≤ e .len ⌝ }
     ensures { λ r. ⌜ r ≡ prefixed (take p (edgeBytes (now (lo .entry)) (now (low .entry)) e)) (entries (now (list .entry)) (now (low .entry)) from) ⌝ }
 {
+    if p == 0 {
+        return true;
+    }
     if e.low {
         return sources::begins(list, low, from, spans::part_of(low, e.at, p));
     }
@@ -83,13 +87,12 @@ pub fn judge_index(
     let x = e.lo;
     let y = e.hi;
     let p = e.prefix;
-    if !sources::rises(list, low, from) {
+    let Risen::Up(n) = sources::rises(list, low, from) else {
         return IndexVerdict::No(Refusal::OutOfOrder);
-    }
+    };
     if !begins_with(list, low, from, lo, x, p) {
         return IndexVerdict::No(Refusal::WrongPrefix);
     }
-    let n = sources::count(list, low, from);
     if 65535 < n {
         return IndexVerdict::No(Refusal::TooBig);
     }
@@ -154,13 +157,12 @@ pub fn judge_leaf(
     let x = e.lo;
     let y = e.hi;
     let p = e.prefix;
-    if !sources::rises(list, low, from) {
+    let Risen::Up(n) = sources::rises(list, low, from) else {
         return LeafVerdict::No(Refusal::OutOfOrder);
-    }
+    };
     if !begins_with(list, low, from, lo, x, p) {
         return LeafVerdict::No(Refusal::WrongPrefix);
     }
-    let n = sources::count(list, low, from);
     if 65535 < n {
         return LeafVerdict::No(Refusal::TooBig);
     }

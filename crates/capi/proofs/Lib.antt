@@ -1,5 +1,4 @@
-pub mod Laws
+pub mod Told
 pub mod Decided
 pub mod Looping
-pub mod Running
 pub mod Batches

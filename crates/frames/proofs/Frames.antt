@@ -74,7 +74,7 @@ pub record Sizes (s : List ℕ) (a : Addr) (x : BoxHeader) (h : BaseHeader) : Ty
   pub prefix : h .«prefix_len» ≤ h .«lo_len»
   pub above : 8 ≤ a .0
 
-base-sizes : (s : List ℕ) (a : Addr) (x : BoxHeader) (h : BaseHeader) → boxAt s a ≡ FrameRead.Frame x → baseOk x h ≡ true → Sizes s a x h
+pub base-sizes : (s : List ℕ) (a : Addr) (x : BoxHeader) (h : BaseHeader) → boxAt s a ≡ FrameRead.Frame x → baseOk x h ≡ true → Sizes s a x h
 unfolding baseOk
 base-sizes s a x h q o =
     let f = framed s a x q in

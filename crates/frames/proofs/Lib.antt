@@ -1,5 +1,6 @@
 -- The crate's laws.
 pub mod Frames
+pub mod Judged
 pub mod Stores
 pub mod Clerks
 pub mod Decided

@@ -1,6 +1,7 @@
 // Frames: addresses and page ids, the two headers read and written, the frame of each kind cut into its places, and the clerk.
 // Headers are judged once a call, into one body by value; everything after works on places inside it.
 ghost use mathlib.Core.Path.{_≡_};
+ghost use mathlib.Core.Bool.{true};
 ghost use Prim.Native.Nat.{_+_, _*_, _≤_, _<_, _^_};
 ghost use lib.ListN.{length};
 ghost use Rattle.spans.specs.Span.{put};
@@ -164,6 +165,16 @@ impl BaseHeader {
         }
     }
 
+    // What header, slots and boundaries take.
+    fn front(self) -> u64
+        ensures { λ r. ⌜ r ≡ baseLen + 4 * self .elems + self .«lo_len» + self .«hi_len» ⌝ }
+    {
+        BaseHeader::HDR_LEN as u64
+            + 4 * (self.elems as u64)
+            + (self.lo_len as u64)
+            + (self.hi_len as u64)
+    }
+
     // Whether the header is as laid out in the payload of a base frame with the header h.
     fn ok(self, h: BoxHeader) -> bool
         ensures { λ r. ⌜ r ≡ baseOk h self ⌝ }
@@ -180,10 +191,6 @@ impl BaseHeader {
         let history = (h.flag == 0) | ((1 <= self.elems) & bounds);
         let hints = (leaf & (h.flag == 0)) | (self.size == h.payload_size);
         let lengths = (self.lo_len <= 4096) & (self.hi_len <= 4096);
-        let front = BaseHeader::HDR_LEN as u64
-            + 4 * (self.elems as u64)
-            + (self.lo_len as u64)
-            + (self.hi_len as u64);
         zeros
             & (leaf | index)
             & many
@@ -192,7 +199,7 @@ impl BaseHeader {
             & lengths
             & (self.prefix_len <= self.lo_len)
             & (self.size <= h.payload_size)
-            & (front <= (self.size as u64))
+            & (self.front() <= (self.size as u64))
     }
 
     // Both headers of the base page at an address.
@@ -338,14 +345,56 @@ fn body_of(a: Addr, x: BoxHeader, h: BaseHeader) -> Body
     }
 }
 
-// The base page at an address, of any kind.
-pub fn open_at(s: &[u8], a: Addr) -> Opened
+// Whether both headers are those of a leaf or an index page: in fewer tests than `ok` of both, since flag and link are 0 there.
+fn plain(x: BoxHeader, h: BaseHeader, at: usize, len: usize) -> bool
+    requires { ⌜ (at ≤ len) × (len < 2 ^ 63) ⌝ }
+    ensures { λ r. ⌜ (r ≡ true → (boxOk x at len ≡ true) × (x .kind ≡ 1) × (baseOk x h ≡ true)) ⌝ }
+{
+    let address = (8 <= at) & (at % 8 == 0);
+    let base = (x.kind == 1) & (x.flag == 0) & (x.link.0 == 0);
+    let zeros = (h.split_elems == 0)
+        & (h.merging_child.0 == 0)
+        & (h.merging == 0)
+        & (h.padding == 0);
+    let many = (h.has_multiple_versions == 0) | (h.has_multiple_versions == 1);
+    let leaf = (h.is_index == 0) & (x.node_type == 1) & many;
+    let single = (h.has_multiple_versions == 0) & (h.size == x.payload_size);
+    let index = (h.is_index == 1) & (x.node_type == 2) & single;
+    let lengths = (h.lo_len <= 4096) & (h.hi_len <= 4096);
+    address
+        & base
+        & zeros
+        & (leaf | index)
+        & lengths
+        & (h.prefix_len <= h.lo_len)
+        & (h.size <= x.payload_size)
+        & (h.front() <= (h.size as u64))
+        & (at + frame_len(x.payload_size) <= len)
+}
+
+// The base page at an address, by both headers' tests.
+fn any_at(s: &[u8], a: Addr) -> Opened
     ensures { λ r. ⌜ r ≡ openAt (now (s .entry)) a ⌝ }
 {
     let PageRead::Page(x, h) = BaseHeader::at(s, a) else {
         return Opened::Bad;
     };
     Opened::Is(body_of(a, x, h))
+}
+
+// The base page at an address, of any kind: leaf and index pages are judged quickly.
+pub fn open_at(s: &[u8], a: Addr) -> Opened
+    ensures { λ r. ⌜ r ≡ openAt (now (s .entry)) a ⌝ }
+{
+    let at = a.0 as usize;
+    if spans::room(s.len(), at, 72) {
+        let x = BoxHeader::fields(s, at);
+        let h = BaseHeader::fields(s, at + BoxHeader::HDR_LEN);
+        if plain(x, h, at, s.len()) {
+            return Opened::Is(body_of(a, x, h));
+        }
+    }
+    any_at(s, a)
 }
 
 // Where a remote value's bytes stand.

@@ -206,7 +206,8 @@ fn settle(list: &[u8], low: &[u8], c: Cursor, p: Loc, named: bool, m: Call) -> L
     if left > 0 {
         return p;
     }
-    let r = history::look_ahead(list, low, c, m.limit, m.budget);
+    let s = history::look_ahead(list, low, c, m.limit, m.budget);
+    let r = s.run;
     let n = r.count;
     if n == 0 {
         return p;

@@ -12,7 +12,7 @@ use Rattle.paging.specs.Cuts.{pageStart, fits, taken, cuts, firstCut, some, tot
 use Rattle.paging.proofs.Cutting.{taken-more, taken-stop, taken-nil, taken-long, told, more, page-most, fits-says, fits-not}
 use Rattle.sources.specs.declared.Cursor.{Cursor}
 use Rattle.sources.specs.declared.Item.{Item}
-use Rattle.sources.specs.Source.{Entry, entryOf, entries, only, Chosen}
+use Rattle.sources.specs.Source.{Entry, entryOf, entries, only, Chosen, Skipped}
 use Rattle.image.specs.Sizes.{farLen, valLen, cost, costsOf, fars}
 use Rattle.image.specs.Image.{histSize, linkTo}
 use Rattle.image.proofs.Lengths.{size-some, far-most, cost-some, costs-many, costs-take, costs-drop, costs-length}
@@ -78,8 +78,15 @@ module _ (limit budget : ℕ) where
 
 -- ---- the loop
 
+drop-next : (n : ℕ) (os : List Entry) (e : Entry) (es : List Entry) → drop n os ≡ e ∷ es → es ≡ drop (n + 1) os
+drop-next zero [] e es q = absurd (omega (arith, ap length q))
+drop-next zero (x ∷ os) e es q = cc
+drop-next (suc n) [] e es q = absurd (omega (arith, ap length q))
+drop-next (suc n) (x ∷ os) e es q = let k : suc (n + 1) ≡ suc n + 1 = omega arith in drop-next n os e es q ∙ ap (λ (j : ℕ). drop j (x ∷ os)) k
+
 pub record Looking (l w : List ℕ) (limit budget : ℕ) (c₀ c : Cursor) (n t f : ℕ) : Type 0 where
   pub goes : runFrom limit budget n t f (only true (entries l w c)) ≡ runOf limit budget (only true (entries l w c₀))
+  pub rest : only true (entries l w c) ≡ drop n (only true (entries l w c₀))
   pub small : t ≤ 131072
   pub many : 21 * n + 40 ≤ t
   pub first : n ≡ 0 → t ≡ 40
@@ -89,11 +96,14 @@ pub record Looking (l w : List ℕ) (limit budget : ℕ) (c₀ c : Cursor) (n t 
 
 pub look-begin : (l w : List ℕ) (limit budget : ℕ) (c : Cursor) → limit ≤ 65536 → budget ≤ 131072 → Looking l w limit budget c c 0 40 0
 look-begin l w limit budget c h k =
-    record { goes = from-first limit budget (only true (entries l w c)); small = omega arith; many = omega arith; first = λ e. refl; away = omega arith; limits = h; budgets = k }
+    record { goes = from-first limit budget (only true (entries l w c)); rest = refl; small = omega arith; many = omega arith; first = λ e. refl; away = omega arith; limits = h; budgets = k }
 
 module _ (l w : List ℕ) (limit budget : ℕ) (c₀ c : Cursor) (n t f : ℕ) (h : Looking l w limit budget c₀ c n t f) where
-  pub look-end : only true (entries l w c) ≡ [] → run n t f false ≡ runOf limit budget (only true (entries l w c₀))
-  look-end e = from-nil limit budget n t f (only true (entries l w c)) e ∙ h .goes
+  skipped : Skipped l w true c₀ n c
+  skipped = record { list = h .rest }
+
+  pub look-end : only true (entries l w c) ≡ [] → (run n t f false ≡ runOf limit budget (only true (entries l w c₀))) × Skipped l w true c₀ n c
+  look-end e = (from-nil limit budget n t f (only true (entries l w c)) e ∙ h .goes, skipped)
 
   module _ (i : Item) (d : Cursor) (g : Chosen l w true c i d) (x : ℕ) (ex : x ≡ sizeOf false limit (i .vlen)) where
     pub look-fits : (5 ≤ x) × (x ≤ 65549)
@@ -103,11 +113,13 @@ module _ (l w : List ℕ) (limit budget : ℕ) (c₀ c : Cursor) (n t f : ℕ) (
     unfolding cost
     cost-is = rw (ex, g .vlen) refl
 
-    pub look-full : fits budget n t (12 + x + 4) ≡ false → run n t f true ≡ runOf limit budget (only true (entries l w c₀))
-    look-full e =
-        from-stop limit budget n t f (entryOf l w i) (only true (entries l w d)) (ap (fits budget n t) (sym cost-is) ∙ e)
-        ∙ ap (runFrom limit budget n t f) (sym (g .list))
-        ∙ h .goes
+    pub look-full : fits budget n t (12 + x + 4) ≡ false → (run n t f true ≡ runOf limit budget (only true (entries l w c₀))) × Skipped l w true c₀ n c
+    look-full e = (
+      from-stop limit budget n t f (entryOf l w i) (only true (entries l w d)) (ap (fits budget n t) (sym cost-is) ∙ e)
+          ∙ ap (runFrom limit budget n t f) (sym (g .list))
+          ∙ h .goes,
+      skipped,
+    )
 
     module _ (y : ℕ) (ey : y ≡ farLen limit (i .vlen) (i .kept .0)) where
       pub look-far : y ≤ 65600
@@ -124,6 +136,7 @@ module _ (l w : List ℕ) (limit budget : ℕ) (c₀ c : Cursor) (n t f : ℕ) (
                 sym (ap (runFrom limit budget n t f) (g .list) ∙ from-go limit budget n t f (entryOf l w i) (only true (entries l w d)) (ap (fits budget n t) (sym cost-is) ∙ e)
                 ∙ rw (cost-is, far-is) refl)
                 ∙ h .goes;
+            rest = drop-next n (only true (entries l w c₀)) (entryOf l w i) (only true (entries l w d)) (sym (h .rest) ∙ g .list);
             small = ⊎-elim (λ q. let z : t ≡ 40 = h .first q in let b = look-fits in omega arith) (λ q. let b = h .budgets in omega arith) (fits-says budget n t (12 + x + 4) e);
             many = let b = look-fits in omega (arith, h .many);
             first = λ q. absurd (omega arith);

@@ -110,8 +110,8 @@ module _ (l a : List ℕ) (low : ℕ) (c : Cursor) (at : ℕ) (m : Call) (r : Ru
               wrote-n a low whole a₃ (at + (32 + r .size)) _ (replicate (at + x - (at + (32 + r .size))) 0) (farFrames m es) p3 (ap (λ (z : List ℕ). z ++ farFrames m es) pads)
               (at + x - (at + (32 + r .size))) a₄ (at + x) (length-replicate _ 0) e₄ (omega (arith, ex, frame-least (r .size)))
 
-          pub frames-asks : (low ≤ at + x) × (at + x + length (farFrames m (these l a₄ low true c (r .count))) ≤ length a₄)
-          frames-asks = rw (p4 .same) (p4 .over, p4 .room)
+          pub frames-asks : (low ≤ at + x) × ((at + x + length (farFrames m (these l a₄ low true c (r .count))) ≤ length a₄) × (r .far ≡ fars (m .limit) (these l a₄ low true c (r .count))))
+          frames-asks = rw (p4 .same) (p4 .over, (p4 .room, tells .far))
 
           pub page-whole : (a₅ : List ℕ) → a₅ ≡ put a₄ (at + x) (farFrames m (these l a₄ low true c (r .count))) → a₅ ≡ whole
           page-whole a₅ q = (rw (p4 .same) at q) ∙ p4 .goes
@@ -167,12 +167,12 @@ module _ (a₀ l : List ℕ) (low at : ℕ) (m : Call) (c₀ : Cursor) (a : List
       long : to₁ ≡ to + length (runPage m to r (only true (entries l (take low a₀) c)))
       long = to-is ∙ sym (length-page m to (cond (r .more) (pageEnd (m .limit) to (take (r .count) (only true (entries l (take low a₀) c)))) 0) (take (r .count) (only true (entries l (take low a₀) c))))
 
-      pub w1 : Writing a₀ low (put a₀ at (historyAt m at (only true (entries l (take low a₀) c₀)))) a₁ to₁ (historyAt m (pageEnd (m .limit) to (take (r .count) (only true (entries l (take low a₀) c)))) (drop (r .count) (only true (entries l (take low a₀) c))))
+      w1 : Writing a₀ low (put a₀ at (historyAt m at (only true (entries l (take low a₀) c₀)))) a₁ to₁ (historyAt m (pageEnd (m .limit) to (take (r .count) (only true (entries l (take low a₀) c)))) (drop (r .count) (only true (entries l (take low a₀) c))))
       w1 = wrote a₀ low _ a to _ (runPage m to r (only true (entries l (take low a₀) c))) _ a₁ to₁ (h .writing) (hist-open m to (only true (entries l (take low a₀) c)) r t p) (rw (h .writing .same) at q₁) long
 
-      module _ (d : Cursor) (s : Skipped l (take low a₁) true c (r .count) d) where
+      module _ (d : Cursor) (s : Skipped l (take low a) true c (r .count) d) where
         d-is : only true (entries l (take low a₀) d) ≡ drop (r .count) (only true (entries l (take low a₀) c))
-        d-is = rw (w1 .same) at (s .list)
+        d-is = rw (h .writing .same) at (s .list)
 
         pub hist-turn : Histories a₀ l low at m c₀ a₁ d to₁
         hist-turn =

@@ -23,7 +23,7 @@ use Rattle.sources.specs.Source.{Entry, Placed, entryOf, entries, only, Chosen}
 use Rattle.image.specs.declared.Call.{Call}
 use Rattle.image.specs.Sizes.{farLen, valLen, cost, costsOf, fars}
 use Rattle.image.specs.Image.{oldSlots, oldRec, oldRecs, remoteFrame, farFrame, farFrames}
-use Rattle.image.proofs.Lengths.{length-old, length-far, length-remote-frame}
+use Rattle.image.proofs.Lengths.{length-old, length-far, length-fars, length-remote-frame}
 use Rattle.history.proofs.Writes.{wrote-le, room-le}
 
 pub take-cons : (k : ℕ) (x : Entry) (xs ys : List Entry) → ys ≡ x ∷ xs → 0 < k → take k ys ≡ x ∷ take (k - 1) xs
@@ -49,6 +49,14 @@ recs-nil limit far es e = rw e
 pub frames-nil : (m : Call) (es : List Entry) → es ≡ [] → farFrames m es ≡ []
 unfolding farFrames
 frames-nil m es e = rw e
+
+pub no-bytes : (xs : List ℕ) → length xs ≡ 0 → xs ≡ []
+no-bytes [] e = refl
+no-bytes (x ∷ xs) e = absurd (omega (arith, e))
+
+-- none take a remote frame
+pub frames-none : (a : List ℕ) (at : ℕ) (m : Call) (es : List Entry) (n : ℕ) → n ≡ fars (m .limit) es → n ≡ 0 → a ≡ put a at (farFrames m es)
+frames-none a at m es n e z = sym (ap (put a at) (no-bytes (farFrames m es) (omega (arith, length-fars m es, e, z))) ∙ put-nil a at)
 
 module _ (l w : List ℕ) (b : Bool) (c : Cursor) (i : Item) (d : Cursor) (g : Chosen l w b c i d) (k : ℕ) (p : 0 < k) where
   taken : take k (only b (entries l w c)) ≡ entryOf l w i ∷ take (k - 1) (only b (entries l w d))

@@ -18,7 +18,7 @@ ghost use Rattle.spans.specs.Span.{part, put};
 ghost use Rattle.values.specs.Vals.{histOf};
 ghost use Rattle.paging.specs.Cuts.{total};
 ghost use Rattle.sources.specs.Keys.{srcOf};
-ghost use Rattle.sources.specs.Source.{Placed, entryOf, entries, only};
+ghost use Rattle.sources.specs.Source.{Placed, entryOf, entries, only, Skipped};
 ghost use Rattle.image.specs.Sizes.{costsOf, fars};
 ghost use Rattle.image.specs.Image.{valBytes, remoteFrame, farFrame, farFrames, oldRec, oldRecs, oldSlots, histHead, pageEnd};
 ghost use Rattle.history.specs.Runs.{Sane, these, runOf, runPage, historyAt, historyEndAt};
@@ -31,12 +31,19 @@ pub struct Run {
     pub more: bool,
 }
 
+// A look ahead: that page, and the old versions behind it.
+pub struct Look {
+    pub run: Run,
+    pub rest: Cursor,
+}
+
 // ---- looking ahead
 
 // The history page that comes next.
-pub fn look_ahead(list: &[u8], low: &[u8], from: Cursor, limit: usize, budget: usize) -> Run
+pub fn look_ahead(list: &[u8], low: &[u8], from: Cursor, limit: usize, budget: usize) -> Look
     requires { ⌜ (limit ≤ 65536) × (budget ≤ 131072) ⌝ }
-    ensures { λ r. ⌜ r ≡ runOf limit budget (only true (entries (now (list .entry)) (now (low .entry)) from)) ⌝ }
+    ensures { λ r. ⌜ r .run ≡ runOf limit budget (only true (entries (now (list .entry)) (now (low .entry)) from)) ⌝ }
+    ensures { λ r. ⌜ Skipped (now (list .entry)) (now (low .entry)) true from (r .run .count) (r .rest) ⌝ }
 {
     let mut c = from;
     let mut n: usize = 0;
@@ -45,20 +52,26 @@ pub fn look_ahead(list: &[u8], low: &[u8], from: Cursor, limit: usize, budget: u
     loop {
         let st = sources::next_of(list, low, true, c);
         let Pick::One(i, d) = st else {
-            return Run {
-                count: n,
-                size: t,
-                far: f,
-                more: false,
+            return Look {
+                run: Run {
+                    count: n,
+                    size: t,
+                    far: f,
+                    more: false,
+                },
+                rest: c,
             };
         };
         let s = 12 + Val::calc_size(false, limit, i.vlen as u32) + 4;
         if !paging::takes(budget, n, t, s) {
-            return Run {
-                count: n,
-                size: t,
-                far: f,
-                more: true,
+            return Look {
+                run: Run {
+                    count: n,
+                    size: t,
+                    far: f,
+                    more: true,
+                },
+                rest: c,
             };
         }
         let kept = i.kept;
@@ -268,8 +281,8 @@ fn far_frame(a: &mut [u8], low: usize, list: &[u8], i: Item, at: usize, m: Call)
     at + frames::frame_len((8 + n) as u32)
 }
 
-// The remote frames of the next n old versions, or heads.
-pub fn far_frames(
+// The remote frames of the next n old versions, or heads, one by one.
+fn each_far_frame(
     a: &mut [u8],
     low: usize,
     list: &[u8],
@@ -295,6 +308,29 @@ pub fn far_frames(
         c = d;
         k -= 1;
     }
+}
+
+// The same, which take len bytes: where that is none, no entry is read.
+pub fn far_frames(
+    a: &mut [u8],
+    low: usize,
+    list: &[u8],
+    want: bool,
+    from: Cursor,
+    n: usize,
+    at: usize,
+    m: Call,
+    len: usize,
+)
+    requires { ⌜ low ≤ at ⌝ }
+    requires { ⌜ at + length (farFrames m (these (now list) (now a) low want from n)) ≤ length (now a) ⌝ }
+    requires { ⌜ len ≡ fars (m .limit) (these (now list) (now a) low want from n) ⌝ }
+    ensures { λ _. ⌜ now (a .exit) ≡ put (now (a .entry)) at (farFrames m (these (now (list .entry)) (now (a .entry)) low want from n)) ⌝ }
+{
+    if len == 0 {
+        return;
+    }
+    each_far_frame(a, low, list, want, from, n, at, m);
 }
 
 // The headers of a history page.
@@ -370,7 +406,7 @@ fn hist_page(
     old_recs(a, low, list, from, n, q, limit, end);
     let z = at + (32 + size);
     spans::zeros(a, z, end - z);
-    far_frames(a, low, list, true, from, n, end, m);
+    far_frames(a, low, list, true, from, n, end, m, far);
     next
 }
 
@@ -392,12 +428,12 @@ pub fn save_hist_regions(
     let mut c = from;
     let mut to = at;
     loop {
-        let r = look_ahead(list, &a[..low], c, m.limit, m.budget);
-        let n = r.count;
-        if n == 0 {
+        let s = look_ahead(list, &a[..low], c, m.limit, m.budget);
+        let r = s.run;
+        if r.count == 0 {
             return to;
         }
         to = hist_page(a, low, list, c, to, m, r);
-        c = sources::skip(list, &a[..low], true, c, n);
+        c = s.rest;
     }
 }

@@ -244,8 +244,11 @@ module _ (l a : List ℕ) (low : ℕ) (c : Cursor) (at : ℕ) (m : Call) (t : To
     leaf-is = el ∙ sym (ts .leaf)
 
     module _ (x : ℕ) (ex : x ≡ frameLen (t .size + t .room)) where
+      pub far-left : leaf + x ≤ t .end
+      far-left = omega (arith, ex, leaf-is, ts .end)
+
       pub far-fits : leaf + x ≤ length a
-      far-fits = omega (arith, ex, leaf-is, ts .end, en)
+      far-fits = omega (arith, far-left, en)
 
       pub frame-asks : (low ≤ leaf) × (Sane m × (Small t e × (Inside lo hi (take low a₁) e × (Long (e .prefix) (entries l (take low a₁) c) × ((length (entries l (take low a₁) c) ≤ 65535) × ((t ≡ totalsOf m (boundsOf lo hi (take low a₁) e) at (entries l (take low a₁) c)) × ((leaf ≡ t .leaf) × ((leaf + x ≡ leaf + frameLen (t .size + t .room)) × (t .end ≤ length a₁)))))))))
       frame-asks = rw (v1 .same, v1 .long) (v1 .over, (sane, (sm, (in₁, (long, (few, (te, (leaf-is, (ap (λ (n : ℕ). leaf + n) ex, en)))))))))
@@ -263,8 +266,8 @@ module _ (l a : List ℕ) (low : ℕ) (c : Cursor) (at : ℕ) (m : Call) (t : To
         all-heads : these l a low false c (t .heads) ≡ heads all
         all-heads = take-whole (t .heads) (heads all) (ts .count)
 
-        pub frames-asks : (low ≤ leaf + x) × (leaf + x + length (farFrames m (these l a₂ low false c (t .heads))) ≤ length a₂)
-        frames-asks = rw (v2 .same, all-heads) (v2 .over, v2 .room)
+        pub frames-asks : (low ≤ leaf + x) × ((leaf + x + length (farFrames m (these l a₂ low false c (t .heads))) ≤ length a₂) × (t .end - (leaf + x) ≡ fars (m .limit) (these l a₂ low false c (t .heads))))
+        frames-asks = rw (v2 .same, all-heads) (v2 .over, (v2 .room, omega (arith, ex, leaf-is, ts .end)))
 
         pub whole-end : (a₃ : List ℕ) → a₃ ≡ put a₂ (leaf + x) (farFrames m (these l a₂ low false c (t .heads))) → (leaf ≡ t .leaf) × (a₃ ≡ image)
         whole-end a₃ e₃ = (leaf-is, (rw (v2 .same, all-heads) at e₃) ∙ v2 .goes)

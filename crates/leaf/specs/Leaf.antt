@@ -76,6 +76,10 @@ pageHints b limit at (n ∷ ns) es = pageHint b limit at (take n es) ++ pageHint
 abbrev pub hintsAt : Bool → Call → ℕ → List Entry → List ℕ
 hintsAt b m at os = pageHints b (m .limit) at (cuts (m .budget) (costsOf (m .limit) os)) os
 
+-- the remotes' addresses: "history's first, then heads'"
+abbrev pub remoteHints : Call → ℕ → ℕ → List Entry → List ℕ
+remoteHints m first far es = hintsAt true m first (olds es) ++ les 8 (farAddrs (m .limit) far (heads es))
+
 -- what a step to the history page at an address says: l is the list, w the arena below the mark
 pub record Turned (l w : List ℕ) (m : Call) (c : Cursor) (at : ℕ) (r : Page) : Type 0 where
   pub none : r .count ≡ 0 → only true (entries l w c) ≡ []

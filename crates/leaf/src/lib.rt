@@ -23,7 +23,7 @@ ghost use Rattle.history.specs.Runs.{Sane, these, historyEndAt};
 ghost use Rattle.heads.specs.Steps.{Long, steps};
 ghost use Rattle.edges.specs.Edges.{Inside, edgeBytes, boundsOf};
 ghost use Rattle.totals.specs.Totals.{totalsOf};
-ghost use Rattle.leaf.specs.Leaf.{Small, leafHead, recsAt, leafFront, leafBack, hintIf, hintBytes, Hinted, pageHint, hintsAt, Turned, Reach};
+ghost use Rattle.leaf.specs.Leaf.{Small, leafHead, recsAt, leafFront, leafBack, hintIf, hintBytes, remoteHints, Hinted, pageHint, hintsAt, Turned, Reach};
 
 // ---- hints
 
@@ -41,7 +41,8 @@ fn page_at(list: &[u8], low: &[u8], c: Cursor, at: usize, m: Call) -> Page
     requires { ⌜ historyEndAt m at (only true (entries (now list) (now low) c)) ≤ 18446744073709551615 ⌝ }
     ensures { λ r. ⌜ Turned (now (list .entry)) (now (low .entry)) m c at r ⌝ }
 {
-    let r = history::look_ahead(list, low, c, m.limit, m.budget);
+    let s = history::look_ahead(list, low, c, m.limit, m.budget);
+    let r = s.run;
     let n = r.count;
     if n == 0 {
         return Page {
@@ -53,7 +54,7 @@ fn page_at(list: &[u8], low: &[u8], c: Cursor, at: usize, m: Call) -> Page
     }
     let far = at + frames::frame_len(r.size as u32);
     let next = far + r.far;
-    let rest = sources::skip(list, low, true, c, n);
+    let rest = s.rest;
     Page {
         count: n,
         far: far,
@@ -174,7 +175,35 @@ fn page_hints(
     }
 }
 
-// All hints of the leaf: history pages, then remotes, "history's first, then heads'"; the rest of their room is zero.
+// The remotes' addresses, "history's first, then heads'", if there are any; the address past them.
+fn remote_hints(
+    a: &mut [u8],
+    low: usize,
+    list: &[u8],
+    from: Cursor,
+    at: usize,
+    m: Call,
+    t: Totals,
+    first: usize,
+    far: usize,
+) -> usize
+    requires { ⌜ low ≤ at ⌝ }
+    requires { ⌜ Sane m ⌝ }
+    requires { ⌜ Hinted m t first far (entries (now list) (take low (now a)) from) ⌝ }
+    requires { ⌜ historyEndAt m first (olds (entries (now list) (take low (now a)) from)) ≤ length (now a) ⌝ }
+    requires { ⌜ far + fars (m .limit) (heads (entries (now list) (take low (now a)) from)) ≤ length (now a) ⌝ }
+    requires { ⌜ at + length (remoteHints m first far (entries (now list) (take low (now a)) from)) ≤ length (now a) ⌝ }
+    ensures { λ r. ⌜ r ≡ at + length (remoteHints m first far (entries (now (list .entry)) (take low (now (a .entry))) from)) ⌝ }
+    ensures { λ _. ⌜ now (a .exit) ≡ put (now (a .entry)) at (remoteHints m first far (entries (now (list .entry)) (take low (now (a .entry))) from)) ⌝ }
+{
+    if t.remotes == 0 {
+        return at;
+    }
+    let h = page_hints(a, low, list, true, from, at, m, first);
+    far_hints(a, low, list, false, from, t.heads, h, m.limit, far)
+}
+
+// All hints of the leaf: history pages, then remotes; the rest of their room is zero.
 fn put_hints(
     a: &mut [u8],
     low: usize,
@@ -202,8 +231,7 @@ fn put_hints(
     numbers::put_u32(a, at, t.pages as u32);
     let r = page_hints(a, low, list, false, from, at + 4, m, first);
     numbers::put_u32(a, r, t.remotes as u32);
-    let h = page_hints(a, low, list, true, from, r + 4, m, first);
-    let z = far_hints(a, low, list, false, from, t.heads, h, m.limit, far);
+    let z = remote_hints(a, low, list, from, r + 4, m, t, first, far);
     spans::zeros(a, z, end - z);
 }
 
@@ -386,6 +414,6 @@ pub fn write_leaf(
     let leaf = history::save_hist_regions(a, low, list, from, at, m);
     let far = leaf + frames::frame_len((t.size + t.room) as u32);
     leaf_frame(a, low, list, from, at, leaf, far, m, t, lo, hi, e);
-    history::far_frames(a, low, list, false, from, t.heads, far, m);
+    history::far_frames(a, low, list, false, from, t.heads, far, m, t.end - far);
     leaf
 }

@@ -188,6 +188,13 @@ put-be a i j k n =
     ∙ put-next a i (be j (n / 256 ^ k)) (be k n) (i + j) (ap (λ (m : ℕ). i + m) (sym (length-be j (n / 256 ^ k))))
     ∙ ap (put a i) (sym (be-append j k n))
 
+-- and as two calls leave it, b after the first and c after the second
+pub both-le : (a b c : List ℕ) (i j k n : ℕ) → b ≡ put a i (le j (n % 256 ^ j)) → c ≡ put b (i + j) (le k (n / 256 ^ j)) → c ≡ put a i (le (j + k) n)
+both-le a b c i j k n e f = f ∙ ap (λ (x : List ℕ). put x (i + j) (le k (n / 256 ^ j))) e ∙ put-le a i j k n
+
+pub both-be : (a b c : List ℕ) (i j k n : ℕ) → b ≡ put a i (be j (n / 256 ^ k)) → c ≡ put b (i + j) (be k (n % 256 ^ k)) → c ≡ put a i (be (j + k) n)
+both-be a b c i j k n e f = f ∙ ap (λ (x : List ℕ). put x (i + j) (be k (n % 256 ^ k))) e ∙ put-be a i j k n
+
 -- what lies at an index is read, at every width
 pub lies-le : (a : List ℕ) (i k n : ℕ) → n < 256 ^ k → Lies a i (le k n) → leAt k a i ≡ n
 unfolding leAt

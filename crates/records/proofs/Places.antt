@@ -56,7 +56,7 @@ key-place s at kind v r n e = by (eqb kind 2) refl e
     by false k q = of (readLen s at) q
 
 -- a value lies in its bytes; a remote's size keeps the table's length
-inline-no : (h : HistRef) (p n x : ℕ) → Val.Bad ≡ Val.Inline h p n x → ⊥
+pub inline-no : (h : HistRef) (p n x : ℕ) → Val.Bad ≡ Val.Inline h p n x → ⊥
 inline-no h p n x e = let z : _≡_ {A = ℕ} 0 1 = cc in omega arith
 
 remote-no : (h : HistRef) (a : Addr) (n x : ℕ) → Val.Bad ≡ Val.Remote h a n x → ⊥

@@ -1,9 +1,10 @@
--- What the short ways read: a key whose length is one byte, an old version's key, a value that stands in its page.
+-- What the short ways read: a key whose length is one byte, an old version's key, a value that stands in its page; what an answer of theirs says.
 -- Assumes nothing.
 use Prim.Native.Nat.{ℕ, _+_, _-_, _≤_, _<_}
 use mathlib.Core.Path.{_≡_, refl, sym, ap, _∙_}
 use mathlib.Core.Bool.{Bool, true, false, cond}
 use mathlib.Core.List.{List}
+use mathlib.Core.Logic.{⊎-elim, inl, inr}
 use native.Mathlib.Omega.{arith}
 use borrow.Author.Tests.{le-leb, lt-leb, le-ltb, lt-ltb, eq-eqb, ne-eqb}
 use lib.ListN.{length, getD, take}
@@ -18,8 +19,19 @@ use Rattle.values.specs.declared.FrontRead.{FrontRead}
 use Rattle.values.specs.Keys.{skipOf, keyAt}
 use Rattle.values.specs.Vals.{noHist, valOf, refAt, frontAt, valAt}
 use Rattle.records.specs.declared.RecRead.{RecRead}
-use Rattle.records.specs.Records.{keyWhole, keyIn, valIn, recOf, recIn}
-use Rattle.records.proofs.Inside.{ends}
+use Rattle.records.specs.declared.SlotRead.{SlotRead}
+use Rattle.records.specs.Records.{slotAt, keyWhole, keyIn, valIn, recOf, recIn, recSlot, recAt, Quickly}
+use Rattle.records.proofs.Places.{inline-no}
+use Rattle.records.proofs.Inside.{ends, skip-twelve}
+
+-- ---- answers
+
+-- an answer that is not none is the decoder's
+pub quick-is : {A : Type 0} {none r x : A} (y : A) → Quickly none r x → r ≡ y → (none ≡ y → ⊥) → x ≡ y
+quick-is y q e n = ⊎-elim (λ z. absurd (n (sym z ∙ e))) (λ z. sym z ∙ e) q
+
+pub quick-on : {A : Type 0} {none r x y : A} → x ≡ y → Quickly none r x → Quickly none r y
+quick-on e q = ⊎-elim (λ z. inl z) (λ z. inr (z ∙ e)) q
 
 -- ---- keys
 
@@ -59,6 +71,23 @@ pub head-rec : (s : List ℕ) (b : Body) (p v r n : ℕ) (h : HistRef) (va vn ne
     → valAt (take (b .end) s) (r + n) true ≡ Val.Inline h va vn next → recIn s b p ≡ RecRead.Is (recOf p v r n h va vn (addr 0) next)
 unfolding recIn valIn
 head-rec s b p v r n h va vn next e k q = simp (k, ne-eqb (b .kind) 1 (λ z. omega arith), eq-eqb (b .kind) 0 e, q)
+
+-- a head with a length of one byte: so short a rest that only a long prefix could make too long a key
+pub short-head : (s : List ℕ) (b : Body) (p : ℕ) (h : HistRef) (va vn next : ℕ) → Inside s b → b .kind ≡ 0 → p < b .end
+    → 12 ≤ getD (take (b .end) s) p 0 → getD (take (b .end) s) p 0 ≤ 127 → getD (take (b .end) s) p 0 ≤ b .end - p - 1 → b .«prefix_len» ≤ 3980
+    → valAt (take (b .end) s) (p + 1 + getD (take (b .end) s) p 0) true ≡ Val.Inline h va vn next
+    → recIn s b p ≡ RecRead.Is (recOf p (p + 1) (p + 1 + 12) (getD (take (b .end) s) p 0 - 12) h va vn (addr 0) next)
+short-head s b p h va vn next i k a l m r w q =
+    let n = getD (take (b .end) s) p 0 in
+    let z : p + 1 + 12 + (n - 12) ≡ p + 1 + n = omega arith in
+    head-rec s b p (p + 1) (p + 1 + 12) (n - 12) h va vn next k
+    (short-in s b p 12 i (sym (skip-twelve (b .kind) (λ e. omega arith))) a (omega arith) (λ e. omega arith) l r (omega arith))
+    (ap (λ (j : ℕ). valAt (take (b .end) s) j true) z ∙ q)
+
+-- the record at a slot's place
+pub slot-rec : (s : List ℕ) (b : Body) (i p : ℕ) → slotAt s b i ≡ SlotRead.At p → recIn s b p ≡ recAt s b i
+unfolding recAt
+slot-rec s b i p e = sym (ap (recSlot s b) e)
 
 pub old-rec : (s : List ℕ) (b : Body) (p : ℕ) (h : HistRef) (va vn next : ℕ) → Inside s b → b .kind ≡ 2 → p + 12 ≤ b .end → b .«prefix_len» ≤ 4096
     → valAt (take (b .end) s) (p + 12) false ≡ Val.Inline h va vn next → recIn s b p ≡ RecRead.Is (recOf p p (p + 12) 0 h va vn (addr 0) next)

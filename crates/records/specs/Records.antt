@@ -3,6 +3,7 @@
 use Prim.Native.Nat.{ℕ, _+_, _*_, _≤_}
 use mathlib.Core.Path.{_≡_}
 use mathlib.Core.List.{List}
+use mathlib.Core.Logic.{_⊎_}
 use mathlib.Core.Bool.{Bool, cond}
 use lib.ListN.{length, take}
 use lib.Dec.{ltb, leb, eqb}
@@ -95,6 +96,10 @@ recSlot s b SlotRead.Bad = RecRead.Bad
 
 unfoldable pub recAt : List ℕ → Body → ℕ → RecRead
 recAt s b i = recSlot s b (slotAt s b i)
+
+-- a short way's answer: what the decoder answers, or none, which says nothing
+abbrev pub Quickly : {A : Type 0} → A → A → A → Type 0
+Quickly none r x = (r ≡ none) ⊎ (r ≡ x)
 
 -- what a record that was read tells of its places
 pub record RecInside (s : List ℕ) (b : Body) (r : Rec) : Type 0 where

@@ -1,6 +1,6 @@
 // A page's parts: one decoder of a record at a slot, for leaf, index and history pages; its boundaries, key rests and values, lent on.
 ghost use mathlib.Core.Path.{_≡_};
-ghost use Prim.Native.Nat.{_+_, _≤_};
+ghost use Prim.Native.Nat.{_+_, _≤_, _<_};
 ghost use mathlib.Core.Bool.{true, false};
 ghost use lib.ListN.{length};
 ghost use Rattle.spans.specs.Span.{part, partOr};
@@ -8,7 +8,9 @@ ghost use Rattle.frames.specs.Layout.{Inside};
 ghost use Rattle.values.specs.Keys.{skipOf};
 ghost use Rattle.values.specs.Vals.{noHist, valOf, valAt};
 ghost use Rattle.values.specs.declared.FrontRead.{FrontRead};
-ghost use Rattle.records.specs.Records.{slotAt, verIn, keyIn, keyAtSlot, valIn, recIn, recAt};
+ghost use Rattle.values.specs.declared.Val.{Val};
+ghost use Rattle.records.specs.declared.RecRead.{RecRead};
+ghost use Rattle.records.specs.Records.{slotAt, verIn, keyIn, keyAtSlot, valIn, recIn, recAt, Quickly};
 ghost use Rattle.records.specs.Parts.{loIn, hiIn, prefixIn};
 use frames::Addr;
 use frames::BaseHeader;
@@ -259,7 +261,8 @@ pub fn rec_at(s: &[u8], b: Body, i: usize) -> RecRead
     rec_in(s, b, p)
 }
 
-// ---- the same for a walk's steps: a value that stands in its page is read here, any other as above
+// ---- the common record, for the loop that takes many steps: a value that stands in its page, a head's key with a length of one byte. Any
+// other is left to the decoder above: the answer is then Bad, which says nothing.
 
 // A value's size and bytes behind its front.
 fn bytes_at(t: &[u8], at: usize, h: HistRef) -> Val
@@ -271,7 +274,7 @@ fn bytes_at(t: &[u8], at: usize, h: HistRef) -> Val
             return Val::Bad;
         }
         let p = at + 4;
-        if spans::room(t.len(), p, n) {
+        if n <= t.len() - p {
             return Val::Inline {
                 hist: h,
                 at: p,
@@ -295,7 +298,7 @@ fn no_hist() -> HistRef
 
 // A head's value.
 fn head_val(t: &[u8], at: usize) -> Val
-    ensures { λ r. ⌜ r ≡ valAt (now (t .entry)) at true ⌝ }
+    ensures { λ r. ⌜ Quickly Val.Bad r (valAt (now (t .entry)) at true) ⌝ }
 {
     if at < t.len() {
         let f = t[at];
@@ -316,37 +319,44 @@ fn head_val(t: &[u8], at: usize) -> Val
             }
         }
     }
-    Val::decode_from(t, at, true)
+    Val::Bad
 }
 
 // An old version's value.
 fn old_val(t: &[u8], at: usize) -> Val
-    ensures { λ r. ⌜ r ≡ valAt (now (t .entry)) at false ⌝ }
+    ensures { λ r. ⌜ Quickly Val.Bad r (valAt (now (t .entry)) at false) ⌝ }
 {
     if at < t.len() {
         if t[at] == 0 {
             return bytes_at(t, at + 1, no_hist());
         }
     }
-    Val::decode_from(t, at, false)
+    Val::Bad
 }
 
 // The head at a place of a leaf.
 fn head_in(s: &[u8], b: Body, p: usize) -> RecRead
     requires { ⌜ Inside (now s) b ⌝ }
     requires { ⌜ b .kind ≡ 0 ⌝ }
-    ensures { λ r. ⌜ r ≡ recIn (now (s .entry)) b p ⌝ }
+    requires { ⌜ p < b .end ⌝ }
+    ensures { λ r. ⌜ Quickly RecRead.Bad r (recIn (now (s .entry)) b p) ⌝ }
 {
-    let KeyRead::Key {
-        ver_at,
-        rest_at,
-        rest_len,
-    } = short_key(s, b, p)
-    else {
-        return RecRead::Bad;
-    };
     let e = b.end;
-    match head_val(&s[..e], rest_at + rest_len) {
+    let t = &s[..e];
+    let n = t[p] as usize;
+    if n < 12 {
+        return RecRead::Bad;
+    }
+    if 127 < n {
+        return RecRead::Bad;
+    }
+    if e - p - 1 < n {
+        return RecRead::Bad;
+    }
+    if 3980 < b.prefix_len {
+        return RecRead::Bad;
+    }
+    match head_val(t, p + 1 + n) {
         Val::Inline {
             hist,
             at,
@@ -354,16 +364,16 @@ fn head_in(s: &[u8], b: Body, p: usize) -> RecRead
             next,
         } => RecRead::Is(Rec {
             from: p,
-            ver_at: ver_at,
-            rest_at: rest_at,
-            rest_len: rest_len,
+            ver_at: p + 1,
+            rest_at: p + 1 + 12,
+            rest_len: n - 12,
             hist: hist,
             val_at: at,
             val_len: size,
             remote: Addr(0),
             next: next,
         }),
-        _ => rec_in(s, b, p),
+        _ => RecRead::Bad,
     }
 }
 
@@ -371,7 +381,7 @@ fn head_in(s: &[u8], b: Body, p: usize) -> RecRead
 fn old_in(s: &[u8], b: Body, p: usize) -> RecRead
     requires { ⌜ Inside (now s) b ⌝ }
     requires { ⌜ b .kind ≡ 2 ⌝ }
-    ensures { λ r. ⌜ r ≡ recIn (now (s .entry)) b p ⌝ }
+    ensures { λ r. ⌜ Quickly RecRead.Bad r (recIn (now (s .entry)) b p) ⌝ }
 {
     let e = b.end;
     if spans::room(e, p, 12) {
@@ -399,14 +409,14 @@ fn old_in(s: &[u8], b: Body, p: usize) -> RecRead
             }
         }
     }
-    rec_in(s, b, p)
+    RecRead::Bad
 }
 
 // The head of slot i of a leaf.
-pub fn head_at(s: &[u8], b: Body, i: usize) -> RecRead
+pub fn quick_head(s: &[u8], b: Body, i: usize) -> RecRead
     requires { ⌜ Inside (now s) b ⌝ }
     requires { ⌜ b .kind ≡ 0 ⌝ }
-    ensures { λ r. ⌜ r ≡ recAt (now (s .entry)) b i ⌝ }
+    ensures { λ r. ⌜ Quickly RecRead.Bad r (recAt (now (s .entry)) b i) ⌝ }
 {
     let SlotRead::At(p) = slot_at(s, b, i) else {
         return RecRead::Bad;
@@ -415,10 +425,10 @@ pub fn head_at(s: &[u8], b: Body, i: usize) -> RecRead
 }
 
 // The old version of slot i of a history page.
-pub fn old_at(s: &[u8], b: Body, i: usize) -> RecRead
+pub fn quick_old(s: &[u8], b: Body, i: usize) -> RecRead
     requires { ⌜ Inside (now s) b ⌝ }
     requires { ⌜ b .kind ≡ 2 ⌝ }
-    ensures { λ r. ⌜ r ≡ recAt (now (s .entry)) b i ⌝ }
+    ensures { λ r. ⌜ Quickly RecRead.Bad r (recAt (now (s .entry)) b i) ⌝ }
 {
     let SlotRead::At(p) = slot_at(s, b, i) else {
         return RecRead::Bad;

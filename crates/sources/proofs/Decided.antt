@@ -1,11 +1,9 @@
 -- No second answer fits the contract of a public call. `Post` is the contract as the check reads it, so a contract that is weakened
--- fails here. `next_of` and `skip` promise what their answers stand for, which decides every pass: the entries from there on.
+-- fails here. `next_of` promises what its answer stands for, which decides every pass: the entries from there on.
 -- Assumes nothing.
-use mathlib.Core.Path.{_≡_, _∙_, sym}
 use mathlib.Core.List.{List}
 use mathlib.Core.Bool.{Bool}
 use Prim.Native.Nat.{ℕ}
-use lib.ListN.{length}
 use contract.Lifetimes.{Lfts}
 use denote.Ref.{RefT, now}
 use denote.Triple.Clauses.{AtExit}
@@ -14,8 +12,9 @@ use Rattle.sources.specs.declared.Cursor.{Cursor}
 use Rattle.sources.specs.declared.Begun.{Begun}
 use Rattle.sources.specs.declared.Step.{Step}
 use Rattle.sources.specs.Lists.{begunOf}
-use Rattle.sources.specs.Source.{Entry, nextOf, entries, wellFormed, only, Skipped}
-use Rattle.sources.specs.Judged.{rising, prefixed}
+use Rattle.sources.specs.declared.Risen.{Risen}
+use Rattle.sources.specs.Source.{nextOf, entries, wellFormed}
+use Rattle.sources.specs.Judged.{risenOf, prefixed}
 use Rattle.sources.proofs.«open_records» as records-fn
 use Rattle.sources.proofs.«open_records».Reads as records
 use Rattle.sources.proofs.«open_index» as index-fn
@@ -28,8 +27,6 @@ use Rattle.sources.proofs.rises as rises-fn
 use Rattle.sources.proofs.rises.Reads as rises
 use Rattle.sources.proofs.begins as begins-fn
 use Rattle.sources.proofs.begins.Reads as begins
-use Rattle.sources.proofs.count as count-fn
-use Rattle.sources.proofs.count.Reads as count
 
 pub open-records-decided : (κs : Lfts 1) (l : RefT (List ℕ)) (x : AtExit records-fn.ended κs) → Decides (λ (r : Begun). records.Post κs (l, tt) r x) (λ (r : Begun). r)
 open-records-decided κs l x = decides (λ (r : Begun). r) (begunOf (now l) 0)
@@ -44,15 +41,8 @@ module _ (κs : Lfts 2) (l w : RefT (List ℕ)) (c : Cursor) where
   pub well-decided : (x : AtExit well-fn.ended κs) → Decides (λ (r : Bool). well.Post κs (l, (w, (c, tt))) r x) (λ (r : Bool). r)
   well-decided x = decides (λ (r : Bool). r) (wellFormed (now l) (now w) c)
 
-  pub rises-decided : (x : AtExit rises-fn.ended κs) → Decides (λ (r : Bool). rises.Post κs (l, (w, (c, tt))) r x) (λ (r : Bool). r)
-  rises-decided x = decides (λ (r : Bool). r) (rising (entries (now l) (now w) c))
-
-  pub count-decided : (x : AtExit count-fn.ended κs) → Decides (λ (r : ℕ). count.Post κs (l, (w, (c, tt))) r x) (λ (r : ℕ). r)
-  count-decided x = decides (λ (r : ℕ). r) (length (entries (now l) (now w) c))
-
-  pub skip-decided : (b : Bool) (n : ℕ) (d d′ : Cursor) → Skipped (now l) (now w) b c n d → Skipped (now l) (now w) b c n d′
-      → only b (entries (now l) (now w) d) ≡ only b (entries (now l) (now w) d′)
-  skip-decided b n d d′ h k = h .list ∙ sym (k .list)
+  pub rises-decided : (x : AtExit rises-fn.ended κs) → Decides (λ (r : Risen). rises.Post κs (l, (w, (c, tt))) r x) (λ (r : Risen). r)
+  rises-decided x = decides (λ (r : Risen). r) (risenOf (entries (now l) (now w) c))
 
 pub begins-decided : (κs : Lfts 3) (l w p : RefT (List ℕ)) (c : Cursor) (x : AtExit begins-fn.ended κs) → Decides (λ (r : Bool). begins.Post κs (l, (w, (c, (p, tt)))) r x) (λ (r : Bool). r)
 begins-decided κs l w p c x = decides (λ (r : Bool). r) (prefixed (now p) (entries (now l) (now w) c))

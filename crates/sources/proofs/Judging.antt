@@ -15,7 +15,9 @@ use Rattle.sources.specs.declared.Cursor.{Cursor}
 use Rattle.sources.specs.declared.Item.{Item}
 use Rattle.sources.specs.Keys.{keyBytes, srcOf}
 use Rattle.sources.specs.Source.{Entry, entryOf, entries, leftOf}
-use Rattle.sources.specs.Judged.{above, risingFrom, rising, prefixed}
+use Rattle.sources.specs.declared.Risen.{Risen}
+use Rattle.sources.specs.declared.Risen.the-variants.{Up, Not}
+use Rattle.sources.specs.Judged.{above, risingFrom, rising, risenOf, prefixed}
 use Rattle.sources.specs.Pages.{pagesLeft}
 use Rattle.sources.proofs.Paged.{left-small}
 use Rattle.sources.proofs.Sourced.{Found}
@@ -44,22 +46,22 @@ module _ (l w : List ℕ) (a b : Item) (o : Order) (e : o ≡ cmpBytes (entryOf 
   above-greater h = rw (sym e ∙ h) refl
 
 module _ (l w : List ℕ) (x : Entry) (c : Cursor) where
-  pub rising-end : entries l w c ≡ [] → true ≡ risingFrom x (entries l w c)
+  rising-end : entries l w c ≡ [] → true ≡ risingFrom x (entries l w c)
   unfolding risingFrom
   rising-end e = rw e refl
 
   module _ (i : Item) (d : Cursor) (f : Found l w c i d) where
-    pub rising-not : above x (entryOf l w i) ≡ false → false ≡ risingFrom x (entries l w c)
+    rising-not : above x (entryOf l w i) ≡ false → false ≡ risingFrom x (entries l w c)
     unfolding risingFrom
     rising-not h = rw (f .list, h) refl
 
-    pub rising-on : above x (entryOf l w i) ≡ true → risingFrom (entryOf l w i) (entries l w d) ≡ risingFrom x (entries l w c)
+    rising-on : above x (entryOf l w i) ≡ true → risingFrom (entryOf l w i) (entries l w d) ≡ risingFrom x (entries l w c)
     unfolding risingFrom
     rising-on h = rw (f .list, h) refl
 
 module _ (l w : List ℕ) (c : Cursor) where
-  pub rises-end : entries l w c ≡ [] → true ≡ rising (entries l w c)
-  unfolding rising
+  pub rises-end : entries l w c ≡ [] → Up 0 ≡ risenOf (entries l w c)
+  unfolding rising risenOf
   rises-end e = rw e refl
 
   pub prefixed-end : (p : List ℕ) → entries l w c ≡ [] → true ≡ prefixed p (entries l w c)
@@ -67,8 +69,7 @@ module _ (l w : List ℕ) (c : Cursor) where
   prefixed-end p e = rw e refl
 
   module _ (i : Item) (d : Cursor) (f : Found l w c i d) where
-    pub rises-on : (r : Bool) → r ≡ risingFrom (entryOf l w i) (entries l w d) → r ≡ rising (entries l w c)
-    unfolding rising
+    pub rises-on : (r : Risen) → r ≡ risenOf (entryOf l w i ∷ entries l w d) → r ≡ risenOf (entries l w c)
     rises-on r h = rw (f .list) h
 
     pub prefixed-not : (p : List ℕ) → startsWith p (entryOf l w i .key) ≡ false → false ≡ prefixed p (entries l w c)
@@ -79,17 +80,56 @@ module _ (l w : List ℕ) (c : Cursor) where
     unfolding prefixed
     prefixed-on p h = rw (f .list, h) refl
 
--- counting: what is counted and what is to come; it cannot pass what the source holds
-pub record Counting (l w : List ℕ) (c₀ c : Cursor) (n : ℕ) : Type 0 where
-  pub all : n + length (entries l w c) ≡ length (entries l w c₀)
-  pub left : n + leftOf l w c ≤ leftOf l w c₀
+-- ---- rising and counted
 
-module _ (l w : List ℕ) (c₀ c : Cursor) (n : ℕ) (h : Counting l w c₀ c n) where
-  pub counted : entries l w c ≡ [] → n ≡ length (entries l w c₀)
-  counted e = omega (arith, h .all, ap length e)
+pub risen-up : (es : List Entry) (n : ℕ) → Up n ≡ risenOf es → (rising es ≡ true) × (n ≡ length es)
+unfolding risenOf
+risen-up es n e = go (rising es) e
+  where
+    go : (b : Bool) → Up n ≡ cond b (Up (length es)) Not → (b ≡ true) × (n ≡ length es)
+    go true e = (refl, cc)
+    go false e = absurd (let z : _≡_ {A = ℕ} 0 1 = cc in omega arith)
 
-  pub counting : (i : Item) (d : Cursor) → Found l w c i d → Counting l w c₀ d (n + 1)
-  counting i d f = record { all = omega (arith, h .all, ap length (f .list)); left = omega (arith, h .left, f .falls) }
+pub risen-not : (es : List Entry) → Not ≡ risenOf es → rising es ≡ false
+unfolding risenOf
+risen-not es e = go (rising es) e
+  where
+    go : (b : Bool) → Not ≡ cond b (Up (length es)) Not → b ≡ false
+    go true e = absurd (let z : _≡_ {A = ℕ} 0 1 = cc in omega arith)
+    go false e = refl
+
+is-up : (es : List Entry) (n : ℕ) → true ≡ rising es → n ≡ length es → Up n ≡ risenOf es
+unfolding risenOf
+is-up es n e q = rw (← e, q) refl
+
+is-not : (es : List Entry) → false ≡ rising es → Not ≡ risenOf es
+unfolding risenOf
+is-not es e = rw (← e) refl
+
+-- what is counted and what is to come; it cannot pass what the source holds
+pub record Rising (l w : List ℕ) (x₀ : Entry) (c₀ : Cursor) (x : Entry) (c : Cursor) (n : ℕ) : Type 0 where
+  pub goes : risingFrom x (entries l w c) ≡ risingFrom x₀ (entries l w c₀)
+  pub all : n + length (entries l w c) ≡ suc (length (entries l w c₀))
+  pub left : n + leftOf l w c ≤ suc (leftOf l w c₀)
+
+pub rising-begin : (l w : List ℕ) (x : Entry) (c : Cursor) → Rising l w x c x c 1
+rising-begin l w x c = record { goes = refl; all = omega arith; left = omega arith }
+
+module _ (l w : List ℕ) (x₀ : Entry) (c₀ : Cursor) (x : Entry) (c : Cursor) (n : ℕ) (h : Rising l w x₀ c₀ x c n) where
+  rising-all : {b : Bool} → b ≡ risingFrom x (entries l w c) → b ≡ rising (x₀ ∷ entries l w c₀)
+  unfolding rising
+  rising-all e = e ∙ h .goes
+
+  pub risen-end : entries l w c ≡ [] → Up n ≡ risenOf (x₀ ∷ entries l w c₀)
+  risen-end e = is-up (x₀ ∷ entries l w c₀) n (rising-all (rising-end l w x c e)) (omega (arith, h .all, ap length e))
+
+  module _ (i : Item) (d : Cursor) (f : Found l w c i d) where
+    pub risen-stop : above x (entryOf l w i) ≡ false → Not ≡ risenOf (x₀ ∷ entries l w c₀)
+    risen-stop e = is-not (x₀ ∷ entries l w c₀) (rising-all (rising-not l w x c i d f e))
+
+    pub risen-turn : above x (entryOf l w i) ≡ true → Rising l w x₀ c₀ (entryOf l w i) d (n + 1)
+    risen-turn e =
+        record { goes = rising-on l w x c i d f e ∙ h .goes; all = omega (arith, h .all, ap length (f .list)); left = omega (arith, h .left, f .falls) }
 
 -- the count stays a number that a usize holds
 pub left-long : (l w : List ℕ) (c : Cursor) → leftOf l w c ≤ length l + 562949953421312

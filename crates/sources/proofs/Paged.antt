@@ -7,7 +7,7 @@ use Prim.Native.Nat.{ℕ, _+_, _*_, _≤_, _<_}
 use native.Mathlib.Omega.{arith}
 use lib.ListN.{length}
 use lib.Dec.{leb, eqb}
-use borrow.Author.Tests.{leb-true, leb-false, le-leb, eqb-true, eqb-false, eq-eqb, ne-eqb}
+use borrow.Author.Tests.{leb-true, leb-false, le-leb, lt-leb, eqb-true, eqb-false, eq-eqb, ne-eqb}
 use Rattle.spans.proofs.Tests.{ask}
 use Rattle.order.specs.declared.Ver.{Ver}
 use Rattle.order.specs.Version.{verOf}
@@ -40,6 +40,30 @@ module _ (w : List ℕ) (c : Cursor) (rest : Place) (ver : Ver) (value : Place) 
       ≡ itemAt w c rest ver value kept page v
   unfolding itemAt
   item-found a b d e f o h = rw (h, a, b, d, le-leb (c .pre .len + rest .len) 4096 e, le-leb (value .len) 65536 f) refl
+
+  -- and none, by the first test that fails
+  pub no-prefix : leb (c .pre .at + c .pre .len) (length w) ≡ false → Bad ≡ itemAt w c rest ver value kept page v
+  unfolding itemAt
+  no-prefix a = rw a
+
+  module _ (a : leb (c .pre .at + c .pre .len) (length w) ≡ true) where
+    pub no-rest : leb (rest .at + rest .len) (length w) ≡ false → Bad ≡ itemAt w c rest ver value kept page v
+    unfolding itemAt
+    no-rest b = rw (a, b)
+
+    module _ (b : leb (rest .at + rest .len) (length w) ≡ true) where
+      pub no-value : leb (value .at + value .len) (length w) ≡ false → Bad ≡ itemAt w c rest ver value kept page v
+      unfolding itemAt
+      no-value d = rw (a, b, d)
+
+      module _ (d : leb (value .at + value .len) (length w) ≡ true) where
+        pub no-key : 4096 < c .pre .len + rest .len → Bad ≡ itemAt w c rest ver value kept page v
+        unfolding itemAt
+        no-key e = rw (a, b, d, lt-leb (c .pre .len + rest .len) 4096 e)
+
+        pub no-length : c .pre .len + rest .len ≤ 4096 → 65536 < value .len → Bad ≡ itemAt w c rest ver value kept page v
+        unfolding itemAt
+        no-length e f = rw (a, b, d, le-leb (c .pre .len + rest .len) 4096 e, lt-leb (value .len) 65536 f)
 
 pub room-sum : (x m y n len : ℕ) → leb (x + m) len ≡ true → leb (y + n) len ≡ true → m + n ≤ len + len
 room-sum x m y n len p q = let a = leb-true (x + m) len p in let b = leb-true (y + n) len q in omega arith

@@ -24,7 +24,7 @@ use Rattle.sources.specs.declared.Pick.{Pick}
 use Rattle.sources.specs.declared.Pick.the-variants.{One, None}
 use Rattle.sources.specs.Keys.{keyBytes, srcOf}
 use Rattle.sources.specs.Lists.{recordAt, indexAt, spotAt, recordItem, indexItem, listKey}
-use Rattle.sources.specs.Source.{Entry, Placed, after, listF, wellF, listNext, nextOf, stepOf, pastOf, entryOf, leftOf, entries, wellFormed, only, wanted, Chosen, ChosenBy, Skipped}
+use Rattle.sources.specs.Source.{Entry, Placed, after, listF, wellF, listNext, nextOf, stepOf, pastOf, entryOf, leftOf, entries, wellFormed, only, wanted, Chosen, ChosenBy}
 use Rattle.sources.specs.Pages.{pagesNext}
 use Rattle.sources.proofs.Walk.{list-step, well-step}
 use Rattle.sources.proofs.Paged.{pages-fall}
@@ -225,20 +225,3 @@ module _ (l w w′ : List ℕ) (b : Bool) (c : Cursor) (r : Pick) (e : w′ ≡ 
 
   pub no-one : r ≡ None → only b (entries l w c) ≡ []
   no-one q = rw e at (none-is l w′ b c r p q)
-
--- ---- skipping: dropping what is left to drop gives the answer
-
-pub record Skipping (l w : List ℕ) (b : Bool) (n : ℕ) (c₀ c : Cursor) (k : ℕ) : Type 0 where
-  pub goes : drop k (only b (entries l w c)) ≡ drop n (only b (entries l w c₀))
-
-pub skip-turn : (l w : List ℕ) (b : Bool) (n : ℕ) (c₀ c : Cursor) (k : ℕ) (i : Item) (d : Cursor) → Skipping l w b n c₀ c k → Chosen l w b c i d → 0 < k → Skipping l w b n c₀ d (k - 1)
-skip-turn l w b n c₀ c zero i d h g p = absurd (omega arith)
-skip-turn l w b n c₀ c (suc k) i d h g p = record { goes = rw sub-one (sym (ap (drop (suc k)) (g .list)) ∙ h .goes) }
-
-pub skip-none : (l w : List ℕ) (b : Bool) (n : ℕ) (c₀ c : Cursor) (k : ℕ) → Skipping l w b n c₀ c k → only b (entries l w c) ≡ [] → Skipped l w b c₀ n c
-skip-none l w b n c₀ c zero h e = record { list = h .goes }
-skip-none l w b n c₀ c (suc k) h e = record { list = e ∙ sym (ap (drop (suc k)) e) ∙ h .goes }
-
-pub skip-done : (l w : List ℕ) (b : Bool) (n : ℕ) (c₀ c : Cursor) (k : ℕ) → Skipping l w b n c₀ c k → k ≤ 0 → Skipped l w b c₀ n c
-skip-done l w b n c₀ c zero h e = record { list = h .goes }
-skip-done l w b n c₀ c (suc k) h e = absurd (omega arith)

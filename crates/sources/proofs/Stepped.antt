@@ -3,11 +3,14 @@
 use Prim.Native.Nat.{ℕ, _≤_, _<_}
 use mathlib.Core.Path.{_≡_, refl}
 use mathlib.Core.List.{List}
-use mathlib.Core.Bool.{Bool}
+use mathlib.Core.Bool.{Bool, true}
 use lib.ListN.{length}
 use borrow.Author.Tests.{le-leb, lt-leb}
+use Rattle.walks.specs.declared.Walk.{Walk}
 use Rattle.sources.specs.declared.Cursor.{Cursor}
 use Rattle.sources.specs.declared.Key.{Key}
+use Rattle.sources.specs.declared.Item.{Item}
+use Rattle.sources.specs.declared.Spot.{Spot}
 use Rattle.sources.specs.declared.Step.{Step}
 use Rattle.sources.specs.Keys.{keyBytes}
 use Rattle.sources.specs.Lists.{cursorAt, sameKey, recordAt, spotAt}
@@ -23,6 +26,12 @@ bareOf c = cursorAt (c .at) (c .seen) (c .key .pat) (c .key .plen) (c .key .kat)
 pub record-bare : (s : List ℕ) (c : Cursor) → recordAt s (bareOf c) ≡ recordAt s c
 unfolding recordAt sameKey keyBytes
 record-bare s c = refl
+
+-- the cursor past an entry carries the walk on
+pub walk-kept : (c : Cursor) (i : Item) (past : ℕ) (w : Walk) → w ≡ c .walk
+    → Step.Got i (record { kind = c .kind; seen = true; key = i .key; at = past; walk = w; pre = c .pre; then = c .then }) ≡ stepOf c (Spot.At i past)
+unfolding stepOf
+walk-kept c i past w e = rw e refl
 
 module _ (l w : List ℕ) (c : Cursor) (h : c .kind ≡ 0) where
   pub record-end : length l ≤ c .at → Step.End ≡ nextOf l w c

@@ -3,10 +3,12 @@
 use Prim.Native.Nat.{ℕ}
 use mathlib.Core.List.{List, [], _∷_}
 use mathlib.Core.Bool.{Bool, true, false, cond}
+use lib.ListN.{length}
 use Rattle.order.specs.declared.Order.{Order}
 use Rattle.order.specs.declared.Ver.{Ver}
 use Rattle.order.specs.Order.{cmpBytes, startsWith}
 use Rattle.order.specs.Version.{newerThan}
+use Rattle.sources.specs.declared.Risen.{Risen}
 use Rattle.sources.specs.Source.{Entry}
 
 abbrev pub aboveBy : Order → Ver → Ver → Bool
@@ -28,6 +30,11 @@ unfoldable pub rising : List Entry → Bool
 unfolding risingFrom
 rising [] = true
 rising (a ∷ es) = risingFrom a es
+
+-- how many there are, where they rise
+unfoldable pub risenOf : List Entry → Risen
+unfolding rising
+risenOf es = cond (rising es) (Risen.Up (length es)) Risen.Not
 
 -- "a key .. does not begin with the page's prefix" is WRONG PREFIX
 unfoldable pub prefixed : List ℕ → List Entry → Bool

@@ -13,15 +13,15 @@ use walks::Past;
 use walks::Sheet;
 use walks::Walk;
 ghost use mathlib.Core.Path.{_≡_};
-ghost use mathlib.Core.List.{_++_};
+ghost use mathlib.Core.List.{_∷_, _++_};
 ghost use Prim.Native.Nat.{_+_, _≤_, _<_};
 ghost use lib.ListN.{length, getD};
 ghost use Rattle.order.specs.Order.{cmpBytes, startsWith};
 ghost use Rattle.sources.specs.Keys.{keyBytes};
 ghost use Rattle.sources.specs.Lists.{noWalk, listKey, cursorAt, firstOf, begunOf, sameKey, recordAt, indexAt, spotAt};
 ghost use Rattle.sources.specs.Pages.{wholeAt, pageFirst, itemAt, walked, turned, pagesNext};
-ghost use Rattle.sources.specs.Source.{listNext, nextOf, entryOf, entries, wellFormed, wanted, ChosenBy, Skipped};
-ghost use Rattle.sources.specs.Judged.{above, risingFrom, rising, prefixed};
+ghost use Rattle.sources.specs.Source.{listNext, nextOf, entryOf, entries, wellFormed, wanted, ChosenBy};
+ghost use Rattle.sources.specs.Judged.{above, risenOf, prefixed};
 
 // A key: its first bytes (a page's prefix; none in a list) and its rest, as places of one slice.
 pub struct Key {
@@ -81,6 +81,12 @@ pub enum Step {
 pub enum Pick {
     One(Item, Cursor),
     None,
+}
+
+// Whether the entries rise, and how many there are.
+pub enum Risen {
+    Up(usize),
+    Not,
 }
 
 // ---- keys
@@ -577,7 +583,7 @@ fn walk_next(low: &[u8], c: Cursor) -> Step
     if 4294967295 < w.past.left {
         return Step::Bad;
     }
-    let st = w.plain_step(low);
+    let st = w.step(low);
     match st {
         walks::Step::Found(x, v) => {
             let k = x.key;
@@ -643,6 +649,40 @@ fn any_next(list: &[u8], low: &[u8], c: Cursor) -> Step
     list_next(list, c)
 }
 
+// The same walk, field by field: a walk that is only copied goes through memory at every step.
+fn apart(w: Walk) -> Walk
+    ensures { λ r. ⌜ r ≡ w ⌝ }
+{
+    Walk {
+        page: Sheet {
+            at: w.page.at,
+            elems: w.page.elems,
+            front: w.page.front,
+            end: w.page.end,
+            prefix_len: w.page.prefix_len,
+        },
+        way: w.way,
+        pos: w.pos,
+        heads: w.heads,
+        key: Place {
+            at: w.key.at,
+            len: w.key.len,
+        },
+        past: Past {
+            page: Sheet {
+                at: w.past.page.at,
+                elems: w.past.page.elems,
+                front: w.past.page.front,
+                end: w.past.page.end,
+                prefix_len: w.past.page.prefix_len,
+            },
+            link: Addr(w.past.link.0),
+            slot: w.past.slot,
+            left: w.past.left,
+        },
+    }
+}
+
 // The same. A record list's step stands here, by itself: a build's passes spend their time in it.
 pub fn next(list: &[u8], low: &[u8], c: Cursor) -> Step
     ensures { λ r. ⌜ r ≡ nextOf (now (list .entry)) (now (low .entry)) c ⌝ }
@@ -667,11 +707,21 @@ pub fn next(list: &[u8], low: &[u8], c: Cursor) -> Step
         return Step::Bad;
     };
     let k = i.key;
-    let mut d = c;
-    d.seen = true;
-    d.key = k;
-    d.at = past;
-    Step::Got(i, d)
+    let walk = apart(c.walk);
+    let pre = c.pre;
+    let then = c.then;
+    Step::Got(
+        i,
+        Cursor {
+            kind: c.kind,
+            seen: true,
+            key: k,
+            at: past,
+            walk: walk,
+            pre: pre,
+            then: then,
+        },
+    )
 }
 
 fn is_wanted(want: bool, old: bool) -> bool
@@ -702,27 +752,6 @@ pub fn next_of(list: &[u8], low: &[u8], want: bool, from: Cursor) -> Pick
             }
         }
     }
-}
-
-// The cursor past the next n of them.
-pub fn skip(list: &[u8], low: &[u8], want: bool, from: Cursor, n: usize) -> Cursor
-    ensures { λ r. ⌜ Skipped (now (list .entry)) (now (low .entry)) want from n r ⌝ }
-{
-    let mut c = from;
-    let mut k = n;
-    while k > 0 {
-        let st = next_of(list, low, want, c);
-        match st {
-            Pick::One(_, d) => {
-                c = d;
-                k -= 1;
-            }
-            Pick::None => {
-                return c;
-            }
-        }
-    }
-    c
 }
 
 // ---- judging a whole source
@@ -780,41 +809,43 @@ fn is_above(list: &[u8], low: &[u8], a: Item, b: Item) -> bool
     }
 }
 
-// Whether each entry from a cursor on is above the one before, the first above last.
-fn rises_from(list: &[u8], low: &[u8], first: Item, from: Cursor) -> bool
-    ensures { λ r. ⌜ r ≡ risingFrom (entryOf (now (list .entry)) (now (low .entry)) first) (entries (now (list .entry)) (now (low .entry)) from) ⌝ }
+// Whether each entry from a cursor on is above the one before, the first above this one; and how many there are, this one too.
+fn rises_from(list: &[u8], low: &[u8], first: Item, from: Cursor) -> Risen
+    ensures { λ r. ⌜ r ≡ risenOf (entryOf (now (list .entry)) (now (low .entry)) first ∷ entries (now (list .entry)) (now (low .entry)) from) ⌝ }
 {
     let mut last = first;
     let mut c = from;
+    let mut n: usize = 1;
     loop {
         let st = next(list, low, c);
         match st {
             Step::Got(i, d) => {
                 if !is_above(list, low, last, i) {
-                    return false;
+                    return Risen::Not;
                 }
                 last = i;
                 c = d;
+                n += 1;
             }
             Step::End => {
-                return true;
+                return Risen::Up(n);
             }
             Step::Bad => {
-                return true;
+                return Risen::Up(n);
             }
         }
     }
 }
 
-// Whether each entry is above the one before.
-pub fn rises(list: &[u8], low: &[u8], from: Cursor) -> bool
-    ensures { λ r. ⌜ r ≡ rising (entries (now (list .entry)) (now (low .entry)) from) ⌝ }
+// Whether each entry is above the one before, and how many there are.
+pub fn rises(list: &[u8], low: &[u8], from: Cursor) -> Risen
+    ensures { λ r. ⌜ r ≡ risenOf (entries (now (list .entry)) (now (low .entry)) from) ⌝ }
 {
     let st = any_next(list, low, from);
     match st {
         Step::Got(i, d) => rises_from(list, low, i, d),
-        Step::End => true,
-        Step::Bad => true,
+        Step::End => Risen::Up(0),
+        Step::Bad => Risen::Up(0),
     }
 }
 
@@ -837,29 +868,6 @@ pub fn begins(list: &[u8], low: &[u8], from: Cursor, pre: &[u8]) -> bool
             }
             Step::Bad => {
                 return true;
-            }
-        }
-    }
-}
-
-// How many entries there are.
-pub fn count(list: &[u8], low: &[u8], from: Cursor) -> usize
-    ensures { λ r. ⌜ r ≡ length (entries (now (list .entry)) (now (low .entry)) from) ⌝ }
-{
-    let mut c = from;
-    let mut n: usize = 0;
-    loop {
-        let st = next(list, low, c);
-        match st {
-            Step::Got(_, d) => {
-                n += 1;
-                c = d;
-            }
-            Step::End => {
-                return n;
-            }
-            Step::Bad => {
-                return n;
             }
         }
     }

@@ -29,8 +29,9 @@ use Rattle.records.proofs.Inside.{KeyInside, key-inside, prefix-part, at-inside
 use Rattle.sst.specs.declared.Want.{Want}
 use Rattle.sst.specs.declared.Ready.{Ready}
 use Rattle.sst.specs.declared.Halved.{Halved}
+use Rattle.sst.specs.declared.Ended.{Ended}
 use Rattle.sst.specs.declared.Outcome.{Outcome}
-use Rattle.sst.specs.Search.{rightKind, fitsPrefix, readyOf, readyAt, halved, outcomeOf, outcomeAt, intl, leaves}
+use Rattle.sst.specs.Search.{rightKind, fitsPrefix, readyOf, readyAt, halved, outcomeOf, outcomeAt, endOf, endedIn, intl, leaves}
 
 -- ---- laws that belong to lower crates
 
@@ -44,6 +45,11 @@ starts-length (x ∷ xs) (y ∷ ys) e = suc-le-suc (starts-length xs ys (go (eqb
     go : (b : Bool) → cond b (startsWith xs ys) false ≡ true → startsWith xs ys ≡ true
     go true q = q
     go false q = absurd (let z : _≡_ {A = ℕ} 0 1 = cc in omega arith)
+
+pub starts-none : (p y : List ℕ) → length p ≡ 0 → startsWith p y ≡ true
+unfolding startsWith
+starts-none [] y e = refl
+starts-none (x ∷ xs) y e = absurd (omega arith)
 
 -- the key of a slot lies in the page (`records`)
 pub key-at-inside : (s : List ℕ) (b : Body) (i v r n : ℕ) → Inside s b → keyAtSlot s b i ≡ KeyRead.Key v r n → KeyInside b v r n
@@ -98,9 +104,14 @@ pub record IsReady (s : List ℕ) (a : Addr) (probe : List ℕ) (w : Want) (b : 
   pub fits : fitsPrefix s b probe ≡ true
   pub long : b .«prefix_len» ≤ length probe
 
-fits-long : (s : List ℕ) (b : Body) (probe : List ℕ) → Inside s b → fitsPrefix s b probe ≡ true → b .«prefix_len» ≤ length probe
+pub fits-long : (s : List ℕ) (b : Body) (probe : List ℕ) → Inside s b → fitsPrefix s b probe ≡ true → b .«prefix_len» ≤ length probe
 unfolding fitsPrefix
 fits-long s b probe i e = omega (arith, starts-length (prefixIn s b) probe e, prefix-length s b i)
+
+-- every probe begins with no prefix
+pub fits-none : (s : List ℕ) (b : Body) (probe : List ℕ) → Inside s b → b .«prefix_len» ≡ 0 → fitsPrefix s b probe ≡ true
+unfolding fitsPrefix
+fits-none s b probe i e = starts-none (prefixIn s b) probe (prefix-length s b i ∙ e)
 
 pub ready-inside : (s : List ℕ) (a : Addr) (probe : List ℕ) (w : Want) (b : Body) → readyAt s a probe w ≡ Ready.Is b → IsReady s a probe w b
 unfolding readyAt
@@ -134,6 +145,51 @@ module _ (s : List ℕ) (a : Addr) (probe : List ℕ) (w : Want) (b : Body) (o :
     pub open-other : (b .elems ≡ 0 → ⊥) → fitsPrefix s b probe ≡ false → readyAt s a probe w ≡ Ready.Refused Refusal.WrongPrefix
     unfolding readyAt
     open-other e f = rw (o, k, ne-eqb _ _ e, f)
+
+-- the search of an opened page, by what its header and its prefix say
+module _ (s : List ℕ) (probe : List ℕ) (w : Want) (b : Body) where
+  pub ends-wrong : rightKind (b .kind) w ≡ false → endedIn s b probe w ≡ Ended.Refused Refusal.BadFrame
+  unfolding endedIn
+  ends-wrong k = rw k
+
+  module _ (k : rightKind (b .kind) w ≡ true) where
+    pub ends-empty : b .elems ≡ 0 → endedIn s b probe w ≡ Ended.Empty
+    unfolding endedIn
+    ends-empty e = rw (k, eq-eqb _ _ e)
+
+    pub ends-halves : (b .elems ≡ 0 → ⊥) → fitsPrefix s b probe ≡ true → endedIn s b probe w ≡ Ended.Halves (halved s b probe w)
+    unfolding endedIn
+    ends-halves e f = rw (k, ne-eqb _ _ e, f)
+
+    pub ends-other : (b .elems ≡ 0 → ⊥) → fitsPrefix s b probe ≡ false → endedIn s b probe w ≡ Ended.Refused Refusal.WrongPrefix
+    unfolding endedIn
+    ends-other e f = rw (k, ne-eqb _ _ e, f)
+
+-- what it says of the page at an address
+abbrev pub backOf : Body → Ended → Outcome
+backOf b (Ended.Halves h) = Outcome.Halves b h
+backOf b Ended.Empty = Outcome.Empty
+backOf b (Ended.Refused r) = Outcome.Refused r
+
+pub outcome-ended : (s : List ℕ) (a : Addr) (probe : List ℕ) (w : Want) (b : Body) (e : Ended) → openAt s a ≡ Opened.Is b → endedIn s b probe w ≡ e → outcomeAt s a probe w ≡ backOf b e
+unfolding outcomeAt readyAt endedIn
+outcome-ended s a probe w b e o h =
+    ap (λ (q : Opened). outcomeOf s probe w (readyOf s probe w q)) o
+    ∙ go (rightKind (b .kind) w) (eqb (b .elems) 0) (fitsPrefix s b probe)
+    ∙ ap (backOf b) h
+  where
+    page : Bool → Bool → Bool → Outcome
+    page k m f = outcomeOf s probe w (cond k (cond m Ready.Empty (cond f (Ready.Is b) (Ready.Refused Refusal.WrongPrefix))) (Ready.Refused Refusal.BadFrame))
+
+    go : (k m f : Bool) → page k m f ≡ backOf b (endOf (page k m f))
+    go false m f = refl
+    go true true f = refl
+    go true false true = refl
+    go true false false = refl
+
+pub outcome-bad : (s : List ℕ) (a : Addr) (probe : List ℕ) (w : Want) → openAt s a ≡ Opened.Bad → outcomeAt s a probe w ≡ Outcome.Refused Refusal.BadFrame
+unfolding outcomeAt readyAt
+outcome-bad s a probe w o = ap (λ (q : Opened). outcomeOf s probe w (readyOf s probe w q)) o
 
 -- ---- a page that was halved
 

@@ -24,6 +24,7 @@ use Rattle.sst.specs.declared.Cmp.{Cmp}
 use Rattle.sst.specs.declared.Halved.{Halved}
 use Rattle.sst.specs.declared.Want.{Want}
 use Rattle.sst.specs.declared.Ready.{Ready}
+use Rattle.sst.specs.declared.Ended.{Ended}
 use Rattle.sst.specs.declared.Outcome.{Outcome}
 use Rattle.sst.specs.declared.Bound.{Bound}
 use Rattle.sst.specs.declared.Floor.{Floor}
@@ -79,6 +80,15 @@ outcomeOf s probe w (Ready.Refused r) = Outcome.Refused r
 
 unfoldable pub outcomeAt : List ℕ → Addr → List ℕ → Want → Outcome
 outcomeAt s a probe w = outcomeOf s probe w (readyAt s a probe w)
+
+-- the same of a page that was opened: its body is at hand
+abbrev pub endOf : Outcome → Ended
+endOf (Outcome.Halves b h) = Ended.Halves h
+endOf Outcome.Empty = Ended.Empty
+endOf (Outcome.Refused r) = Ended.Refused r
+
+unfoldable pub endedIn : List ℕ → Body → List ℕ → Want → Ended
+endedIn s b probe w = endOf (outcomeOf s probe w (readyOf s probe w (Opened.Is b)))
 
 -- ---- lower bound: "the first position not less, past the end otherwise"
 

@@ -1,13 +1,14 @@
 // The three searches of sst.rs: lower bound, floor and search. Each is one halving of a page's slots over a comparison that may refuse.
 ghost use mathlib.Core.Path.{_≡_};
 ghost use Prim.Native.Nat.{_+_, _≤_};
-ghost use mathlib.Core.Bool.{cond};
-ghost use lib.ListN.{length, drop};
-ghost use Rattle.order.specs.Order.{byNumber, cmpBytes, Lesser};
+ghost use lib.ListN.{length, take, drop};
+ghost use Rattle.order.specs.Order.{cmpBytes};
 ghost use Rattle.frames.specs.Layout.{Inside};
 ghost use Rattle.values.specs.Keys.{skipOf};
-ghost use Rattle.sst.specs.Halve.{lowered, halve};
-ghost use Rattle.sst.specs.Search.{newerAt, keyCmp, fitsPrefix, readyAt, halved, outcomeAt, boundIn, floorSlot, pageIn, floorIn, headIn, foundIn, searchAt, floorAt, lowerAt};
+ghost use Rattle.pages.specs.Sound.{isLess};
+ghost use Rattle.sst.specs.Halve.{halve};
+ghost use Rattle.sst.specs.Words.{Spotted};
+ghost use Rattle.sst.specs.Search.{newerAt, keyCmp, fitsPrefix, halved, endedIn, outcomeAt, boundIn, floorSlot, pageIn, floorIn, headIn, foundIn, searchAt, floorAt, lowerAt};
 use frames::Addr;
 use frames::Body;
 use frames::Opened;
@@ -20,7 +21,7 @@ use records::RecRead;
 use values::HistRef;
 use values::KeyRead;
 
-// How a key stands to the probe, or that it cannot be read.
+// How a key stands to the probe, or that it cannot be read: for the definitions, the loop asks in two questions.
 pub enum Cmp {
     Less,
     Equal,
@@ -43,13 +44,21 @@ pub struct Want {
     pub ver: Ver,
 }
 
-// A page for a search, and a probe that begins with its prefix.
+// A page for a search, and a probe that begins with its prefix: for the definitions.
 pub enum Ready {
     Is(Body),
     Empty,
     Refused(Refusal),
 }
 
+// Where the search of an opened page ends.
+pub enum Ended {
+    Halves(Halved),
+    Empty,
+    Refused(Refusal),
+}
+
+// The same of the page at an address.
 pub enum Outcome {
     Halves(Body, Halved),
     Empty,
@@ -104,33 +113,30 @@ fn newer_at(s: &[u8], kind: u8, at: usize, v: Ver) -> bool
     records::ver_at(s, at).newer(v)
 }
 
-// An equal key. A lower bound meets none: one with a newer version comes before the probe, any other behind it.
-fn met(s: &[u8], kind: u8, at: usize, w: Want) -> Cmp
-    requires { ⌜ at + skipOf kind ≤ length (now s) ⌝ }
-    ensures { λ r. ⌜ r ≡ cond (w .lower) (lowered (newerAt (now (s .entry)) kind at (w .ver)) Cmp.Equal) Cmp.Equal ⌝ }
+// How far the first n bytes of two strings are the same, sixteen at a time.
+fn pairs(a: &[u8], b: &[u8], n: usize) -> usize
+    requires { ⌜ (n ≤ length (now a)) × (n ≤ length (now b)) ⌝ }
+    ensures { λ r. ⌜ (r ≤ n) × (take r (now (a .entry)) ≡ take r (now (b .entry))) ⌝ }
 {
-    if w.lower {
-        if newer_at(s, kind, at, w.ver) {
-            return Cmp::Less;
-        }
-        return Cmp::Greater;
-    }
-    Cmp::Equal
-}
-
-fn lesser(a: usize, b: usize) -> usize
-    ensures { λ r. ⌜ Lesser a b r ⌝ }
-{
-    if a < b { a } else { b }
-}
-
-// How far two strings are the same, eight bytes at a time.
-fn words(a: &[u8], b: &[u8]) -> usize
-    ensures { λ r. ⌜ (r ≤ length (now (a .entry))) × (r ≤ length (now (b .entry))) ⌝ }
-    ensures { λ r. ⌜ cmpBytes (now (a .entry)) (now (b .entry)) ≡ cmpBytes (drop r (now (a .entry))) (drop r (now (b .entry))) ⌝ }
-{
-    let n = lesser(a.len(), b.len());
     let mut i: usize = 0;
+    while 16 <= n - i {
+        if numbers::read_u64(a, i) != numbers::read_u64(b, i) {
+            return i;
+        }
+        if numbers::read_u64(a, i + 8) != numbers::read_u64(b, i + 8) {
+            return i;
+        }
+        i += 16;
+    }
+    i
+}
+
+// The same, eight at a time: plain loads, in either byte order.
+fn same(a: &[u8], b: &[u8], n: usize) -> usize
+    requires { ⌜ (n ≤ length (now a)) × (n ≤ length (now b)) ⌝ }
+    ensures { λ r. ⌜ (r ≤ n) × (take r (now (a .entry)) ≡ take r (now (b .entry))) ⌝ }
+{
+    let mut i = pairs(a, b, n);
     while 8 <= n - i {
         if numbers::read_u64(a, i) != numbers::read_u64(b, i) {
             return i;
@@ -140,119 +146,86 @@ fn words(a: &[u8], b: &[u8]) -> usize
     i
 }
 
-fn by_number(a: usize, b: usize) -> Order
-    ensures { λ r. ⌜ r ≡ byNumber a b Order.Equal ⌝ }
-{
-    if a < b {
-        return Order::Less;
-    }
-    if b < a {
-        return Order::Greater;
-    }
-    Order::Equal
+// Two words of four bytes that decide: each may begin with bytes that are known to be the same.
+pub struct Spots {
+    pub first: usize,
+    pub last: usize,
 }
 
-// What is left behind index from, byte by byte.
-fn by_ones(a: &[u8], b: &[u8], from: usize) -> Order
-    requires { ⌜ (from ≤ length (now a)) × (from ≤ length (now b)) ⌝ }
-    ensures { λ r. ⌜ r ≡ cmpBytes (drop from (now (a .entry))) (drop from (now (b .entry))) ⌝ }
+// For strings of n bytes, the first i of them the same: the eight bytes behind, or the last eight.
+fn spots_of(n: usize, i: usize) -> Spots
+    requires { ⌜ (4 ≤ n) × (i ≤ n) ⌝ }
+    ensures { λ r. ⌜ Spotted n i r ⌝ }
 {
-    let n = lesser(a.len(), b.len());
-    let mut i = from;
-    while i < n {
-        let x = a[i];
-        let y = b[i];
-        if x < y {
-            return Order::Less;
+    if 8 <= n - i {
+        return Spots {
+            first: i,
+            last: i + 4,
+        };
+    }
+    if 8 <= n {
+        return Spots {
+            first: n - 8,
+            last: n - 4,
+        };
+    }
+    Spots {
+        first: 0,
+        last: n - 4,
+    }
+}
+
+// What is left from the first spot on. Both words are read before anything is asked: which of them differs cannot be foreseen.
+fn by_words(a: &[u8], b: &[u8], p: Spots) -> Order
+    requires { ⌜ (p .first ≤ p .last) × (p .last ≤ p .first + 4) ⌝ }
+    requires { ⌜ (p .last + 4 ≤ length (now a)) × (length (now a) ≡ length (now b)) ⌝ }
+    ensures { λ r. ⌜ r ≡ cmpBytes (drop (p .first) (now (a .entry))) (drop (p .first) (now (b .entry))) ⌝ }
+{
+    let x = numbers::read_u32_be(a, p.first);
+    let y = numbers::read_u32_be(b, p.first);
+    let u = numbers::read_u32_be(a, p.last);
+    let v = numbers::read_u32_be(b, p.last);
+    if (x == y) & (u == v) {
+        let k = p.last + 4;
+        if k == a.len() {
+            return Order::Equal;
         }
-        if y < x {
-            return Order::Greater;
-        }
-        i += 1;
+        return order::compare(&a[k..], &b[k..]);
     }
-    by_number(a.len(), b.len())
-}
-
-// The same, four bytes first.
-fn by_fours(a: &[u8], b: &[u8], from: usize) -> Order
-    requires { ⌜ (from ≤ length (now a)) × (from ≤ length (now b)) ⌝ }
-    ensures { λ r. ⌜ r ≡ cmpBytes (drop from (now (a .entry))) (drop from (now (b .entry))) ⌝ }
-{
-    let n = lesser(a.len(), b.len());
-    if n - from < 4 {
-        return by_ones(a, b, from);
-    }
-    let x = numbers::read_u32_be(a, from);
-    let y = numbers::read_u32_be(b, from);
-    if x < y {
+    if (x < y) | ((x == y) & (u < v)) {
         return Order::Less;
     }
-    if y < x {
-        return Order::Greater;
-    }
-    by_ones(a, b, from + 4)
+    Order::Greater
 }
 
-// The same, four bytes twice.
-fn by_eight(a: &[u8], b: &[u8], from: usize) -> Order
-    requires { ⌜ (from + 8 ≤ length (now a)) × (from + 8 ≤ length (now b)) ⌝ }
-    ensures { λ r. ⌜ r ≡ cmpBytes (drop from (now (a .entry))) (drop from (now (b .entry))) ⌝ }
-{
-    let x = numbers::read_u32_be(a, from);
-    let y = numbers::read_u32_be(b, from);
-    if x < y {
-        return Order::Less;
-    }
-    if y < x {
-        return Order::Greater;
-    }
-    let u = numbers::read_u32_be(a, from + 4);
-    let v = numbers::read_u32_be(b, from + 4);
-    if u < v {
-        return Order::Less;
-    }
-    if v < u {
-        return Order::Greater;
-    }
-    by_ones(a, b, from + 4 + 4)
-}
-
-// order::compare in a shape that stands whole in the halving's loop.
+// order::compare for the halving's loop: keys as long as the probe, the common case, are compared in place.
 fn against(a: &[u8], b: &[u8]) -> Order
     ensures { λ r. ⌜ r ≡ cmpBytes (now (a .entry)) (now (b .entry)) ⌝ }
 {
-    let i = words(a, b);
-    let n = lesser(a.len(), b.len());
-    if n - i < 8 {
-        return by_fours(a, b, i);
+    let n = b.len();
+    if a.len() != n {
+        return order::compare(a, b);
     }
-    by_eight(a, b, i)
+    if n < 4 {
+        return order::compare(a, b);
+    }
+    let i = same(a, b, n);
+    by_words(a, b, spots_of(n, i))
 }
 
-// The key of slot i against the rest of a probe.
-fn key_cmp(s: &[u8], b: Body, rest: &[u8], w: Want, i: usize) -> Cmp
-    requires { ⌜ Inside (now s) b ⌝ }
-    ensures { λ r. ⌜ r ≡ keyCmp (now (s .entry)) b (now (rest .entry)) w i ⌝ }
+fn is_less(c: Order) -> bool
+    ensures { λ r. ⌜ r ≡ isLess c ⌝ }
 {
-    let KeyRead::Key {
-        ver_at,
-        rest_at,
-        rest_len,
-    } = records::key_at(s, b, i)
-    else {
-        return Cmp::Refuse;
-    };
-    let e = rest_at + rest_len;
-    match against(&s[rest_at..e], rest) {
-        Order::Less => Cmp::Less,
-        Order::Equal => met(s, b.kind, ver_at, w),
-        Order::Greater => Cmp::Greater,
+    match c {
+        Order::Less => true,
+        Order::Equal => false,
+        Order::Greater => false,
     }
 }
 
 // ---- the halving
 
-// A page's slots, halved.
+// A page's slots, halved. Less or greater is asked last and of one value, so that it is no branch: nobody could foresee it.
 fn halve_keys(s: &[u8], b: Body, rest: &[u8], w: Want) -> Halved
     requires { ⌜ Inside (now s) b ⌝ }
     ensures { λ r. ⌜ r ≡ halve (keyCmp (now (s .entry)) b (now (rest .entry)) w) (b .elems) 0 (b .elems) 0 ⌝ }
@@ -263,18 +236,31 @@ fn halve_keys(s: &[u8], b: Body, rest: &[u8], w: Want) -> Halved
     while lo < hi {
         let mid = lo + (hi - lo) / 2;
         reads += 1;
-        match key_cmp(s, b, rest, w, mid) {
-            Cmp::Less => {
-                lo = mid + 1;
-            }
-            Cmp::Equal => {
+        let KeyRead::Key {
+            ver_at,
+            rest_at,
+            rest_len,
+        } = records::key_at(s, b, mid)
+        else {
+            return Halved::Bad;
+        };
+        let e = rest_at + rest_len;
+        let c = against(&s[rest_at..e], rest);
+        if order::is_equal(c) {
+            if w.lower {
+                if newer_at(s, b.kind, ver_at, w.ver) {
+                    lo = mid + 1;
+                } else {
+                    hi = mid;
+                }
+            } else {
                 return Halved::At(mid, reads);
             }
-            Cmp::Greater => {
+        } else {
+            if is_less(c) {
+                lo = mid + 1;
+            } else {
                 hi = mid;
-            }
-            Cmp::Refuse => {
-                return Halved::Bad;
             }
         }
     }
@@ -286,26 +272,10 @@ fn fits_prefix(s: &[u8], b: Body, probe: &[u8]) -> bool
     requires { ⌜ Inside (now s) b ⌝ }
     ensures { λ r. ⌜ r ≡ fitsPrefix (now (s .entry)) b (now (probe .entry)) ⌝ }
 {
-    order::starts_with(records::prefix_of(s, b), probe)
-}
-
-// The page at an address for a search: headers, kind, then an empty page, then the probe.
-fn open_for(s: &[u8], a: Addr, probe: &[u8], w: Want) -> Ready
-    ensures { λ r. ⌜ r ≡ readyAt (now (s .entry)) a (now (probe .entry)) w ⌝ }
-{
-    let Opened::Is(b) = frames::open_at(s, a) else {
-        return Ready::Refused(Refusal::BadFrame);
-    };
-    if (w.leaf & (b.kind == Body::LEAF)) | (w.index & (b.kind == Body::INDEX)) {
-        if b.elems == 0 {
-            return Ready::Empty;
-        }
-        if fits_prefix(s, b, probe) {
-            return Ready::Is(b);
-        }
-        return Ready::Refused(Refusal::WrongPrefix);
+    if b.prefix_len == 0 {
+        return true;
     }
-    Ready::Refused(Refusal::BadFrame)
+    order::starts_with(records::prefix_of(s, b), probe)
 }
 
 // A page's slots, halved for a probe that begins with its prefix.
@@ -318,14 +288,34 @@ fn halve_page(s: &[u8], b: Body, probe: &[u8], w: Want) -> Halved
     halve_keys(s, b, &probe[from..], w)
 }
 
-// The page at an address, halved: what search, floor, lower bound and the overlay share.
+// A page that was opened, for a search: its kind, then an empty page, then the probe, then the halving.
+fn ended_in(s: &[u8], b: Body, probe: &[u8], w: Want) -> Ended
+    requires { ⌜ Inside (now s) b ⌝ }
+    ensures { λ r. ⌜ r ≡ endedIn (now (s .entry)) b (now (probe .entry)) w ⌝ }
+{
+    if (w.leaf & (b.kind == Body::LEAF)) | (w.index & (b.kind == Body::INDEX)) {
+        if b.elems == 0 {
+            return Ended::Empty;
+        }
+        if fits_prefix(s, b, probe) {
+            return Ended::Halves(halve_page(s, b, probe, w));
+        }
+        return Ended::Refused(Refusal::WrongPrefix);
+    }
+    Ended::Refused(Refusal::BadFrame)
+}
+
+// The page at an address, halved: what the overlay asks for.
 pub fn halve_at(s: &[u8], a: Addr, probe: &[u8], w: Want) -> Outcome
     ensures { λ r. ⌜ r ≡ outcomeAt (now (s .entry)) a (now (probe .entry)) w ⌝ }
 {
-    match open_for(s, a, probe, w) {
-        Ready::Refused(r) => Outcome::Refused(r),
-        Ready::Empty => Outcome::Empty,
-        Ready::Is(b) => Outcome::Halves(b, halve_page(s, b, probe, w)),
+    let Opened::Is(b) = frames::open_at(s, a) else {
+        return Outcome::Refused(Refusal::BadFrame);
+    };
+    match ended_in(s, b, probe, w) {
+        Ended::Refused(r) => Outcome::Refused(r),
+        Ended::Empty => Outcome::Empty,
+        Ended::Halves(h) => Outcome::Halves(b, h),
     }
 }
 
@@ -357,10 +347,13 @@ pub fn lower_bound(s: &[u8], a: Addr, probe: &[u8], v: Ver) -> Bound
         lower: true,
         ver: v,
     };
-    match halve_at(s, a, probe, w) {
-        Outcome::Refused(r) => Bound::Refused(r),
-        Outcome::Empty => Bound::PastEnd { pos: 0, reads: 0 },
-        Outcome::Halves(b, h) => bound_in(b.elems, h),
+    let Opened::Is(b) = frames::open_at(s, a) else {
+        return Bound::Refused(Refusal::BadFrame);
+    };
+    match ended_in(s, b, probe, w) {
+        Ended::Refused(r) => Bound::Refused(r),
+        Ended::Empty => Bound::PastEnd { pos: 0, reads: 0 },
+        Ended::Halves(h) => bound_in(b.elems, h),
     }
 }
 
@@ -411,10 +404,13 @@ pub fn floor_pid_by_raw(s: &[u8], a: Addr, probe: &[u8]) -> Floor
         lower: false,
         ver: Ver::new(0, 0),
     };
-    match halve_at(s, a, probe, w) {
-        Outcome::Refused(r) => Floor::Refused(r),
-        Outcome::Empty => Floor::Nothing { reads: 0 },
-        Outcome::Halves(b, h) => floor_in(s, b, h),
+    let Opened::Is(b) = frames::open_at(s, a) else {
+        return Floor::Refused(Refusal::BadFrame);
+    };
+    match ended_in(s, b, probe, w) {
+        Ended::Refused(r) => Floor::Refused(r),
+        Ended::Empty => Floor::Nothing { reads: 0 },
+        Ended::Halves(h) => floor_in(s, b, h),
     }
 }
 
@@ -464,9 +460,12 @@ pub fn search_ver_val_by_raw(s: &[u8], a: Addr, probe: &[u8]) -> Found
         lower: false,
         ver: Ver::new(0, 0),
     };
-    match halve_at(s, a, probe, w) {
-        Outcome::Refused(r) => Found::Refused(r),
-        Outcome::Empty => Found::Nothing { reads: 0 },
-        Outcome::Halves(b, h) => found_in(s, b, h),
+    let Opened::Is(b) = frames::open_at(s, a) else {
+        return Found::Refused(Refusal::BadFrame);
+    };
+    match ended_in(s, b, probe, w) {
+        Ended::Refused(r) => Found::Refused(r),
+        Ended::Empty => Found::Nothing { reads: 0 },
+        Ended::Halves(h) => found_in(s, b, h),
     }
 }

@@ -180,14 +180,14 @@ pub fn count_pages(
     let mut n: usize = 0;
     let mut to = at;
     loop {
-        let r = history::look_ahead(list, low, c, limit, budget);
-        let k = r.count;
-        if k == 0 {
+        let s = history::look_ahead(list, low, c, limit, budget);
+        let r = s.run;
+        if r.count == 0 {
             return Pages { count: n, end: to };
         }
         n += 1;
         to += frames::frame_len(r.size as u32) + r.far;
-        c = sources::skip(list, low, true, c, k);
+        c = s.rest;
     }
 }
 

@@ -9,16 +9,25 @@ use denote.Triple.Clauses.{AtExit}
 use Rattle.spans.specs.Span.{partOr}
 use Rattle.spans.specs.Only.{Decides, decides}
 use Rattle.frames.specs.declared.Addr.{Addr}
+use Rattle.frames.specs.declared.Opened.{Opened}
+use Rattle.values.specs.declared.HistRef.{HistRef}
+use Rattle.walks.specs.declared.Sheet.{Sheet}
+use Rattle.walks.specs.declared.Past.{Past}
+use Rattle.walks.specs.declared.Entered.{Entered}
 use Rattle.walks.specs.declared.Walk.{Walk}
 use Rattle.walks.specs.declared.Item.{Item}
 use Rattle.walks.specs.declared.Branch.{Branch}
 use Rattle.walks.specs.declared.Begun.{Begun}
 use Rattle.walks.specs.declared.Step.{Step}
-use Rattle.walks.specs.Walk.{forwardAt, backwardAt, stepAt}
+use Rattle.walks.specs.Walk.{forwardAt, backwardAt, bodyOf, enterAt, stepAt}
 use Rattle.walks.proofs.forward as forward-fn
 use Rattle.walks.proofs.forward.Reads as forward-at
 use Rattle.walks.proofs.backward as backward-fn
 use Rattle.walks.proofs.backward.Reads as backward-at
+use Rattle.walks.proofs.body_of as body-fn
+use Rattle.walks.proofs.body_of.Reads as body-at
+use Rattle.walks.proofs.enter as enter-fn
+use Rattle.walks.proofs.enter.Reads as enter-at
 use Rattle.walks.proofs.Walk.step as step-fn
 use Rattle.walks.proofs.Walk.step.Reads as step-at
 use Rattle.walks.proofs.rest_of as rest-fn
@@ -34,6 +43,12 @@ module _ (κs : Lfts 1) (s : RefT (List ℕ)) where
 
   pub backward-decided : (a : Addr) (i j : ℤ) (x : AtExit backward-fn.ended κs) → Decides (λ (r : Begun). backward-at.Post κs (s, (a, (i, (j, tt)))) r x) (λ (r : Begun). r)
   backward-decided a i j x = decides (λ (r : Begun). r) (backwardAt (now s) a i j)
+
+  pub body-decided : (v : Sheet) (kind : ℕ) (x : AtExit body-fn.ended κs) → Decides (λ (r : Opened). body-at.Post κs (s, (v, (kind, tt))) r x) (λ (r : Opened). r)
+  body-decided v kind x = decides (λ (r : Opened). r) (bodyOf (now s) v kind)
+
+  pub enter-decided : (h : HistRef) (was : Past) (x : AtExit enter-fn.ended κs) → Decides (λ (r : Entered). enter-at.Post κs (s, (h, (was, tt))) r x) (λ (r : Entered). r)
+  enter-decided h was x = decides (λ (r : Entered). r) (enterAt (now s) h was)
 
   pub step-decided : (w : Walk) (x : AtExit step-fn.ended κs) → Decides (λ (r : Step). step-at.Post κs (w, (s, tt)) r x) (λ (r : Step). r)
   step-decided w x = decides (λ (r : Step). r) (stepAt (now s) w)

@@ -2,10 +2,10 @@
 pub mod Lying
 pub mod Signs
 pub mod Steps
+pub mod Keeps
 pub mod Listing
 pub mod Says
 pub mod Shorter
-pub mod Turns
 pub mod Held
 pub mod Hands
 pub mod Decided

@@ -1,7 +1,7 @@
 -- The test that a page lies in the arena says exactly that; a page as a walk carries it reads as its body does.
 -- Assumes nothing.
 use Prim.Native.Nat.{ℕ, _+_, _*_, _-_, _/_, _≤_, _<_}
-use mathlib.Core.Path.{_≡_, refl, _∙_}
+use mathlib.Core.Path.{_≡_, refl, ap, subst, _∙_}
 use mathlib.Core.Bool.{Bool, true, false, _&&_, cond}
 use mathlib.Core.List.{List}
 use native.Mathlib.Omega.{arith}
@@ -10,6 +10,7 @@ use lib.ListN.{length, take}
 use lib.Dec.{leb}
 use Rattle.spans.proofs.Tests.{ask, leb-same}
 use Rattle.frames.specs.declared.Body.{Body}
+use Rattle.frames.specs.declared.Opened.{Opened}
 use Rattle.frames.specs.Layout.{baseLen, addr, Inside}
 use Rattle.frames.proofs.Frames.{and-l, and-r}
 use Rattle.values.specs.declared.KeyRead.{KeyRead}
@@ -20,7 +21,7 @@ use Rattle.records.specs.declared.Rec.{Rec}
 use Rattle.records.specs.declared.RecRead.{RecRead}
 use Rattle.records.specs.Records.{slotAt, keyWhole, keyIn, valIn, recOf, recKey, recIn, recSlot, recAt}
 use Rattle.walks.specs.declared.Sheet.{Sheet}
-use Rattle.walks.specs.Walk.{sheetOf, bodyIn, fitsIn, readAt}
+use Rattle.walks.specs.Walk.{sheetOf, bodyIn, bodyOf, fitsIn, readAt}
 
 -- ---- the test
 
@@ -61,6 +62,22 @@ fits-inside s v k e =
       arena = leb-true (v .end) (length s) (and-r p1 p2 (and-l (p1 && p2) p3 (a1 .0)));
       prefix = leb-true (v .«prefix_len») (v .front) (and-r (p1 && p2) p3 (a1 .0));
     }
+
+-- a page that a walk carries, once asked for
+module _ (s : List ℕ) (v : Sheet) (k : ℕ) (b : Body) (e : bodyOf s v k ≡ Opened.Is b) where
+  asked : (fitsIn (length s) v ≡ true) × (Opened.Is (bodyIn v k) ≡ Opened.Is b)
+  unfolding bodyOf
+  asked = ask (fitsIn (length s) v) (Opened.Is (bodyIn v k)) Opened.Bad (Opened.Is b) (λ z. absurd (let y : _≡_ {A = ℕ} 0 1 = cc in omega arith)) e
+
+  pub body-is : bodyIn v k ≡ b
+  body-is = let y = asked .1 in cc
+
+  pub body-inside : Inside s b
+  body-inside = subst (λ (z : Body). Inside s z) body-is (fits-inside s v k (asked .0))
+
+  pub body-reads : (i : ℕ) → readAt s v k i ≡ recAt s b i
+  unfolding readAt
+  body-reads i = ap (λ (t : Bool). cond t (recAt s (bodyIn v k) i) RecRead.Bad) (asked .0) ∙ ap (λ (z : Body). recAt s z i) body-is
 
 -- ---- a page that was opened
 

@@ -27,7 +27,7 @@ use Rattle.walks.specs.declared.Item.{Item}
 use Rattle.walks.specs.declared.Step.{Step}
 use Rattle.walks.specs.declared.OldStep.{OldStep}
 use Rattle.walks.specs.declared.Entered.{Entered}
-use Rattle.walks.specs.Walk.{sheetOf, pastOver, walkOf, kindOfWay, movedOf, onOf, behindOf, itemOf, restOf, nextIn, nextOld, enterAt, headStep, stepAt}
+use Rattle.walks.specs.Walk.{sheetOf, pastOf, pastOver, walkOf, readAt, kindOfWay, movedOf, onOf, behindOf, itemOf, restOf, nextRec, nextIn, nextOld, enterAt, headStep, stepAt}
 use Rattle.walks.proofs.Lying.{read-is}
 
 less-one : (k : ℕ) → suc k - 1 ≡ k
@@ -44,6 +44,17 @@ step-end s w e f = rw (e, f)
 pub step-old : (s : List ℕ) (w : Walk) (x : Item) (p : Past) → 0 < w .past .left → nextOld s (w .key) (w .past) ≡ OldStep.Is x p → stepAt s w ≡ Step.Found x (behindOf w p)
 unfolding stepAt
 step-old s w x p l e = rw (lt-ltb 0 (w .past .left) l, e)
+
+-- an old version of the history page in which the walk stands
+in-next : (s : List ℕ) (w : Walk) (r : Rec) → (w .past .slot ≡ w .past .page .elems → ⊥) → readAt s (w .past .page) 2 (w .past .slot) ≡ RecRead.Is r
+    → nextOld s (w .key) (w .past) ≡ OldStep.Is (itemOf s (w .key) r (addr 0)) (pastOf (w .past .page) (w .past .link) (w .past .slot + 1) (w .past .left - 1))
+unfolding nextOld nextIn
+in-next s w r n q = rw (ne-eqb (w .past .slot) (w .past .page .elems) n) (ap (nextRec s (w .key) (w .past) (addr 0)) q)
+
+pub step-in : (s : List ℕ) (w : Walk) (r : Rec) → 0 < w .past .left → (w .past .slot ≡ w .past .page .elems → ⊥) → readAt s (w .past .page) 2 (w .past .slot) ≡ RecRead.Is r
+    → stepAt s w ≡ Step.Found (itemOf s (w .key) r (addr 0)) (behindOf w (pastOf (w .past .page) (w .past .link) (w .past .slot + 1) (w .past .left - 1)))
+step-in s w r l n q =
+    step-old s w (itemOf s (w .key) r (addr 0)) (pastOf (w .past .page) (w .past .link) (w .past .slot + 1) (w .past .left - 1)) l (in-next s w r n q)
 
 -- a step names no page where it stays on the page h, and the page linked to where it enters that one (DECIDED 34)
 abbrev pub Names : Addr → Body → Addr → Addr → Type 0

@@ -3,4 +3,3 @@ pub mod Walk
 pub mod Refused
 pub mod Listed
 pub mod Cases
-pub mod Turned

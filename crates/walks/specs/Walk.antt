@@ -110,6 +110,9 @@ unfoldable pub fitsIn : ℕ → Sheet → Bool
 fitsIn len v =
     cond (leb (v .at) (v .end) && leb (v .end) len && leb (v .«prefix_len») (v .front)) (leb (v .at + baseLen + 4 * v .elems + v .front) (v .end)) false
 
+unfoldable pub bodyOf : List ℕ → Sheet → ℕ → Opened
+bodyOf s v kind = cond (fitsIn (length s) v) (Opened.Is (bodyIn v kind)) Opened.Bad
+
 unfoldable pub readAt : List ℕ → Sheet → ℕ → ℕ → RecRead
 readAt s v kind i = cond (fitsIn (length s) v) (recAt s (bodyIn v kind) i) RecRead.Bad
 

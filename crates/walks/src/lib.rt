@@ -4,8 +4,7 @@ ghost use mathlib.Core.Path.{_≡_};
 ghost use Prim.Native.Nat.{_+_, _*_, _-_, _≤_, _<_, _^_};
 ghost use lib.ListN.{length};
 ghost use Rattle.spans.specs.Span.{partOr};
-ghost use Rattle.walks.specs.Turned.{turnedAt};
-ghost use Rattle.walks.specs.Walk.{sheetOf, pastOf, pastOver, upWay, fitsIn, bodyIn, readAt, kindOfWay, upRange, downRange, begunOf, forwardAt, backwardAt, movedOf, onOf, behindOf, itemOf, nextIn, nextOld, enterAt, headStep, stepAt};
+ghost use Rattle.walks.specs.Walk.{sheetOf, pastOf, pastOver, upWay, fitsIn, bodyIn, bodyOf, readAt, kindOfWay, upRange, downRange, begunOf, forwardAt, backwardAt, movedOf, onOf, behindOf, itemOf, nextIn, nextOld, enterAt, headStep, stepAt};
 use frames::Addr;
 use frames::BaseHeader;
 use frames::Body;
@@ -235,26 +234,22 @@ fn body_in(v: Sheet, kind: u8) -> Body
     }
 }
 
+// The page that a walk carries, where it still lies in the arena.
+pub fn body_of(s: &[u8], v: Sheet, kind: u8) -> Opened
+    ensures { λ r. ⌜ r ≡ bodyOf (now (s .entry)) v kind ⌝ }
+{
+    if fits(s.len(), v) {
+        return Opened::Is(body_in(v, kind));
+    }
+    Opened::Bad
+}
+
 // The record of slot i of a page of this kind that a walk carries.
 fn read(s: &[u8], v: Sheet, kind: u8, i: usize) -> RecRead
     ensures { λ r. ⌜ r ≡ readAt (now (s .entry)) v kind i ⌝ }
 {
     if fits(s.len(), v) {
-        let b = body_in(v, kind);
-        if kind == Body::LEAF {
-            return records::head_at(s, b, i);
-        }
-        return records::rec_at(s, b, i);
-    }
-    RecRead::Bad
-}
-
-// The old version of slot i of a history page that a walk carries.
-fn read_old(s: &[u8], v: Sheet, i: usize) -> RecRead
-    ensures { λ r. ⌜ r ≡ readAt (now (s .entry)) v 2 i ⌝ }
-{
-    if fits(s.len(), v) {
-        return records::old_at(s, body_in(v, Body::HISTORY), i);
+        return records::rec_at(s, body_in(v, kind), i);
     }
     RecRead::Bad
 }
@@ -305,12 +300,13 @@ enum OldStep {
 }
 
 // What a head's history leaves to walk: its page is entered.
-enum Entered {
+pub enum Entered {
     Is(Past),
     Bad,
 }
 
-fn enter(s: &[u8], h: HistRef, was: Past) -> Entered
+// Without history the walk's past stays; its page is judged otherwise.
+pub fn enter(s: &[u8], h: HistRef, was: Past) -> Entered
     ensures { λ r. ⌜ r ≡ enterAt (now (s .entry)) h was ⌝ }
 {
     if h.count == 0 {
@@ -325,12 +321,6 @@ fn enter(s: &[u8], h: HistRef, was: Past) -> Entered
         return Entered::Is(past_over(b, slot, h.count as usize));
     }
     Entered::Bad
-}
-
-// Where the next old version stands, and the history page entered, or 0.
-enum Turned {
-    Is(Past, Addr),
-    Bad,
 }
 
 impl Past {
@@ -356,25 +346,10 @@ impl Past {
         ensures { λ r. ⌜ r ≡ nextIn (now (s .entry)) key self named ⌝ }
     {
         let page = self.page;
-        let RecRead::Is(r) = read_old(s, page, self.slot) else {
+        let RecRead::Is(r) = read(s, page, Body::HISTORY, self.slot) else {
             return OldStep::Bad;
         };
         OldStep::Is(item_of(s, key, r, named), self.after())
-    }
-
-    // Where the next old version stands: here, or, behind the page's last, first in the page that it links to, which is then named.
-    fn turned(self, s: &[u8]) -> Turned
-        ensures { λ r. ⌜ r ≡ turnedAt (now (s .entry)) self ⌝ }
-    {
-        let page = self.page;
-        if self.slot != page.elems {
-            return Turned::Is(self, Addr(0));
-        }
-        let link = self.link;
-        let Opened::Is(d) = pages::history_at(s, link) else {
-            return Turned::Bad;
-        };
-        Turned::Is(past_over(d, 0, self.left), link)
     }
 
     // The same, or, behind the page's last, the first of the page that it links to.
@@ -382,10 +357,16 @@ impl Past {
         requires { ⌜ 0 < self .left ⌝ }
         ensures { λ r. ⌜ r ≡ nextOld (now (s .entry)) key self ⌝ }
     {
-        let Turned::Is(past, named) = self.turned(s) else {
+        let page = self.page;
+        if self.slot != page.elems {
+            return self.here(s, key, Addr(0));
+        }
+        let link = self.link;
+        let Opened::Is(d) = pages::history_at(s, link) else {
             return OldStep::Bad;
         };
-        past.here(s, key, named)
+        let first = past_over(d, 0, self.left);
+        first.here(s, key, link)
     }
 }
 
@@ -444,98 +425,6 @@ impl Walk {
             len: r.rest_len,
         };
         if self.way == Walk::INDEX {
-            return Step::Leads(
-                Branch {
-                    key: key,
-                    page: PageId(numbers::read_u64(s, r.val_at)),
-                },
-                self.on(key, was),
-            );
-        }
-        let h = r.hist;
-        let Entered::Is(past) = enter(s, h, was) else {
-            return Step::Refused(Refusal::BadFrame);
-        };
-        let named = h.page;
-        Step::Found(item_of(s, key, r, named), self.on(key, past))
-    }
-
-    // The record at the walk, with the walk moved on. All below it is called from here alone, so that the compiler puts the whole step
-    // into the loop of a library that has one: whoever is not that loop calls `plain_step`.
-    pub fn step(self, s: &[u8]) -> Step
-        ensures { λ r. ⌜ r ≡ stepAt (now (s .entry)) self ⌝ }
-    {
-        let past = self.past;
-        if 0 < past.left {
-            let key = self.key;
-            let OldStep::Is(item, rest) = past.next(s, key) else {
-                return Step::Refused(Refusal::BadFrame);
-            };
-            return Step::Found(item, self.behind(rest));
-        }
-        if self.heads == 0 {
-            return Step::End;
-        }
-        self.head(s)
-    }
-}
-
-// ---- the same step by the one decoder
-
-// The record of slot i of a page of this kind that a walk carries.
-fn read_plain(s: &[u8], v: Sheet, kind: u8, i: usize) -> RecRead
-    ensures { λ r. ⌜ r ≡ readAt (now (s .entry)) v kind i ⌝ }
-{
-    if fits(s.len(), v) {
-        return records::rec_at(s, body_in(v, kind), i);
-    }
-    RecRead::Bad
-}
-
-impl Past {
-    fn plain_here(self, s: &[u8], key: Place, named: Addr) -> OldStep
-        requires { ⌜ 0 < self .left ⌝ }
-        ensures { λ r. ⌜ r ≡ nextIn (now (s .entry)) key self named ⌝ }
-    {
-        let page = self.page;
-        let RecRead::Is(r) = read_plain(s, page, Body::HISTORY, self.slot) else {
-            return OldStep::Bad;
-        };
-        OldStep::Is(item_of(s, key, r, named), self.after())
-    }
-
-    fn plain_next(self, s: &[u8], key: Place) -> OldStep
-        requires { ⌜ 0 < self .left ⌝ }
-        ensures { λ r. ⌜ r ≡ nextOld (now (s .entry)) key self ⌝ }
-    {
-        let page = self.page;
-        if self.slot != page.elems {
-            return self.plain_here(s, key, Addr(0));
-        }
-        let link = self.link;
-        let Opened::Is(d) = pages::history_at(s, link) else {
-            return OldStep::Bad;
-        };
-        let first = past_over(d, 0, self.left);
-        first.plain_here(s, key, link)
-    }
-}
-
-impl Walk {
-    fn plain_head(self, s: &[u8]) -> Step
-        requires { ⌜ 0 < self .heads ⌝ }
-        ensures { λ r. ⌜ r ≡ headStep (now (s .entry)) self ⌝ }
-    {
-        let page = self.page;
-        let was = self.past;
-        let RecRead::Is(r) = read_plain(s, page, kind_of(self.way), self.pos) else {
-            return Step::Refused(Refusal::BadFrame);
-        };
-        let key = Place {
-            at: r.rest_at,
-            len: r.rest_len,
-        };
-        if self.way == Walk::INDEX {
             let page = PageId(numbers::read_u64(s, r.val_at));
             return Step::Leads(
                 Branch {
@@ -553,19 +442,20 @@ impl Walk {
         Step::Found(item_of(s, key, r, named), self.on(key, past))
     }
 
-    pub fn plain_step(self, s: &[u8]) -> Step
+    // The record at the walk, with the walk moved on.
+    pub fn step(self, s: &[u8]) -> Step
         ensures { λ r. ⌜ r ≡ stepAt (now (s .entry)) self ⌝ }
     {
         let past = self.past;
         if 0 < past.left {
             let key = self.key;
-            let OldStep::Is(item, rest) = past.plain_next(s, key) else {
+            let OldStep::Is(item, rest) = past.next(s, key) else {
                 return Step::Refused(Refusal::BadFrame);
             };
             return Step::Found(item, self.behind(rest));
         }
         if self.heads != 0 {
-            return self.plain_head(s);
+            return self.head(s);
         }
         Step::End
     }

@@ -162,7 +162,7 @@ impl<'a> Record<'a> {
 }
 
 /// How many records a walk reads in one call of the library.
-const AHEAD: usize = 7;
+const AHEAD: usize = 31;
 
 /// A walk: the records of a page in order, until the end or the first that is refused. Made by [`Page::walk`](crate::Page::walk),
 /// [`walk_back`](crate::Page::walk_back) and [`range`](crate::Page::range). It allocates nothing; a copy goes on from where it stands.

@@ -6,8 +6,8 @@ use Rattle.image.specs.declared.Built.{Built}
 use Rattle.delta.specs.Built.{afterwards}
 use Rattle.delta.specs.Deltas as deltas
 use Rattle.image.specs.Call as call
-use Rattle.capi.specs.Words.{builtWords}
-use Rattle.capi.proofs.Laws.{told}
+use Rattle.tells.specs.Answers.{builtWords}
+use Rattle.words.proofs.Laws.{told}
 use borrow.Author.Needs.{needs}
 use Rattle.capi.proofs.ct_delta_index.Statement.{statement}
 use Rattle.capi.proofs.ct_delta_index.Tie as tie

@@ -1,6 +1,6 @@
 -- `capi::ct_delta_leaf` meets its contract. Assumes nothing.
 use denote.Ref.{now}
-use Rattle.capi.proofs.Laws.{leaf-told}
+use Rattle.capi.proofs.Told.{leaf-told}
 use borrow.Author.Needs.{needs}
 use Rattle.capi.proofs.ct_delta_leaf.Statement.{statement}
 use Rattle.capi.proofs.ct_delta_leaf.Tie as tie

@@ -5,8 +5,10 @@ use Rattle.frames.specs.declared.Opened.{Opened}
 use Rattle.frames.specs.Layout.{addr, openAt}
 use Rattle.pages.specs.Edges.{boundsAt}
 use Rattle.pages.specs.Refused.{boundsNumber}
-use Rattle.capi.specs.Words.{written, boundsWords, pageWords}
-use Rattle.capi.proofs.Laws.{told, page-bad}
+use Rattle.words.specs.Words.{written}
+use Rattle.tells.specs.Answers.{boundsWords, pageWords}
+use Rattle.words.proofs.Laws.{told}
+use Rattle.capi.proofs.Told.{page-bad}
 use borrow.Author.Needs.{needs}
 use Rattle.capi.proofs.ct_page.Statement.{statement}
 use Rattle.capi.proofs.ct_page.Tie as tie

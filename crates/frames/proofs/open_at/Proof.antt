@@ -1,36 +1,60 @@
 -- `frames::open_at` meets its contract. Assumes nothing.
 use native.Mathlib.Omega.{arith}
-use mathlib.Core.Path.{sym, _∙_}
+use Prim.Native.Nat.{_+_}
+use mathlib.Core.Path.{_≡_, sym, _∙_}
 use denote.Ref.{now}
-use Rattle.frames.specs.Layout.{openAt}
-use Rattle.frames.proofs.Frames.{Sizes, page-sizes}
+use lib.ListN.{length}
+use borrow.Author.Tests.{leb-true}
+use Rattle.frames.specs.declared.PageRead.{PageRead}
+use Rattle.frames.specs.Layout.{pageAt, openAt}
+use Rattle.frames.proofs.Frames.{page-sizes}
+use Rattle.frames.proofs.Judged.{plain-page}
 use borrow.Author.Needs.{needs}
 use Rattle.frames.proofs.open_at.Statement.{statement}
 use Rattle.frames.proofs.open_at.Tie as tie
 
-at-requires : tie.Need-at-requires
-at-requires c κs = search needs
+room-requires : tie.Need-room-requires
+room-requires c κs = search needs
 
-enum-known-x : tie.Need-enum-known-x
-enum-known-x c = search needs
+fields-requires : tie.Need-fields-requires
+fields-requires c κs = omega (arith, leb-true (c .before .before .before .args .a .0 + 72) (length (now (c .before .before .before .args .s))) (sym (c .before .room .ensures) ∙ c .if1 .taken))
 
-enum-told : tie.Need-enum-told
-enum-told c = search needs
+add-fields : tie.Need-add-fields
+add-fields c = omega (arith, leb-true (c .before .before .before .before .args .a .0 + 72) (length (now (c .before .before .before .before .args .s))) (sym (c .before .before .room .ensures) ∙ c .before .if1 .taken), c .before .before .before .before .good)
+
+fields-requires-2 : tie.Need-fields-requires-2
+fields-requires-2 c κs = omega (arith, leb-true (c .before .before .before .before .args .a .0 + 72) (length (now (c .before .before .before .before .args .s))) (sym (c .before .before .room .ensures) ∙ c .before .if1 .taken))
+
+plain-requires : tie.Need-plain-requires
+plain-requires c κs = omega (arith, leb-true (c .before .before .before .before .before .args .a .0 + 72) (length (now (c .before .before .before .before .before .args .s))) (sym (c .before .before .before .room .ensures) ∙ c .before .before .if1 .taken), c .before .before .before .before .before .good)
+
+-- a page that `plain` lets pass is read
+page : (c : tie.Then2) → pageAt (now (c .before .before .before .before .before .before .before .args .s)) (c .before .before .before .before .before .before .before .args .a) ≡ PageRead.Page (c .before .before .before .fields .result) (c .before .before .fields2 .result)
+page c = plain-page (now (c .before .before .before .before .before .before .before .args .s)) (c .before .before .before .before .before .before .before .args .a) _ _ (sym (c .before .before .before .before .before .room .ensures) ∙ c .before .before .before .before .if1 .taken) (c .before .before .before .fields .ensures) (c .before .before .fields2 .ensures) (c .before .plain .ensures (c .if2 .taken))
+
+body-of-requires : tie.Need-body-of-requires
+body-of-requires c κs = omega (arith, page-sizes (now (c .before .before .before .before .before .before .before .args .s)) (c .before .before .before .before .before .before .before .args .a) _ _ (page c), c .before .before .before .before .before .before .before .good)
 
 returns : tie.Need-returns
 unfolding openAt
-returns c = simp (← c .before .before .at .ensures, c .enum-told .given .1)
+returns c = simp (page (c .before), c .body-of .ensures)
 
-sizes : (c : tie.After-known-told) → Sizes (now (c .before .before .before .before .before .args .s)) (c .before .before .before .before .before .args .a) (c .before .x .given .0 .0) (c .before .x .given .0 .1 .0)
-sizes c = page-sizes (now (c .before .before .before .before .before .args .s)) (c .before .before .before .before .before .args .a) (c .before .x .given .0 .0) (c .before .x .given .0 .1 .0) (sym (c .before .before .before .at .ensures) ∙ c .before .x .given .1)
-
-body-of-requires : tie.Need-body-of-requires
-body-of-requires c κs = omega (arith, sizes c, c .before .before .before .before .before .good)
+any-at-requires : tie.Need-any-at-requires
+any-at-requires c κs = search needs
 
 returns-2 : tie.Need-returns-2
-unfolding openAt
-returns-2 c = simp (← c .before .before .before .before .at .ensures, c .before .before .x .given .1, c .body-of .ensures)
+returns-2 c = c .any-at .ensures
 
 pub open-at-spec : {M : Type 1} → statement M
 open-at-spec =
-    tie.close (tie.spec at-requires enum-known-x enum-told returns body-of-requires returns-2)
+    tie.close
+    (tie.spec
+    room-requires
+    fields-requires
+    add-fields
+    fields-requires-2
+    plain-requires
+    body-of-requires
+    returns
+    any-at-requires
+    returns-2)

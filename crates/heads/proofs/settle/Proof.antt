@@ -20,22 +20,22 @@ look-ahead-requires : tie.Need-look-ahead-requires
 look-ahead-requires c κs = (c .before .before .before .before .pre .0 .limit, c .before .before .before .before .pre .0 .budget)
 
 returns-3 : tie.Need-returns-3
-returns-3 c = settled-end (c .before .before .before .before .before .before .args .m) _ _ _ (c .before .before .before .before .before .before .pre .0) (c .before .before .if2 .left) _ (c .before .look-ahead .ensures) (c .if3 .taken)
+returns-3 c = settled-end (c .before .before .before .before .before .before .before .args .m) _ _ _ (c .before .before .before .before .before .before .before .pre .0) (c .before .before .before .if2 .left) _ (c .before .before .look-ahead .ensures .0) (c .if3 .taken)
 
 cast-frame-len : tie.Need-cast-frame-len
-cast-frame-len c = let z = run-small (c .before .before .before .before .before .before .before .args .m) _ (c .before .before .before .before .before .before .before .args .named) (c .before .before .before .before .before .before .before .args .p) (c .before .before .before .before .before .before .before .pre .0) (c .before .before .before .if2 .left) _ (c .before .before .look-ahead .ensures) in omega (arith, z)
+cast-frame-len c = let z = run-small (c .before .before .before .before .before .before .before .before .args .m) _ (c .before .before .before .before .before .before .before .before .args .named) (c .before .before .before .before .before .before .before .before .args .p) (c .before .before .before .before .before .before .before .before .pre .0) (c .before .before .before .before .if2 .left) _ (c .before .before .before .look-ahead .ensures .0) in omega (arith, z)
 
 frame-len-requires : tie.Need-frame-len-requires
 frame-len-requires c κs = search needs
 
 add-end : tie.Need-add-end
-add-end c = let z = turned-fits (c .before .before .before .before .before .before .before .before .args .m) _ (c .before .before .before .before .before .before .before .before .args .named) (c .before .before .before .before .before .before .before .before .args .p) (c .before .before .before .before .before .before .before .before .pre .0) (c .before .before .before .before .if2 .left) _ (c .before .before .before .look-ahead .ensures) (c .before .before .if3 .left) _ (c .frame-len .ensures) (c .before .before .before .before .before .before .before .before .pre .1) in omega (arith, z)
+add-end c = let z = turned-fits (c .before .before .before .before .before .before .before .before .before .args .m) _ (c .before .before .before .before .before .before .before .before .before .args .named) (c .before .before .before .before .before .before .before .before .before .args .p) (c .before .before .before .before .before .before .before .before .before .pre .0) (c .before .before .before .before .before .if2 .left) _ (c .before .before .before .before .look-ahead .ensures .0) (c .before .before .if3 .left) _ (c .frame-len .ensures) (c .before .before .before .before .before .before .before .before .before .pre .1) in omega (arith, z)
 
 add-behind : tie.Need-add-behind
-add-behind c = let z = turned-fits (c .before .before .before .before .before .before .before .before .before .args .m) _ (c .before .before .before .before .before .before .before .before .before .args .named) (c .before .before .before .before .before .before .before .before .before .args .p) (c .before .before .before .before .before .before .before .before .before .pre .0) (c .before .before .before .before .before .if2 .left) _ (c .before .before .before .before .look-ahead .ensures) (c .before .before .before .if3 .left) _ (c .before .frame-len .ensures) (c .before .before .before .before .before .before .before .before .before .pre .1) in omega (arith, z)
+add-behind c = let z = turned-fits (c .before .before .before .before .before .before .before .before .before .before .args .m) _ (c .before .before .before .before .before .before .before .before .before .before .args .named) (c .before .before .before .before .before .before .before .before .before .before .args .p) (c .before .before .before .before .before .before .before .before .before .before .pre .0) (c .before .before .before .before .before .before .if2 .left) _ (c .before .before .before .before .before .look-ahead .ensures .0) (c .before .before .before .if3 .left) _ (c .before .frame-len .ensures) (c .before .before .before .before .before .before .before .before .before .before .pre .1) in omega (arith, z)
 
 returns-4 : tie.Need-returns-4
-returns-4 c = turned (c .before .before .before .before .before .before .before .before .before .args .m) _ _ _ (c .before .before .before .before .before .before .before .before .before .pre .0) (c .before .before .before .before .before .if2 .left) _ (c .before .before .before .before .look-ahead .ensures) (c .before .before .before .if3 .left) _ (c .before .frame-len .ensures)
+returns-4 c = turned (c .before .before .before .before .before .before .before .before .before .before .args .m) _ _ _ (c .before .before .before .before .before .before .before .before .before .before .pre .0) (c .before .before .before .before .before .before .if2 .left) _ (c .before .before .before .before .before .look-ahead .ensures .0) (c .before .before .before .if3 .left) _ (c .before .frame-len .ensures)
 
 pub settle-spec : {M : Type 1} → statement M
 settle-spec =

@@ -4,7 +4,7 @@ use mathlib.Core.Bool.{true, false}
 use lib.ListN.{length, take}
 use lib.Seq.{length-take-le}
 use Rattle.sources.specs.Source.{entries, only}
-use Rattle.history.proofs.Page.{Histories, hist-begin, hist-done, page-asks, w1, hist-turn, hist-less}
+use Rattle.history.proofs.Page.{Histories, hist-begin, hist-done, page-asks, hist-turn, hist-less}
 use borrow.Author.Needs.{needs}
 use Rattle.history.proofs.save_hist_regions.Statement.{statement}
 use Rattle.history.proofs.save_hist_regions.Tie as tie
@@ -12,7 +12,6 @@ use Rattle.history.proofs.save_hist_regions.Reads as reads
 use Rattle.history.proofs.save_hist_regions.Lts as lts
 use Rattle.history.proofs.hist_page.Reads as hist-page-reads
 use Rattle.history.proofs.look_ahead.Reads as look-ahead-reads
-use Rattle.sources.proofs.skip.Reads as skip-reads
 
 abbrev Inv-loop : tie.InvT-loop
 Inv-loop a₀ low list at m c₀ to₀ a c to = Histories a₀ list low at m c₀ a c to
@@ -33,28 +32,19 @@ look-ahead-requires : tie.Need-look-ahead-requires Inv-loop μ-loop
 look-ahead-requires c κs = (c .before .before .before .before .pre .1 .0 .limit, c .before .before .before .before .pre .1 .0 .budget)
 
 same-length : tie.Need-same-length Inv-loop μ-loop
-same-length c = c .before .before .before .loop .inv .writing .long
+same-length c = c .before .before .before .before .before .loop .inv .writing .long
 
 returns : tie.Need-returns Inv-loop μ-loop
-returns c = hist-done _ _ _ _ _ _ _ _ _ (c .before .before .before .before .before .before .pre .1 .0) (c .before .before .before .loop .inv) _ (c .before .look-ahead .ensures) (c .if1 .taken)
+returns c = hist-done _ _ _ _ _ _ _ _ _ (c .before .before .before .before .before .before .before .before .pre .1 .0) (c .before .before .before .before .before .loop .inv) _ (c .before .before .before .look-ahead .ensures .0) (c .if1 .taken)
 
 hist-page-requires : tie.Need-hist-page-requires Inv-loop μ-loop
-hist-page-requires c κs = page-asks _ _ _ _ _ _ _ _ _ (c .before .before .before .before .before .before .before .pre .1 .0) (c .before .before .before .before .loop .inv) _ (c .before .before .look-ahead .ensures) (c .before .if1 .left)
-
-slice-reshare-prefix-skip : tie.Need-slice-reshare-prefix-skip Inv-loop μ-loop
-slice-reshare-prefix-skip c = let v = w1 _ _ _ _ _ _ _ _ _ (c .before .before .before .before .before .before .before .before .before .before .pre .1 .0) (c .before .before .before .before .before .before .before .loop .inv) _ (c .before .before .before .before .before .look-ahead .ensures) (c .before .before .before .before .if1 .left) _ _ (c .before .before .hist-page .ensures .0) (c .before .before .hist-page .ensures .1) in omega (arith, v .over, v .room)
-
-slice-aggregate-skip : tie.Need-slice-aggregate-skip Inv-loop μ-loop
-slice-aggregate-skip c = let v = w1 _ _ _ _ _ _ _ _ _ (c .before .before .before .before .before .before .before .before .before .before .before .pre .1 .0) (c .before .before .before .before .before .before .before .before .loop .inv) _ (c .before .before .before .before .before .before .look-ahead .ensures) (c .before .before .before .before .before .if1 .left) _ _ (c .before .before .before .hist-page .ensures .0) (c .before .before .before .hist-page .ensures .1) in sym (length-take-le _ _ (omega (arith, v .over, v .room)))
-
-skip-requires : tie.Need-skip-requires Inv-loop μ-loop
-skip-requires c κs = search needs
+hist-page-requires c κs = page-asks _ _ _ _ _ _ _ _ _ (c .before .before .before .before .before .before .before .before .before .pre .1 .0) (c .before .before .before .before .before .before .loop .inv) _ (c .before .before .before .before .look-ahead .ensures .0) (c .before .if1 .left)
 
 loop-less : tie.Need-loop-less Inv-loop μ-loop
-loop-less c = hist-less _ _ _ _ _ _ _ _ _ (c .before .before .before .before .before .before .before .before .before .before .before .before .pre .1 .0) (c .before .before .before .before .before .before .before .before .before .loop .inv) _ (c .before .before .before .before .before .before .before .look-ahead .ensures) (c .before .before .before .before .before .before .if1 .left) _ _ (c .before .before .before .before .hist-page .ensures .0) (c .before .before .before .before .hist-page .ensures .1) _ (c .skip .ensures)
+loop-less c = hist-less _ _ _ _ _ _ _ _ _ (c .before .before .before .before .before .before .before .before .before .before .before .before .before .pre .1 .0) (c .before .before .before .before .before .before .before .before .before .before .loop .inv) _ (c .before .before .before .before .before .before .before .before .look-ahead .ensures .0) (c .before .before .before .before .before .if1 .left) _ _ (c .before .before .before .hist-page .ensures .0) (c .before .before .before .hist-page .ensures .1) _ (c .before .before .before .before .before .before .before .before .look-ahead .ensures .1)
 
 loop-again : tie.Need-loop-again Inv-loop μ-loop
-loop-again c = hist-turn _ _ _ _ _ _ _ _ _ (c .before .before .before .before .before .before .before .before .before .before .before .before .pre .1 .0) (c .before .before .before .before .before .before .before .before .before .loop .inv) _ (c .before .before .before .before .before .before .before .look-ahead .ensures) (c .before .before .before .before .before .before .if1 .left) _ _ (c .before .before .before .before .hist-page .ensures .0) (c .before .before .before .before .hist-page .ensures .1) _ (c .skip .ensures)
+loop-again c = hist-turn _ _ _ _ _ _ _ _ _ (c .before .before .before .before .before .before .before .before .before .before .before .before .before .pre .1 .0) (c .before .before .before .before .before .before .before .before .before .before .loop .inv) _ (c .before .before .before .before .before .before .before .before .look-ahead .ensures .0) (c .before .before .before .before .before .if1 .left) _ _ (c .before .before .before .hist-page .ensures .0) (c .before .before .before .hist-page .ensures .1) _ (c .before .before .before .before .before .before .before .before .look-ahead .ensures .1)
 
 pub save-hist-regions-spec : {M : Type 1} → statement M
 save-hist-regions-spec =
@@ -69,8 +59,5 @@ save-hist-regions-spec =
     same-length
     returns
     hist-page-requires
-    slice-reshare-prefix-skip
-    slice-aggregate-skip
-    skip-requires
     loop-less
     loop-again)

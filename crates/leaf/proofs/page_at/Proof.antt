@@ -8,31 +8,27 @@ use Rattle.leaf.proofs.page_at.Reads as reads
 use Rattle.leaf.proofs.page_at.Lts as lts
 use Rattle.frames.proofs.frame_len.Reads as frame-len-reads
 use Rattle.history.proofs.look_ahead.Reads as look-ahead-reads
-use Rattle.sources.proofs.skip.Reads as skip-reads
 
 look-ahead-requires : tie.Need-look-ahead-requires
 look-ahead-requires c κs = (c .before .before .pre .0 .limit, c .before .before .pre .0 .budget)
 
 returns : tie.Need-returns
-returns c = page-none _ _ _ _ _ (c .before .before .before .before .pre .0) _ (c .before .look-ahead .ensures) (c .if1 .taken)
+returns c = page-none _ _ _ _ _ (c .before .before .before .before .before .pre .0) _ (c .before .before .look-ahead .ensures .0) (c .if1 .taken)
 
 cast-frame-len : tie.Need-cast-frame-len
-cast-frame-len c = let z = page-small _ _ _ _ (c .before .before .before .before .before .args .at) (c .before .before .before .before .before .pre .0) _ (c .before .before .look-ahead .ensures) in omega (arith, z)
+cast-frame-len c = let z = page-small _ _ _ _ (c .before .before .before .before .before .before .args .at) (c .before .before .before .before .before .before .pre .0) _ (c .before .before .before .look-ahead .ensures .0) in omega (arith, z)
 
 frame-len-requires : tie.Need-frame-len-requires
 frame-len-requires c κs = search needs
 
 add-far : tie.Need-add-far
-add-far c = let z = page-fits _ _ _ _ _ (c .before .before .before .before .before .before .pre .0) _ (c .before .before .before .look-ahead .ensures) (c .before .before .if1 .left) _ (c .frame-len .ensures) (c .before .before .before .before .before .before .pre .1) in omega (arith, z)
+add-far c = let z = page-fits _ _ _ _ _ (c .before .before .before .before .before .before .before .pre .0) _ (c .before .before .before .before .look-ahead .ensures .0) (c .before .before .if1 .left) _ (c .frame-len .ensures) (c .before .before .before .before .before .before .before .pre .1) in omega (arith, z)
 
 add-next : tie.Need-add-next
-add-next c = let z = page-fits _ _ _ _ _ (c .before .before .before .before .before .before .before .pre .0) _ (c .before .before .before .before .look-ahead .ensures) (c .before .before .before .if1 .left) _ (c .before .frame-len .ensures) (c .before .before .before .before .before .before .before .pre .1) in omega (arith, z)
-
-skip-requires : tie.Need-skip-requires
-skip-requires c κs = search needs
+add-next c = let z = page-fits _ _ _ _ _ (c .before .before .before .before .before .before .before .before .pre .0) _ (c .before .before .before .before .before .look-ahead .ensures .0) (c .before .before .before .if1 .left) _ (c .before .frame-len .ensures) (c .before .before .before .before .before .before .before .before .pre .1) in omega (arith, z)
 
 returns-2 : tie.Need-returns-2
-returns-2 c = page-some _ _ _ _ _ (c .before .before .before .before .before .before .before .before .pre .0) _ (c .before .before .before .before .before .look-ahead .ensures) (c .before .before .before .before .if1 .left) _ (c .before .before .frame-len .ensures) _ (c .skip .ensures)
+returns-2 c = page-some _ _ _ _ _ (c .before .before .before .before .before .before .before .before .before .pre .0) _ (c .before .before .before .before .before .before .look-ahead .ensures .0) (c .before .before .before .before .if1 .left) _ (c .before .before .frame-len .ensures) _ (c .before .before .before .before .before .before .look-ahead .ensures .1)
 
 pub page-at-spec : {M : Type 1} → statement M
 page-at-spec =
@@ -44,5 +40,4 @@ page-at-spec =
     frame-len-requires
     add-far
     add-next
-    skip-requires
     returns-2)

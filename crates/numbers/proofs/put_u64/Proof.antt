@@ -1,5 +1,5 @@
 use native.Mathlib.Omega.{arith}
-use Rattle.numbers.proofs.Numbers.{put-le}
+use Rattle.numbers.proofs.Numbers.{both-le}
 use borrow.Author.Needs.{needs}
 use Rattle.numbers.proofs.put_u64.Statement.{statement}
 use Rattle.numbers.proofs.put_u64.Tie as tie
@@ -28,7 +28,7 @@ same-length c = search needs
 returns : tie.Need-returns
 returns c =
     let a = c .before .before .before .before .before .before .before .before .before .args in
-    cc (put-le (a .buf .now) (a .at) 4 4 (a .x))
+    both-le (a .buf .now) _ _ (a .at) 4 4 (a .x) (c .before .before .before .before .before .before .put-u32 .ensures) (c .before .before .put-u322 .ensures)
 
 pub put-u64-spec : {M : Type 1} → statement M
 put-u64-spec =

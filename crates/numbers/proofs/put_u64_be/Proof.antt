@@ -1,5 +1,5 @@
 use native.Mathlib.Omega.{arith}
-use Rattle.numbers.proofs.Numbers.{put-be}
+use Rattle.numbers.proofs.Numbers.{both-be}
 use borrow.Author.Needs.{needs}
 use Rattle.numbers.proofs.put_u64_be.Statement.{statement}
 use Rattle.numbers.proofs.put_u64_be.Tie as tie
@@ -28,7 +28,7 @@ same-length c = search needs
 returns : tie.Need-returns
 returns c =
     let a = c .before .before .before .before .before .before .before .before .before .args in
-    cc (put-be (a .buf .now) (a .at) 4 4 (a .x))
+    both-be (a .buf .now) _ _ (a .at) 4 4 (a .x) (c .before .before .before .before .before .before .put-u32-be .ensures) (c .before .before .put-u32-be2 .ensures)
 
 pub put-u64-be-spec : {M : Type 1} → statement M
 put-u64-be-spec =

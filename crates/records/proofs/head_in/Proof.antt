@@ -1,57 +1,47 @@
 -- `records::head_in` meets its contract. Assumes nothing.
 use native.Mathlib.Omega.{arith}
-use Prim.Native.Nat.{ℕ, suc, _+_, _*_, _-_, _/_, _≤_, _<_}
-use mathlib.Core.Path.{_≡_, refl, sym, ap, _∙_}
-use mathlib.Core.Bool.{Bool, true, false}
-use mathlib.Core.List.{List}
+use mathlib.Core.Path.{refl, sym}
 use denote.Ref.{now}
-use lib.ListN.{length, getD, take, drop}
-use lib.Dec.{leb, ltb, eqb}
-use borrow.Author.Tests.{le-leb, lt-leb, le-ltb, lt-ltb, eq-eqb, ne-eqb, leb-true}
-use lib.Seq.{length-take-le}
-use Rattle.spans.specs.Span.{part, partOr}
-use Rattle.frames.specs.Layout.{Inside, remoteAt}
-use Rattle.values.specs.declared.KeyRead.{KeyRead}
-use Rattle.values.specs.declared.Val.{Val}
-use Rattle.values.specs.Keys.{keyAt}
-use Rattle.values.specs.Vals.{valAt}
-use Rattle.records.specs.declared.SlotRead.{SlotRead}
-use Rattle.records.specs.declared.ValRead.{ValRead}
-use Rattle.records.specs.declared.RecRead.{RecRead}
-use Rattle.records.specs.Records.{slotAt, verIn, keyIn, keyAtSlot, valIn, recIn, recAt}
-use Rattle.records.specs.Parts.{loIn, hiIn, prefixIn}
-use Rattle.records.proofs.Places.{remote-place}
-use Rattle.records.proofs.Inside.{ends, KeyInside, place-inside, key-inside}
-use Rattle.records.proofs.Quick.{head-rec}
+use mathlib.Core.Logic.{inl, inr}
+use Rattle.records.proofs.Inside.{ends}
+use Rattle.records.proofs.Places.{inline-no}
+use Rattle.records.proofs.Quick.{quick-is, short-head}
 use borrow.Author.Needs.{needs}
 use Rattle.records.proofs.head_in.Statement.{statement}
 use Rattle.records.proofs.head_in.Tie as tie
-use Rattle.records.proofs.head_in.Reads as reads
-use Rattle.records.proofs.head_in.Lts as lts
-use Rattle.records.proofs.head_val.Reads as head-val-reads
-use Rattle.records.proofs.rec_in.Reads as rec-in-reads
-use Rattle.records.proofs.short_key.Reads as short-key-reads
 
-short-key-requires : tie.Need-short-key-requires
-short-key-requires c κs = search needs
+slice-aggregate-t : tie.Need-slice-aggregate-t
+slice-aggregate-t c = sym (ends (now (c .before .before .args .s)) (c .before .before .args .b) (c .before .before .pre .0))
 
-enum-known-ver-at : tie.Need-enum-known-ver-at
-enum-known-ver-at c = search needs
+shared-slice-read-n : tie.Need-shared-slice-read-n
+shared-slice-read-n c = omega (arith, ends (now (c .before .before .before .args .s)) (c .before .before .before .args .b) (c .before .before .before .pre .0), c .before .before .before .pre .1 .1)
 
-enum-told : tie.Need-enum-told
-enum-told c = search needs
+cast-n : tie.Need-cast-n
+cast-n c = omega (arith, c .shared-slice-known2 .given (c .before .before .before .args .p))
 
 returns : tie.Need-returns
-unfolding recIn
-returns c = simp (← c .before .before .short-key .ensures, c .enum-told .given .1)
+returns c = inl refl
 
-slice-aggregate-head-val : tie.Need-slice-aggregate-head-val
-slice-aggregate-head-val c = sym (ends (now (c .before .before .before .before .before .before .args .s)) (c .before .before .before .before .before .before .args .b) (c .before .before .before .before .before .before .pre .0))
+returns-2 : tie.Need-returns-2
+returns-2 c = inl refl
+
+sub-if3 : tie.Need-sub-if3
+sub-if3 c = search needs
+
+sub-if3-2 : tie.Need-sub-if3-2
+sub-if3-2 c = search needs
+
+returns-3 : tie.Need-returns-3
+returns-3 c = inl refl
+
+returns-4 : tie.Need-returns-4
+returns-4 c = inl refl
 
 add-head-val : tie.Need-add-head-val
-add-head-val c =
-    let k = key-inside (now (c .before .before .before .before .before .before .args .s)) (c .before .before .before .before .before .before .args .b) (c .before .before .before .before .before .before .args .p) (c .before .before .ver-at .given .0 .0) (c .before .before .ver-at .given .0 .1 .0) (c .before .before .ver-at .given .0 .1 .1 .0) (c .before .before .before .before .before .before .pre .0) (sym (c .before .before .before .before .short-key .ensures) ∙ c .before .before .ver-at .given .1) in
-    omega (arith, k .rest, c .before .before .before .before .before .before .pre .0 .payload, c .before .before .before .before .before .before .pre .0 .arena, c .before .before .before .before .before .before .good)
+add-head-val c = search needs
+
+add-head-val-2 : tie.Need-add-head-val-2
+add-head-val-2 c = search needs
 
 head-val-requires : tie.Need-head-val-requires
 head-val-requires c κs = search needs
@@ -59,27 +49,40 @@ head-val-requires c κs = search needs
 enum-known-hist : tie.Need-enum-known-hist
 enum-known-hist c = search needs
 
-rec-in-requires : tie.Need-rec-in-requires
-rec-in-requires c κs = search needs
+add-t19 : tie.Need-add-t19
+add-t19 c = search needs
 
-returns-2 : tie.Need-returns-2
-returns-2 c = sym (head-rec (now (c .before .before .before .before .before .before .before .before .before .before .args .s)) (c .before .before .before .before .before .before .before .before .before .before .args .b) (c .before .before .before .before .before .before .before .before .before .before .args .p) (c .before .before .before .before .before .before .ver-at .given .0 .0) (c .before .before .before .before .before .before .ver-at .given .0 .1 .0) (c .before .before .before .before .before .before .ver-at .given .0 .1 .1 .0) (c .before .hist .given .0 .0) (c .before .hist .given .0 .1 .0) (c .before .hist .given .0 .1 .1 .0) (c .before .hist .given .0 .1 .1 .1 .0) (c .before .before .before .before .before .before .before .before .before .before .pre .1) (sym (c .before .before .before .before .before .before .before .before .short-key .ensures) ∙ c .before .before .before .before .before .before .ver-at .given .1) (sym (c .before .before .before .head-val .ensures) ∙ c .before .hist .given .1))
+add-t20 : tie.Need-add-t20
+add-t20 c = search needs
 
-returns-3 : tie.Need-returns-3
-returns-3 c = search needs
+add-t21 : tie.Need-add-t21
+add-t21 c = search needs
+
+returns-5 : tie.Need-returns-5
+returns-5 c = inr (sym (short-head (now (c .before .before .before .before .before .before .before .before .before .before .before .before .args .s)) (c .before .before .before .before .before .before .before .before .before .before .before .before .args .b) (c .before .before .before .before .before .before .before .before .before .before .before .before .args .p) (c .before .hist .given .0 .0) (c .before .hist .given .0 .1 .0) (c .before .hist .given .0 .1 .1 .0) (c .before .hist .given .0 .1 .1 .1 .0) (c .before .before .before .before .before .before .before .before .before .before .before .before .pre .0) (c .before .before .before .before .before .before .before .before .before .before .before .before .pre .1 .0) (c .before .before .before .before .before .before .before .before .before .before .before .before .pre .1 .1) (c .before .before .before .before .before .before .before .before .if1 .left) (c .before .before .before .before .before .before .before .if2 .left) (c .before .before .before .before .before .before .if3 .left) (c .before .before .before .before .if4 .left) (quick-is _ (c .before .before .before .head-val .ensures) (c .before .hist .given .1) (inline-no _ _ _ _))))
+
+returns-6 : tie.Need-returns-6
+returns-6 c = inl refl
 
 pub head-in-spec : {M : Type 1} → statement M
 head-in-spec =
     tie.close
     (tie.spec
-    short-key-requires
-    enum-known-ver-at
-    enum-told
+    slice-aggregate-t
+    shared-slice-read-n
+    cast-n
     returns
-    slice-aggregate-head-val
+    returns-2
+    sub-if3
+    sub-if3-2
+    returns-3
+    returns-4
     add-head-val
+    add-head-val-2
     head-val-requires
     enum-known-hist
-    rec-in-requires
-    returns-2
-    returns-3)
+    add-t19
+    add-t20
+    add-t21
+    returns-5
+    returns-6)

@@ -1,42 +1,18 @@
 -- `records::head_val` meets its contract. Assumes nothing.
 use native.Mathlib.Omega.{arith}
-use Prim.Native.Nat.{ℕ, suc, _+_, _*_, _-_, _/_, _≤_, _<_}
-use mathlib.Core.Path.{_≡_, refl, sym, ap, _∙_}
-use mathlib.Core.Bool.{Bool, true, false}
-use mathlib.Core.List.{List}
+use Prim.Native.Nat.{_+_}
+use mathlib.Core.Path.{refl, sym, _∙_}
+use mathlib.Core.Bool.{true}
 use denote.Ref.{now}
-use lib.ListN.{length, getD, take, drop}
-use lib.Dec.{leb, ltb, eqb}
-use borrow.Author.Tests.{le-leb, lt-leb, le-ltb, lt-ltb, eq-eqb, ne-eqb, leb-true}
-use lib.Seq.{length-take-le}
-use Rattle.spans.specs.Span.{part, partOr}
-use Rattle.frames.specs.Layout.{Inside, remoteAt}
-use Rattle.values.specs.declared.KeyRead.{KeyRead}
-use Rattle.values.specs.declared.Val.{Val}
-use Rattle.values.specs.Keys.{keyAt}
-use Rattle.values.specs.Vals.{valAt}
-use Rattle.records.specs.declared.SlotRead.{SlotRead}
-use Rattle.records.specs.declared.ValRead.{ValRead}
-use Rattle.records.specs.declared.RecRead.{RecRead}
-use Rattle.records.specs.Records.{slotAt, verIn, keyIn, keyAtSlot, valIn, recIn, recAt}
-use Rattle.records.specs.Parts.{loIn, hiIn, prefixIn}
-use Rattle.records.proofs.Places.{remote-place}
-use Rattle.records.proofs.Inside.{ends, KeyInside, place-inside, key-inside}
+use lib.ListN.{length}
+use borrow.Author.Tests.{ne-eqb, leb-true}
+use mathlib.Core.Logic.{inl, inr}
 use Rattle.values.specs.Vals.{valOf, refAt, noHist}
 use Rattle.values.specs.declared.FrontRead.{FrontRead}
 use Rattle.records.proofs.Quick.{val-plain, val-hist}
 use borrow.Author.Needs.{needs}
 use Rattle.records.proofs.head_val.Statement.{statement}
 use Rattle.records.proofs.head_val.Tie as tie
-use Rattle.records.proofs.head_val.Reads as reads
-use Rattle.records.proofs.head_val.Lts as lts
-use Rattle.numbers.proofs.read_u16.Reads as read-u16-reads
-use Rattle.numbers.proofs.read_u32.Reads as read-u32-reads
-use Rattle.numbers.proofs.read_u64.Reads as read-u64-reads
-use Rattle.records.proofs.bytes_at.Reads as bytes-at-reads
-use Rattle.records.proofs.no_hist.Reads as no-hist-reads
-use Rattle.spans.proofs.room.Reads as room-reads
-use Rattle.values.proofs.Val.decode_from.Reads as decode-from-reads
 
 shared-slice-read-f : tie.Need-shared-slice-read-f
 shared-slice-read-f c = search needs
@@ -51,7 +27,7 @@ bytes-at-requires : tie.Need-bytes-at-requires
 bytes-at-requires c κs = search needs
 
 returns : tie.Need-returns
-returns c = c .bytes-at .ensures ∙ rw (c .before .no-hist .ensures) (sym (val-plain (c .before .before .before .before .before .before .args .t .now) (c .before .before .before .before .before .before .args .at) true (c .before .before .before .before .if1 .taken) (c .before .before .if2 .taken)))
+returns c = inr (c .bytes-at .ensures ∙ rw (c .before .no-hist .ensures) (sym (val-plain (c .before .before .before .before .before .before .args .t .now) (c .before .before .before .before .before .before .args .at) true (c .before .before .before .before .if1 .taken) (c .before .before .if2 .taken))))
 
 add-room : tie.Need-add-room
 add-room c = search needs
@@ -94,13 +70,19 @@ bytes-at-requires-2 c κs = search needs
 
 returns-2 : tie.Need-returns-2
 unfolding refAt
-returns-2 c = c .bytes-at2 .ensures ∙ sym (val-hist (c .before .before .before .before .before .before .before .before .before .before .before .before .args .t .now) (c .before .before .before .before .before .before .before .before .before .before .before .before .args .at) (c .before .before .before .before .before .before .before .before .before .before .if1 .taken) (c .before .before .before .before .before .before .before .if3 .taken) ∙ simp (← c .before .before .before .before .before .before .room .ensures, c .before .before .before .before .before .if4 .taken, ← c .before .before .before .before .read-u32 .ensures, ne-eqb _ _ (c .before .before .before .if5 .taken), ← c .before .before .read-u64 .ensures, ← c .before .read-u16 .ensures))
-
-decode-from-requires : tie.Need-decode-from-requires
-decode-from-requires c κs = search needs
+returns-2 c = inr (c .bytes-at2 .ensures ∙ sym (val-hist (c .before .before .before .before .before .before .before .before .before .before .before .before .args .t .now) (c .before .before .before .before .before .before .before .before .before .before .before .before .args .at) (c .before .before .before .before .before .before .before .before .before .before .if1 .taken) (c .before .before .before .before .before .before .before .if3 .taken) ∙ simp (← c .before .before .before .before .before .before .room .ensures, c .before .before .before .before .before .if4 .taken, ← c .before .before .before .before .read-u32 .ensures, ne-eqb _ _ (c .before .before .before .if5 .taken), ← c .before .before .read-u64 .ensures, ← c .before .read-u16 .ensures)))
 
 returns-3 : tie.Need-returns-3
-returns-3 c = search needs
+returns-3 c = inl refl
+
+returns-4 : tie.Need-returns-4
+returns-4 c = inl refl
+
+returns-5 : tie.Need-returns-5
+returns-5 c = inl refl
+
+returns-6 : tie.Need-returns-6
+returns-6 c = inl refl
 
 pub head-val-spec : {M : Type 1} → statement M
 head-val-spec =
@@ -125,5 +107,7 @@ head-val-spec =
     add-bytes-at-3
     bytes-at-requires-2
     returns-2
-    decode-from-requires
-    returns-3)
+    returns-3
+    returns-4
+    returns-5
+    returns-6)

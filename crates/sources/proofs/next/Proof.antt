@@ -1,10 +1,14 @@
--- `sources::next` meets its contract. Assumes nothing.
-use mathlib.Core.Path.{sym, ap, _∙_}
+use mathlib.Core.Path.{_≡_, sym, ap, _∙_}
 use Rattle.sources.specs.Source.{stepOf}
-use Rattle.sources.proofs.Stepped.{record-bare, record-end, record-on}
+use Rattle.sources.proofs.Stepped.{walk-kept, record-bare, record-end, record-on}
 use borrow.Author.Needs.{needs}
 use Rattle.sources.proofs.next.Statement.{statement}
 use Rattle.sources.proofs.next.Tie as tie
+use Rattle.sources.proofs.next.Reads as reads
+use Rattle.sources.proofs.next.Lts as lts
+use Rattle.sources.proofs.any_next.Reads as any-next-reads
+use Rattle.sources.proofs.apart.Reads as apart-reads
+use Rattle.sources.proofs.record_at.Reads as record-at-reads
 
 any-next-requires : tie.Need-any-next-requires
 any-next-requires c κs = search needs
@@ -28,9 +32,12 @@ returns-3 : tie.Need-returns-3
 unfolding stepOf
 returns-3 c = ap (stepOf (c .before .before .before .before .before .before .before .before .before .args .c)) (sym (c .enum-told .given .1) ∙ c .before .before .record-at .ensures ∙ record-bare (c .before .before .before .before .before .before .before .before .before .args .list .now) (c .before .before .before .before .before .before .before .before .before .args .c)) ∙ record-on (c .before .before .before .before .before .before .before .before .before .args .list .now) (c .before .before .before .before .before .before .before .before .before .args .low .now) (c .before .before .before .before .before .before .before .before .before .args .c) (c .before .before .before .before .before .if1 .left) (c .before .before .before .if2 .left)
 
+apart-requires : tie.Need-apart-requires
+apart-requires c κs = search needs
+
 returns-4 : tie.Need-returns-4
 unfolding stepOf
-returns-4 c = ap (stepOf (c .before .before .before .before .before .before .before .before .before .before .before .args .c)) (sym (c .before .before .i .given .1) ∙ c .before .before .before .before .record-at .ensures ∙ record-bare (c .before .before .before .before .before .before .before .before .before .before .before .args .list .now) (c .before .before .before .before .before .before .before .before .before .before .before .args .c)) ∙ record-on (c .before .before .before .before .before .before .before .before .before .before .before .args .list .now) (c .before .before .before .before .before .before .before .before .before .before .before .args .low .now) (c .before .before .before .before .before .before .before .before .before .before .before .args .c) (c .before .before .before .before .before .before .before .if1 .left) (c .before .before .before .before .before .if2 .left)
+returns-4 c = walk-kept (c .before .before .before .before .before .before .before .before .before .before .before .before .before .before .args .c) _ _ _ (c .before .before .apart .ensures) ∙ ap (stepOf (c .before .before .before .before .before .before .before .before .before .before .before .before .before .before .args .c)) (sym (c .before .before .before .before .before .i .given .1) ∙ c .before .before .before .before .before .before .before .record-at .ensures ∙ record-bare (c .before .before .before .before .before .before .before .before .before .before .before .before .before .before .args .list .now) (c .before .before .before .before .before .before .before .before .before .before .before .before .before .before .args .c)) ∙ record-on (c .before .before .before .before .before .before .before .before .before .before .before .before .before .before .args .list .now) (c .before .before .before .before .before .before .before .before .before .before .before .before .before .before .args .low .now) (c .before .before .before .before .before .before .before .before .before .before .before .before .before .before .args .c) (c .before .before .before .before .before .before .before .before .before .before .if1 .left) (c .before .before .before .before .before .before .before .before .if2 .left)
 
 pub next-spec : {M : Type 1} → statement M
 next-spec =
@@ -43,4 +50,5 @@ next-spec =
     enum-known-i
     enum-told
     returns-3
+    apart-requires
     returns-4)

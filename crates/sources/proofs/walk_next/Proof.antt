@@ -8,7 +8,7 @@ use Rattle.sources.proofs.walk_next.Reads as reads
 use Rattle.sources.proofs.walk_next.Lts as lts
 use Rattle.order.proofs.Ver.new.Reads as new-reads
 use Rattle.sources.proofs.item_at.Reads as item-at-reads
-use Rattle.walks.proofs.Walk.plain_step.Reads as plain-step-reads
+use Rattle.walks.proofs.Walk.step.Reads as step-reads
 
 returns : tie.Need-returns
 unfolding walked
@@ -18,8 +18,8 @@ returns-2 : tie.Need-returns-2
 unfolding walked
 returns-2 c = simp (le-leb _ _ (c .before .before .if1 .left), lt-leb _ _ (c .if2 .taken))
 
-plain-step-requires : tie.Need-plain-step-requires
-plain-step-requires c κs = search needs
+step-requires : tie.Need-step-requires
+step-requires c κs = search needs
 
 enum-known-st : tie.Need-enum-known-st
 enum-known-st c = search needs
@@ -44,19 +44,19 @@ enum-told-2 c = search needs
 
 returns-3 : tie.Need-returns-3
 unfolding walked
-returns-3 c = rw (le-leb _ _ (c .before .before .before .before .before .before .before .before .before .before .before .if1 .left), le-leb _ _ (c .before .before .before .before .before .before .before .before .before .if2 .left)) (c .item-at .ensures ∙ ap (walkedOf _ _) (sym (c .before .before .before .before .before .before .st .given .1) ∙ c .before .before .before .before .before .before .before .before .plain-step .ensures))
+returns-3 c = rw (le-leb _ _ (c .before .before .before .before .before .before .before .before .before .before .before .if1 .left), le-leb _ _ (c .before .before .before .before .before .before .before .before .before .if2 .left)) (c .item-at .ensures ∙ ap (walkedOf _ _) (sym (c .before .before .before .before .before .before .st .given .1) ∙ c .before .before .before .before .before .before .before .before .step .ensures))
 
 returns-4 : tie.Need-returns-4
 unfolding walked
-returns-4 c = rw (le-leb _ _ (c .before .before .before .before .before .before .before .before .before .before .if1 .left), le-leb _ _ (c .before .before .before .before .before .before .before .before .if2 .left)) (rw (c .before .new .ensures) at (c .item-at2 .ensures) ∙ ap (walkedOf _ _) (sym (c .before .before .before .before .before .st2 .given .1) ∙ c .before .before .before .before .before .before .before .plain-step .ensures))
+returns-4 c = rw (le-leb _ _ (c .before .before .before .before .before .before .before .before .before .before .if1 .left), le-leb _ _ (c .before .before .before .before .before .before .before .before .if2 .left)) (rw (c .before .new .ensures) at (c .item-at2 .ensures) ∙ ap (walkedOf _ _) (sym (c .before .before .before .before .before .st2 .given .1) ∙ c .before .before .before .before .before .before .before .step .ensures))
 
 returns-5 : tie.Need-returns-5
 unfolding walked
-returns-5 c = rw (le-leb _ _ (c .before .before .before .before .before .if1 .left), le-leb _ _ (c .before .before .before .if2 .left)) (ap (walkedOf _ _) (sym (c .enum-told .given .1) ∙ c .before .before .plain-step .ensures))
+returns-5 c = rw (le-leb _ _ (c .before .before .before .before .before .if1 .left), le-leb _ _ (c .before .before .before .if2 .left)) (ap (walkedOf _ _) (sym (c .enum-told .given .1) ∙ c .before .before .step .ensures))
 
 returns-6 : tie.Need-returns-6
 unfolding walked
-returns-6 c = rw (le-leb _ _ (c .before .before .before .before .before .if1 .left), le-leb _ _ (c .before .before .before .if2 .left)) (ap (walkedOf _ _) (sym (c .enum-told2 .given .1) ∙ c .before .before .plain-step .ensures))
+returns-6 c = rw (le-leb _ _ (c .before .before .before .before .before .if1 .left), le-leb _ _ (c .before .before .before .if2 .left)) (ap (walkedOf _ _) (sym (c .enum-told2 .given .1) ∙ c .before .before .step .ensures))
 
 pub walk-next-spec : {M : Type 1} → statement M
 walk-next-spec =
@@ -64,7 +64,7 @@ walk-next-spec =
     (tie.spec
     returns
     returns-2
-    plain-step-requires
+    step-requires
     enum-known-st
     item-at-requires
     enum-known-st-2

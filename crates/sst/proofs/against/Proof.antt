@@ -1,46 +1,48 @@
--- `sst::against` meets its contract. Assumes nothing.
 use mathlib.Core.Path.{sym, _∙_}
-use mathlib.Core.Logic.{⊎-elim}
-use native.Mathlib.Omega.{arith}
+use Rattle.sst.proofs.Overlap.{behind}
 use borrow.Author.Needs.{needs}
 use Rattle.sst.proofs.against.Statement.{statement}
 use Rattle.sst.proofs.against.Tie as tie
 use Rattle.sst.proofs.against.Reads as reads
 use Rattle.sst.proofs.against.Lts as lts
-use Rattle.sst.proofs.by_eight.Reads as by-eight-reads
-use Rattle.sst.proofs.by_fours.Reads as by-fours-reads
-use Rattle.sst.proofs.lesser.Reads as lesser-reads
-use Rattle.sst.proofs.words.Reads as words-reads
+use Rattle.order.proofs.compare.Reads as compare-reads
+use Rattle.sst.proofs.by_words.Reads as by-words-reads
+use Rattle.sst.proofs.same.Reads as same-reads
+use Rattle.sst.proofs.spots_of.Reads as spots-of-reads
 
-words-requires : tie.Need-words-requires
-words-requires c κs = search needs
-
-lesser-requires : tie.Need-lesser-requires
-lesser-requires c κs = search needs
-
-sub-if1 : tie.Need-sub-if1
-sub-if1 c = ⊎-elim (λ h. omega arith) (λ h. omega arith) (c .lesser .ensures .least)
-
-by-fours-requires : tie.Need-by-fours-requires
-by-fours-requires c κs = search needs
+compare-requires : tie.Need-compare-requires
+compare-requires c κs = search needs
 
 returns : tie.Need-returns
-returns c = c .by-fours .ensures ∙ sym (c .before .before .before .words .ensures .1)
+returns c = search needs
 
-by-eight-requires : tie.Need-by-eight-requires
-by-eight-requires c κs = (omega arith, omega arith)
+compare-requires-2 : tie.Need-compare-requires-2
+compare-requires-2 c κs = search needs
 
 returns-2 : tie.Need-returns-2
-returns-2 c = c .by-eight .ensures ∙ sym (c .before .before .before .words .ensures .1)
+returns-2 c = search needs
+
+same-requires : tie.Need-same-requires
+same-requires c κs = search needs
+
+spots-of-requires : tie.Need-spots-of-requires
+spots-of-requires c κs = search needs
+
+by-words-requires : tie.Need-by-words-requires
+by-words-requires c κs = search needs
+
+returns-3 : tie.Need-returns-3
+returns-3 c = c .by-words .ensures ∙ sym (behind (c .before .before .before .before .before .before .before .args .a .now) (c .before .before .before .before .before .before .before .args .b .now) (c .before .before .same .result) (c .before .spots-of .result .first) (c .before .spots-of .ensures .known) (c .before .before .same .ensures .1))
 
 pub against-spec : {M : Type 1} → statement M
 against-spec =
     tie.close
     (tie.spec
-    words-requires
-    lesser-requires
-    sub-if1
-    by-fours-requires
+    compare-requires
     returns
-    by-eight-requires
-    returns-2)
+    compare-requires-2
+    returns-2
+    same-requires
+    spots-of-requires
+    by-words-requires
+    returns-3)

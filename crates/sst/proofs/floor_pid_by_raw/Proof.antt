@@ -1,62 +1,90 @@
--- `sst::floor_pid_by_raw` meets its contract. Assumes nothing.
+use borrow.Author.Needs.{needs}
 use mathlib.Core.Path.{_≡_, sym, ap, _∙_}
 use denote.Ref.{now}
-use Rattle.sst.specs.Search.{outcomeAt, floorAt, intl, floorOf}
+use Rattle.frames.proofs.Frames.{open-inside}
+use Rattle.sst.specs.Search.{endedIn, outcomeAt, floorAt, intl, floorOf}
 use Rattle.sst.specs.declared.Outcome.{Outcome}
-use Rattle.sst.proofs.Opens.{outcome-ready, intl-kind}
-use borrow.Author.Needs.{needs}
+use Rattle.sst.specs.declared.Ended.{Ended}
+use Rattle.sst.proofs.Opens.{backOf, outcome-ended, outcome-bad, outcome-ready, intl-kind}
 use Rattle.sst.proofs.floor_pid_by_raw.Statement.{statement}
 use Rattle.sst.proofs.floor_pid_by_raw.Tie as tie
+use Rattle.sst.proofs.floor_pid_by_raw.Reads as reads
+use Rattle.sst.proofs.floor_pid_by_raw.Lts as lts
+use Rattle.frames.proofs.open_at.Reads as open-at-reads
+use Rattle.order.proofs.Ver.new.Reads as new-reads
+use Rattle.sst.proofs.ended_in.Reads as ended-in-reads
+use Rattle.sst.proofs.floor_in.Reads as floor-in-reads
 
 new-requires : tie.Need-new-requires
 new-requires c κs = search needs
 
-halve-at-requires : tie.Need-halve-at-requires
-halve-at-requires c κs = search needs
-
-enum-known-r : tie.Need-enum-known-r
-enum-known-r c = search needs
-
-enum-told : tie.Need-enum-told
-enum-told c = search needs
+open-at-requires : tie.Need-open-at-requires
+open-at-requires c κs = search needs
 
 enum-known-b : tie.Need-enum-known-b
 enum-known-b c = search needs
 
-floor-in-requires : tie.Need-floor-in-requires
-floor-in-requires c κs =
-    let e : outcomeAt (now (c .before .before .before .before .before .before .before .args .s)) (c .before .before .before .before .before .before .before .args .a) (now (c .before .before .before .before .before .before .before .args .probe)) intl ≡ Outcome.Halves (c .before .b .given .0 .0) (c .before .b .given .0 .1 .0) = cc in
-    let k = outcome-ready (now (c .before .before .before .before .before .before .before .args .s)) (c .before .before .before .before .before .before .before .args .a) (now (c .before .before .before .before .before .before .before .args .probe)) intl (c .before .b .given .0 .0) (c .before .b .given .0 .1 .0) e .0 in
-    (k .inside, intl-kind (c .before .b .given .0 .0 .kind) (k .right))
+enum-told : tie.Need-enum-told
+enum-told c = search needs
 
 returns : tie.Need-returns
 unfolding floorAt
-returns c =
-    let e : outcomeAt (now (c .before .before .before .before .before .before .before .args .s)) (c .before .before .before .before .before .before .before .args .a) (now (c .before .before .before .before .before .before .before .args .probe)) intl ≡ Outcome.Refused (c .before .r .given .0 .0) = cc in
-    ap (floorOf (now (c .before .before .before .before .before .before .before .args .s))) (sym e)
+returns c = ap (floorOf (now (c .before .before .before .before .before .before .args .s))) (sym (outcome-bad (now (c .before .before .before .before .before .before .args .s)) (c .before .before .before .before .before .before .args .a) (now (c .before .before .before .before .before .before .args .probe)) intl (sym (c .before .before .open-at .ensures) ∙ c .enum-told .given .1)))
+
+ended-in-requires : tie.Need-ended-in-requires
+ended-in-requires c κs = open-inside (now (c .before .before .before .before .before .before .before .args .s)) (c .before .before .before .before .before .before .before .args .a) (c .before .b .given .0 .0) (sym (c .before .before .before .open-at .ensures) ∙ c .before .b .given .1) .0
+
+enum-known-r : tie.Need-enum-known-r
+enum-known-r c = search needs
+
+enum-told-2 : tie.Need-enum-told-2
+enum-told-2 c = search needs
+
+enum-known-h : tie.Need-enum-known-h
+enum-known-h c = search needs
+
+floor-in-requires : tie.Need-floor-in-requires
+floor-in-requires c κs =
+    let q : endedIn (now (c .before .before .before .before .before .before .before .before .before .before .before .args .s)) (c .before .before .before .before .before .b .given .0 .0) (now (c .before .before .before .before .before .before .before .before .before .before .before .args .probe)) intl ≡ Ended.Halves (c .before .h .given .0 .0) = cc in
+    let e : outcomeAt (now (c .before .before .before .before .before .before .before .before .before .before .before .args .s)) (c .before .before .before .before .before .before .before .before .before .before .before .args .a) (now (c .before .before .before .before .before .before .before .before .before .before .before .args .probe)) intl ≡ Outcome.Halves (c .before .before .before .before .before .b .given .0 .0) (c .before .h .given .0 .0) = outcome-ended (now (c .before .before .before .before .before .before .before .before .before .before .before .args .s)) (c .before .before .before .before .before .before .before .before .before .before .before .args .a) (now (c .before .before .before .before .before .before .before .before .before .before .before .args .probe)) intl (c .before .before .before .before .before .b .given .0 .0) (Ended.Halves (c .before .h .given .0 .0)) (sym (c .before .before .before .before .before .before .before .open-at .ensures) ∙ c .before .before .before .before .before .b .given .1) q in
+    let k = outcome-ready (now (c .before .before .before .before .before .before .before .before .before .before .before .args .s)) (c .before .before .before .before .before .before .before .before .before .before .before .args .a) (now (c .before .before .before .before .before .before .before .before .before .before .before .args .probe)) intl (c .before .before .before .before .before .b .given .0 .0) (c .before .h .given .0 .0) e .0 in
+    (k .inside, intl-kind (c .before .before .before .before .before .b .given .0 .0 .kind) (k .right))
 
 returns-2 : tie.Need-returns-2
 unfolding floorAt
 returns-2 c =
-    let e : outcomeAt (now (c .before .before .before .before .before .before .args .s)) (c .before .before .before .before .before .before .args .a) (now (c .before .before .before .before .before .before .args .probe)) intl ≡ Outcome.Empty = cc in
-    ap (floorOf (now (c .before .before .before .before .before .before .args .s))) (sym e)
+    let q : endedIn (now (c .before .before .before .before .before .before .before .before .before .before .before .args .s)) (c .before .before .before .before .before .b .given .0 .0) (now (c .before .before .before .before .before .before .before .before .before .before .before .args .probe)) intl ≡ Ended.Refused (c .before .r .given .0 .0) = cc in
+    let e : outcomeAt (now (c .before .before .before .before .before .before .before .before .before .before .before .args .s)) (c .before .before .before .before .before .before .before .before .before .before .before .args .a) (now (c .before .before .before .before .before .before .before .before .before .before .before .args .probe)) intl ≡ backOf (c .before .before .before .before .before .b .given .0 .0) (Ended.Refused (c .before .r .given .0 .0)) = outcome-ended (now (c .before .before .before .before .before .before .before .before .before .before .before .args .s)) (c .before .before .before .before .before .before .before .before .before .before .before .args .a) (now (c .before .before .before .before .before .before .before .before .before .before .before .args .probe)) intl (c .before .before .before .before .before .b .given .0 .0) (Ended.Refused (c .before .r .given .0 .0)) (sym (c .before .before .before .before .before .before .before .open-at .ensures) ∙ c .before .before .before .before .before .b .given .1) q in
+    ap (floorOf (now (c .before .before .before .before .before .before .before .before .before .before .before .args .s))) (sym e)
 
 returns-3 : tie.Need-returns-3
 unfolding floorAt
 returns-3 c =
-    let e : outcomeAt (now (c .before .before .before .before .before .before .before .before .args .s)) (c .before .before .before .before .before .before .before .before .args .a) (now (c .before .before .before .before .before .before .before .before .args .probe)) intl ≡ Outcome.Halves (c .before .before .b .given .0 .0) (c .before .before .b .given .0 .1 .0) = cc in
-    c .floor-in .ensures ∙ ap (floorOf (now (c .before .before .before .before .before .before .before .before .args .s))) (sym e)
+    let q : endedIn (now (c .before .before .before .before .before .before .before .before .before .before .args .s)) (c .before .before .before .before .b .given .0 .0) (now (c .before .before .before .before .before .before .before .before .before .before .args .probe)) intl ≡ Ended.Empty = cc in
+    let e : outcomeAt (now (c .before .before .before .before .before .before .before .before .before .before .args .s)) (c .before .before .before .before .before .before .before .before .before .before .args .a) (now (c .before .before .before .before .before .before .before .before .before .before .args .probe)) intl ≡ backOf (c .before .before .before .before .b .given .0 .0) (Ended.Empty) = outcome-ended (now (c .before .before .before .before .before .before .before .before .before .before .args .s)) (c .before .before .before .before .before .before .before .before .before .before .args .a) (now (c .before .before .before .before .before .before .before .before .before .before .args .probe)) intl (c .before .before .before .before .b .given .0 .0) (Ended.Empty) (sym (c .before .before .before .before .before .before .open-at .ensures) ∙ c .before .before .before .before .b .given .1) q in
+    ap (floorOf (now (c .before .before .before .before .before .before .before .before .before .before .args .s))) (sym e)
+
+returns-4 : tie.Need-returns-4
+unfolding floorAt
+returns-4 c =
+    let q : endedIn (now (c .before .before .before .before .before .before .before .before .before .before .before .before .args .s)) (c .before .before .before .before .before .before .b .given .0 .0) (now (c .before .before .before .before .before .before .before .before .before .before .before .before .args .probe)) intl ≡ Ended.Halves (c .before .before .h .given .0 .0) = cc in
+    let e : outcomeAt (now (c .before .before .before .before .before .before .before .before .before .before .before .before .args .s)) (c .before .before .before .before .before .before .before .before .before .before .before .before .args .a) (now (c .before .before .before .before .before .before .before .before .before .before .before .before .args .probe)) intl ≡ backOf (c .before .before .before .before .before .before .b .given .0 .0) (Ended.Halves (c .before .before .h .given .0 .0)) = outcome-ended (now (c .before .before .before .before .before .before .before .before .before .before .before .before .args .s)) (c .before .before .before .before .before .before .before .before .before .before .before .before .args .a) (now (c .before .before .before .before .before .before .before .before .before .before .before .before .args .probe)) intl (c .before .before .before .before .before .before .b .given .0 .0) (Ended.Halves (c .before .before .h .given .0 .0)) (sym (c .before .before .before .before .before .before .before .before .open-at .ensures) ∙ c .before .before .before .before .before .before .b .given .1) q in
+    c .floor-in .ensures ∙ ap (floorOf (now (c .before .before .before .before .before .before .before .before .before .before .before .before .args .s))) (sym e)
 
 pub floor-pid-by-raw-spec : {M : Type 1} → statement M
 floor-pid-by-raw-spec =
     tie.close
     (tie.spec
     new-requires
-    halve-at-requires
-    enum-known-r
-    enum-told
+    open-at-requires
     enum-known-b
-    floor-in-requires
+    enum-told
     returns
+    ended-in-requires
+    enum-known-r
+    enum-told-2
+    enum-known-h
+    floor-in-requires
     returns-2
-    returns-3)
+    returns-3
+    returns-4)

@@ -1,57 +1,68 @@
--- `sst::halve_at` meets its contract. Assumes nothing.
+use borrow.Author.Needs.{needs}
 use mathlib.Core.Path.{_≡_, sym, _∙_}
 use denote.Ref.{now}
-use Rattle.sst.specs.declared.Ready.{Ready}
-use Rattle.sst.specs.Search.{readyAt, outcomeAt}
-use Rattle.sst.proofs.Opens.{ready-inside}
-use borrow.Author.Needs.{needs}
+use Rattle.frames.proofs.Frames.{open-inside}
+use Rattle.sst.specs.Search.{outcomeAt}
+use Rattle.sst.specs.declared.Ended.{Ended}
+use Rattle.sst.proofs.Opens.{backOf, outcome-ended, outcome-bad}
 use Rattle.sst.proofs.halve_at.Statement.{statement}
 use Rattle.sst.proofs.halve_at.Tie as tie
+use Rattle.sst.proofs.halve_at.Reads as reads
+use Rattle.sst.proofs.halve_at.Lts as lts
+use Rattle.frames.proofs.open_at.Reads as open-at-reads
+use Rattle.sst.proofs.ended_in.Reads as ended-in-reads
 
-open-for-requires : tie.Need-open-for-requires
-open-for-requires c κs = search needs
-
-enum-known-r : tie.Need-enum-known-r
-enum-known-r c = search needs
-
-enum-told : tie.Need-enum-told
-enum-told c = search needs
+open-at-requires : tie.Need-open-at-requires
+open-at-requires c κs = search needs
 
 enum-known-b : tie.Need-enum-known-b
 enum-known-b c = search needs
 
-halve-page-requires : tie.Need-halve-page-requires
-halve-page-requires c κs =
-    let k = ready-inside (now (c .before .before .before .before .before .before .args .s)) (c .before .before .before .before .before .before .args .a) (now (c .before .before .before .before .before .before .args .probe)) (c .before .before .before .before .before .before .args .w) (c .before .b .given .0 .0) (sym (c .before .before .before .open-for .ensures) ∙ c .before .b .given .1) in
-    (k .inside, k .long)
+enum-told : tie.Need-enum-told
+enum-told c = search needs
 
 returns : tie.Need-returns
-unfolding outcomeAt
-returns c =
-    let e : readyAt (now (c .before .before .before .before .before .before .args .s)) (c .before .before .before .before .before .before .args .a) (now (c .before .before .before .before .before .before .args .probe)) (c .before .before .before .before .before .before .args .w) ≡ Ready.Refused (c .before .r .given .0 .0) = sym (c .before .before .before .open-for .ensures) ∙ c .before .r .given .1 in
-    simp e
+returns c = sym (outcome-bad (now (c .before .before .before .before .before .args .s)) (c .before .before .before .before .before .args .a) (now (c .before .before .before .before .before .args .probe)) (c .before .before .before .before .before .args .w) (sym (c .before .before .open-at .ensures) ∙ c .enum-told .given .1))
+
+ended-in-requires : tie.Need-ended-in-requires
+ended-in-requires c κs = open-inside (now (c .before .before .before .before .before .before .args .s)) (c .before .before .before .before .before .before .args .a) (c .before .b .given .0 .0) (sym (c .before .before .before .open-at .ensures) ∙ c .before .b .given .1) .0
+
+enum-known-r : tie.Need-enum-known-r
+enum-known-r c = search needs
+
+enum-told-2 : tie.Need-enum-told-2
+enum-told-2 c = search needs
+
+enum-known-h : tie.Need-enum-known-h
+enum-known-h c = search needs
 
 returns-2 : tie.Need-returns-2
-unfolding outcomeAt
 returns-2 c =
-    let e : readyAt (now (c .before .before .before .before .before .args .s)) (c .before .before .before .before .before .args .a) (now (c .before .before .before .before .before .args .probe)) (c .before .before .before .before .before .args .w) ≡ Ready.Empty = sym (c .before .before .open-for .ensures) ∙ c .enum-told .given .1 in
-    simp e
+    let e : outcomeAt (now (c .before .before .before .before .before .before .before .before .before .before .args .s)) (c .before .before .before .before .before .before .before .before .before .before .args .a) (now (c .before .before .before .before .before .before .before .before .before .before .args .probe)) (c .before .before .before .before .before .before .before .before .before .before .args .w) ≡ backOf (c .before .before .before .before .before .b .given .0 .0) (Ended.Refused (c .before .r .given .0 .0)) = outcome-ended (now (c .before .before .before .before .before .before .before .before .before .before .args .s)) (c .before .before .before .before .before .before .before .before .before .before .args .a) (now (c .before .before .before .before .before .before .before .before .before .before .args .probe)) (c .before .before .before .before .before .before .before .before .before .before .args .w) (c .before .before .before .before .before .b .given .0 .0) (Ended.Refused (c .before .r .given .0 .0)) (sym (c .before .before .before .before .before .before .before .open-at .ensures) ∙ c .before .before .before .before .before .b .given .1) (sym (c .before .before .before .ended-in .ensures) ∙ c .before .r .given .1) in
+    sym e
 
 returns-3 : tie.Need-returns-3
-unfolding outcomeAt
 returns-3 c =
-    let e : readyAt (now (c .before .before .before .before .before .before .before .args .s)) (c .before .before .before .before .before .before .before .args .a) (now (c .before .before .before .before .before .before .before .args .probe)) (c .before .before .before .before .before .before .before .args .w) ≡ Ready.Is (c .before .before .b .given .0 .0) = sym (c .before .before .before .before .open-for .ensures) ∙ c .before .before .b .given .1 in
-    simp (e, c .halve-page .ensures)
+    let e : outcomeAt (now (c .before .before .before .before .before .before .before .before .before .args .s)) (c .before .before .before .before .before .before .before .before .before .args .a) (now (c .before .before .before .before .before .before .before .before .before .args .probe)) (c .before .before .before .before .before .before .before .before .before .args .w) ≡ backOf (c .before .before .before .before .b .given .0 .0) (Ended.Empty) = outcome-ended (now (c .before .before .before .before .before .before .before .before .before .args .s)) (c .before .before .before .before .before .before .before .before .before .args .a) (now (c .before .before .before .before .before .before .before .before .before .args .probe)) (c .before .before .before .before .before .before .before .before .before .args .w) (c .before .before .before .before .b .given .0 .0) (Ended.Empty) (sym (c .before .before .before .before .before .before .open-at .ensures) ∙ c .before .before .before .before .b .given .1) (sym (c .before .before .ended-in .ensures) ∙ c .enum-told2 .given .1) in
+    sym e
+
+returns-4 : tie.Need-returns-4
+returns-4 c =
+    let e : outcomeAt (now (c .before .before .before .before .before .before .before .before .before .before .args .s)) (c .before .before .before .before .before .before .before .before .before .before .args .a) (now (c .before .before .before .before .before .before .before .before .before .before .args .probe)) (c .before .before .before .before .before .before .before .before .before .before .args .w) ≡ backOf (c .before .before .before .before .before .b .given .0 .0) (Ended.Halves (c .before .h .given .0 .0)) = outcome-ended (now (c .before .before .before .before .before .before .before .before .before .before .args .s)) (c .before .before .before .before .before .before .before .before .before .before .args .a) (now (c .before .before .before .before .before .before .before .before .before .before .args .probe)) (c .before .before .before .before .before .before .before .before .before .before .args .w) (c .before .before .before .before .before .b .given .0 .0) (Ended.Halves (c .before .h .given .0 .0)) (sym (c .before .before .before .before .before .before .before .open-at .ensures) ∙ c .before .before .before .before .before .b .given .1) (sym (c .before .before .before .ended-in .ensures) ∙ c .before .h .given .1) in
+    sym e
 
 pub halve-at-spec : {M : Type 1} → statement M
 halve-at-spec =
     tie.close
     (tie.spec
-    open-for-requires
-    enum-known-r
-    enum-told
+    open-at-requires
     enum-known-b
-    halve-page-requires
+    enum-told
     returns
+    ended-in-requires
+    enum-known-r
+    enum-told-2
+    enum-known-h
     returns-2
-    returns-3)
+    returns-3
+    returns-4)

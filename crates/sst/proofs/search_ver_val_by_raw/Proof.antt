@@ -1,62 +1,90 @@
--- `sst::search_ver_val_by_raw` meets its contract. Assumes nothing.
+use borrow.Author.Needs.{needs}
 use mathlib.Core.Path.{_≡_, sym, ap, _∙_}
 use denote.Ref.{now}
-use Rattle.sst.specs.Search.{outcomeAt, searchAt, leaves, searchOf}
+use Rattle.frames.proofs.Frames.{open-inside}
+use Rattle.sst.specs.Search.{endedIn, outcomeAt, searchAt, leaves, searchOf}
 use Rattle.sst.specs.declared.Outcome.{Outcome}
-use Rattle.sst.proofs.Opens.{outcome-ready, leaf-kind}
-use borrow.Author.Needs.{needs}
+use Rattle.sst.specs.declared.Ended.{Ended}
+use Rattle.sst.proofs.Opens.{backOf, outcome-ended, outcome-bad, outcome-ready, leaf-kind}
 use Rattle.sst.proofs.search_ver_val_by_raw.Statement.{statement}
 use Rattle.sst.proofs.search_ver_val_by_raw.Tie as tie
+use Rattle.sst.proofs.search_ver_val_by_raw.Reads as reads
+use Rattle.sst.proofs.search_ver_val_by_raw.Lts as lts
+use Rattle.frames.proofs.open_at.Reads as open-at-reads
+use Rattle.order.proofs.Ver.new.Reads as new-reads
+use Rattle.sst.proofs.ended_in.Reads as ended-in-reads
+use Rattle.sst.proofs.found_in.Reads as found-in-reads
 
 new-requires : tie.Need-new-requires
 new-requires c κs = search needs
 
-halve-at-requires : tie.Need-halve-at-requires
-halve-at-requires c κs = search needs
-
-enum-known-r : tie.Need-enum-known-r
-enum-known-r c = search needs
-
-enum-told : tie.Need-enum-told
-enum-told c = search needs
+open-at-requires : tie.Need-open-at-requires
+open-at-requires c κs = search needs
 
 enum-known-b : tie.Need-enum-known-b
 enum-known-b c = search needs
 
-found-in-requires : tie.Need-found-in-requires
-found-in-requires c κs =
-    let e : outcomeAt (now (c .before .before .before .before .before .before .before .args .s)) (c .before .before .before .before .before .before .before .args .a) (now (c .before .before .before .before .before .before .before .args .probe)) leaves ≡ Outcome.Halves (c .before .b .given .0 .0) (c .before .b .given .0 .1 .0) = cc in
-    let k = outcome-ready (now (c .before .before .before .before .before .before .before .args .s)) (c .before .before .before .before .before .before .before .args .a) (now (c .before .before .before .before .before .before .before .args .probe)) leaves (c .before .b .given .0 .0) (c .before .b .given .0 .1 .0) e .0 in
-    (k .inside, leaf-kind (c .before .b .given .0 .0 .kind) (k .right))
+enum-told : tie.Need-enum-told
+enum-told c = search needs
 
 returns : tie.Need-returns
 unfolding searchAt
-returns c =
-    let e : outcomeAt (now (c .before .before .before .before .before .before .before .args .s)) (c .before .before .before .before .before .before .before .args .a) (now (c .before .before .before .before .before .before .before .args .probe)) leaves ≡ Outcome.Refused (c .before .r .given .0 .0) = cc in
-    ap (searchOf (now (c .before .before .before .before .before .before .before .args .s))) (sym e)
+returns c = ap (searchOf (now (c .before .before .before .before .before .before .args .s))) (sym (outcome-bad (now (c .before .before .before .before .before .before .args .s)) (c .before .before .before .before .before .before .args .a) (now (c .before .before .before .before .before .before .args .probe)) leaves (sym (c .before .before .open-at .ensures) ∙ c .enum-told .given .1)))
+
+ended-in-requires : tie.Need-ended-in-requires
+ended-in-requires c κs = open-inside (now (c .before .before .before .before .before .before .before .args .s)) (c .before .before .before .before .before .before .before .args .a) (c .before .b .given .0 .0) (sym (c .before .before .before .open-at .ensures) ∙ c .before .b .given .1) .0
+
+enum-known-r : tie.Need-enum-known-r
+enum-known-r c = search needs
+
+enum-told-2 : tie.Need-enum-told-2
+enum-told-2 c = search needs
+
+enum-known-h : tie.Need-enum-known-h
+enum-known-h c = search needs
+
+found-in-requires : tie.Need-found-in-requires
+found-in-requires c κs =
+    let q : endedIn (now (c .before .before .before .before .before .before .before .before .before .before .before .args .s)) (c .before .before .before .before .before .b .given .0 .0) (now (c .before .before .before .before .before .before .before .before .before .before .before .args .probe)) leaves ≡ Ended.Halves (c .before .h .given .0 .0) = cc in
+    let e : outcomeAt (now (c .before .before .before .before .before .before .before .before .before .before .before .args .s)) (c .before .before .before .before .before .before .before .before .before .before .before .args .a) (now (c .before .before .before .before .before .before .before .before .before .before .before .args .probe)) leaves ≡ Outcome.Halves (c .before .before .before .before .before .b .given .0 .0) (c .before .h .given .0 .0) = outcome-ended (now (c .before .before .before .before .before .before .before .before .before .before .before .args .s)) (c .before .before .before .before .before .before .before .before .before .before .before .args .a) (now (c .before .before .before .before .before .before .before .before .before .before .before .args .probe)) leaves (c .before .before .before .before .before .b .given .0 .0) (Ended.Halves (c .before .h .given .0 .0)) (sym (c .before .before .before .before .before .before .before .open-at .ensures) ∙ c .before .before .before .before .before .b .given .1) q in
+    let k = outcome-ready (now (c .before .before .before .before .before .before .before .before .before .before .before .args .s)) (c .before .before .before .before .before .before .before .before .before .before .before .args .a) (now (c .before .before .before .before .before .before .before .before .before .before .before .args .probe)) leaves (c .before .before .before .before .before .b .given .0 .0) (c .before .h .given .0 .0) e .0 in
+    (k .inside, leaf-kind (c .before .before .before .before .before .b .given .0 .0 .kind) (k .right))
 
 returns-2 : tie.Need-returns-2
 unfolding searchAt
 returns-2 c =
-    let e : outcomeAt (now (c .before .before .before .before .before .before .args .s)) (c .before .before .before .before .before .before .args .a) (now (c .before .before .before .before .before .before .args .probe)) leaves ≡ Outcome.Empty = cc in
-    ap (searchOf (now (c .before .before .before .before .before .before .args .s))) (sym e)
+    let q : endedIn (now (c .before .before .before .before .before .before .before .before .before .before .before .args .s)) (c .before .before .before .before .before .b .given .0 .0) (now (c .before .before .before .before .before .before .before .before .before .before .before .args .probe)) leaves ≡ Ended.Refused (c .before .r .given .0 .0) = cc in
+    let e : outcomeAt (now (c .before .before .before .before .before .before .before .before .before .before .before .args .s)) (c .before .before .before .before .before .before .before .before .before .before .before .args .a) (now (c .before .before .before .before .before .before .before .before .before .before .before .args .probe)) leaves ≡ backOf (c .before .before .before .before .before .b .given .0 .0) (Ended.Refused (c .before .r .given .0 .0)) = outcome-ended (now (c .before .before .before .before .before .before .before .before .before .before .before .args .s)) (c .before .before .before .before .before .before .before .before .before .before .before .args .a) (now (c .before .before .before .before .before .before .before .before .before .before .before .args .probe)) leaves (c .before .before .before .before .before .b .given .0 .0) (Ended.Refused (c .before .r .given .0 .0)) (sym (c .before .before .before .before .before .before .before .open-at .ensures) ∙ c .before .before .before .before .before .b .given .1) q in
+    ap (searchOf (now (c .before .before .before .before .before .before .before .before .before .before .before .args .s))) (sym e)
 
 returns-3 : tie.Need-returns-3
 unfolding searchAt
 returns-3 c =
-    let e : outcomeAt (now (c .before .before .before .before .before .before .before .before .args .s)) (c .before .before .before .before .before .before .before .before .args .a) (now (c .before .before .before .before .before .before .before .before .args .probe)) leaves ≡ Outcome.Halves (c .before .before .b .given .0 .0) (c .before .before .b .given .0 .1 .0) = cc in
-    c .found-in .ensures ∙ ap (searchOf (now (c .before .before .before .before .before .before .before .before .args .s))) (sym e)
+    let q : endedIn (now (c .before .before .before .before .before .before .before .before .before .before .args .s)) (c .before .before .before .before .b .given .0 .0) (now (c .before .before .before .before .before .before .before .before .before .before .args .probe)) leaves ≡ Ended.Empty = cc in
+    let e : outcomeAt (now (c .before .before .before .before .before .before .before .before .before .before .args .s)) (c .before .before .before .before .before .before .before .before .before .before .args .a) (now (c .before .before .before .before .before .before .before .before .before .before .args .probe)) leaves ≡ backOf (c .before .before .before .before .b .given .0 .0) (Ended.Empty) = outcome-ended (now (c .before .before .before .before .before .before .before .before .before .before .args .s)) (c .before .before .before .before .before .before .before .before .before .before .args .a) (now (c .before .before .before .before .before .before .before .before .before .before .args .probe)) leaves (c .before .before .before .before .b .given .0 .0) (Ended.Empty) (sym (c .before .before .before .before .before .before .open-at .ensures) ∙ c .before .before .before .before .b .given .1) q in
+    ap (searchOf (now (c .before .before .before .before .before .before .before .before .before .before .args .s))) (sym e)
+
+returns-4 : tie.Need-returns-4
+unfolding searchAt
+returns-4 c =
+    let q : endedIn (now (c .before .before .before .before .before .before .before .before .before .before .before .before .args .s)) (c .before .before .before .before .before .before .b .given .0 .0) (now (c .before .before .before .before .before .before .before .before .before .before .before .before .args .probe)) leaves ≡ Ended.Halves (c .before .before .h .given .0 .0) = cc in
+    let e : outcomeAt (now (c .before .before .before .before .before .before .before .before .before .before .before .before .args .s)) (c .before .before .before .before .before .before .before .before .before .before .before .before .args .a) (now (c .before .before .before .before .before .before .before .before .before .before .before .before .args .probe)) leaves ≡ backOf (c .before .before .before .before .before .before .b .given .0 .0) (Ended.Halves (c .before .before .h .given .0 .0)) = outcome-ended (now (c .before .before .before .before .before .before .before .before .before .before .before .before .args .s)) (c .before .before .before .before .before .before .before .before .before .before .before .before .args .a) (now (c .before .before .before .before .before .before .before .before .before .before .before .before .args .probe)) leaves (c .before .before .before .before .before .before .b .given .0 .0) (Ended.Halves (c .before .before .h .given .0 .0)) (sym (c .before .before .before .before .before .before .before .before .open-at .ensures) ∙ c .before .before .before .before .before .before .b .given .1) q in
+    c .found-in .ensures ∙ ap (searchOf (now (c .before .before .before .before .before .before .before .before .before .before .before .before .args .s))) (sym e)
 
 pub search-ver-val-by-raw-spec : {M : Type 1} → statement M
 search-ver-val-by-raw-spec =
     tie.close
     (tie.spec
     new-requires
-    halve-at-requires
-    enum-known-r
-    enum-told
+    open-at-requires
     enum-known-b
-    found-in-requires
+    enum-told
     returns
+    ended-in-requires
+    enum-known-r
+    enum-told-2
+    enum-known-h
+    found-in-requires
     returns-2
-    returns-3)
+    returns-3
+    returns-4)

@@ -15,7 +15,6 @@ use Rattle.totals.proofs.count_pages.Reads as reads
 use Rattle.totals.proofs.count_pages.Lts as lts
 use Rattle.frames.proofs.frame_len.Reads as frame-len-reads
 use Rattle.history.proofs.look_ahead.Reads as look-ahead-reads
-use Rattle.sources.proofs.skip.Reads as skip-reads
 
 abbrev Inv-loop : tie.InvT-loop
 Inv-loop list low at limit budget c₀ n₀ to₀ c n to = Paging list low limit budget at c₀ c n to
@@ -30,31 +29,28 @@ look-ahead-requires : tie.Need-look-ahead-requires Inv-loop μ-loop
 look-ahead-requires c κs = c .before .before .before .pre .0
 
 returns : tie.Need-returns Inv-loop μ-loop
-returns c = paging-done _ _ _ _ _ _ _ _ _ (c .before .before .before .before .before .pre .0 .0) (c .before .before .before .before .before .pre .0 .1) (c .before .before .loop .inv) _ (c .before .look-ahead .ensures) (c .if1 .taken)
+returns c = paging-done _ _ _ _ _ _ _ _ _ (c .before .before .before .before .before .before .before .pre .0 .0) (c .before .before .before .before .before .before .before .pre .0 .1) (c .before .before .before .before .loop .inv) _ (c .before .before .before .look-ahead .ensures .0) (c .if1 .taken)
 
 add-n : tie.Need-add-n Inv-loop μ-loop
-add-n c = let z = n-small _ _ _ _ _ _ _ _ _ (c .before .before .before .before .before .pre .0 .0) (c .before .before .before .before .before .pre .0 .1) (c .before .before .loop .inv) _ (c .before .look-ahead .ensures) (c .if1 .left) _ refl in omega (arith, z)
+add-n c = let z = n-small _ _ _ _ _ _ _ _ _ (c .before .before .before .before .before .before .before .pre .0 .0) (c .before .before .before .before .before .before .before .pre .0 .1) (c .before .before .before .before .loop .inv) _ (c .before .before .before .look-ahead .ensures .0) (c .if1 .left) _ refl in omega (arith, z)
 
 cast-frame-len : tie.Need-cast-frame-len Inv-loop μ-loop
-cast-frame-len c = let z = size-small _ _ _ _ _ _ _ _ _ (c .before .before .before .before .before .before .pre .0 .0) (c .before .before .before .before .before .before .pre .0 .1) (c .before .before .before .loop .inv) _ (c .before .before .look-ahead .ensures) (c .before .if1 .left) in omega (arith, z)
+cast-frame-len c = let z = size-small _ _ _ _ _ _ _ _ _ (c .before .before .before .before .before .before .before .before .pre .0 .0) (c .before .before .before .before .before .before .before .before .pre .0 .1) (c .before .before .before .before .before .loop .inv) _ (c .before .before .before .before .look-ahead .ensures .0) (c .before .if1 .left) in omega (arith, z)
 
 frame-len-requires : tie.Need-frame-len-requires Inv-loop μ-loop
 frame-len-requires c κs = search needs
 
 add-to : tie.Need-add-to Inv-loop μ-loop
-add-to c = let z = step-small _ _ _ _ _ _ _ _ _ (c .before .before .before .before .before .before .before .before .pre .0 .0) (c .before .before .before .before .before .before .before .before .pre .0 .1) (c .before .before .before .before .before .loop .inv) _ (c .before .before .before .before .look-ahead .ensures) (c .before .before .before .if1 .left) _ (c .before .frame-len .ensures) in omega (arith, z)
+add-to c = let z = step-small _ _ _ _ _ _ _ _ _ (c .before .before .before .before .before .before .before .before .before .before .pre .0 .0) (c .before .before .before .before .before .before .before .before .before .before .pre .0 .1) (c .before .before .before .before .before .before .before .loop .inv) _ (c .before .before .before .before .before .before .look-ahead .ensures .0) (c .before .before .before .if1 .left) _ (c .before .frame-len .ensures) in omega (arith, z)
 
 add-to-2 : tie.Need-add-to-2 Inv-loop μ-loop
-add-to-2 c = let z = to-small _ _ _ _ _ _ _ _ _ (c .before .before .before .before .before .before .before .before .pre .0 .0) (c .before .before .before .before .before .before .before .before .pre .0 .1) (c .before .before .before .before .before .loop .inv) _ (c .before .before .before .before .look-ahead .ensures) (c .before .before .before .if1 .left) _ (c .before .frame-len .ensures) in omega (arith, z, c .before .before .before .before .before .before .before .before .pre .1 .1)
-
-skip-requires : tie.Need-skip-requires Inv-loop μ-loop
-skip-requires c κs = search needs
+add-to-2 c = let z = to-small _ _ _ _ _ _ _ _ _ (c .before .before .before .before .before .before .before .before .before .before .pre .0 .0) (c .before .before .before .before .before .before .before .before .before .before .pre .0 .1) (c .before .before .before .before .before .before .before .loop .inv) _ (c .before .before .before .before .before .before .look-ahead .ensures .0) (c .before .before .before .if1 .left) _ (c .before .frame-len .ensures) in omega (arith, z, c .before .before .before .before .before .before .before .before .before .before .pre .1 .1)
 
 loop-less : tie.Need-loop-less Inv-loop μ-loop
-loop-less c = paging-less _ _ _ _ _ _ _ _ _ (c .before .before .before .before .before .before .before .before .before .pre .0 .0) (c .before .before .before .before .before .before .before .before .before .pre .0 .1) (c .before .before .before .before .before .before .loop .inv) _ (c .before .before .before .before .before .look-ahead .ensures) (c .before .before .before .before .if1 .left) _ (c .before .before .frame-len .ensures) _ (c .skip .ensures)
+loop-less c = paging-less _ _ _ _ _ _ _ _ _ (c .before .before .before .before .before .before .before .before .before .before .before .pre .0 .0) (c .before .before .before .before .before .before .before .before .before .before .before .pre .0 .1) (c .before .before .before .before .before .before .before .before .loop .inv) _ (c .before .before .before .before .before .before .before .look-ahead .ensures .0) (c .before .before .before .before .if1 .left) _ (c .before .before .frame-len .ensures) _ (c .before .before .before .before .before .before .before .look-ahead .ensures .1)
 
 loop-again : tie.Need-loop-again Inv-loop μ-loop
-loop-again c = paging-turn _ _ _ _ _ _ _ _ _ (c .before .before .before .before .before .before .before .before .before .pre .0 .0) (c .before .before .before .before .before .before .before .before .before .pre .0 .1) (c .before .before .before .before .before .before .loop .inv) _ (c .before .before .before .before .before .look-ahead .ensures) (c .before .before .before .before .if1 .left) _ (c .before .before .frame-len .ensures) _ (c .skip .ensures)
+loop-again c = paging-turn _ _ _ _ _ _ _ _ _ (c .before .before .before .before .before .before .before .before .before .before .before .pre .0 .0) (c .before .before .before .before .before .before .before .before .before .before .before .pre .0 .1) (c .before .before .before .before .before .before .before .before .loop .inv) _ (c .before .before .before .before .before .before .before .look-ahead .ensures .0) (c .before .before .before .before .if1 .left) _ (c .before .before .frame-len .ensures) _ (c .before .before .before .before .before .before .before .look-ahead .ensures .1)
 
 pub count-pages-spec : {M : Type 1} → statement M
 count-pages-spec =
@@ -70,6 +66,5 @@ count-pages-spec =
     frame-len-requires
     add-to
     add-to-2
-    skip-requires
     loop-less
     loop-again)

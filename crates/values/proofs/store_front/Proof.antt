@@ -1,5 +1,5 @@
 use mathlib.Core.Path.{_≡_, refl, sym, _∙_, ap}
-use mathlib.Core.List.{_++_}
+use mathlib.Core.List.{List, _++_}
 use Prim.Native.Nat.{ℕ, _+_}
 use native.Mathlib.Omega.{arith}
 use lib.ListN.{length, length-append}
@@ -23,6 +23,11 @@ use mathlib.Core.Bool.{Bool}
 long : (h : HistRef) (far : Bool) (n : ℕ) → length (frontBytes h far n) ≡ 1 + (length (histBytes h) + 4)
 unfolding frontBytes
 long h far n = simp (length-append, length-le)
+
+-- the three stores are one, said of lists alone
+stored : (b₀ b₁ b₂ b₃ : List ℕ) (at g f p n : ℕ) (x : List ℕ) → g ≡ f → b₁ ≡ put b₀ at (le 1 g) → b₂ ≡ put b₁ (at + 1) x → p ≡ at + 1 + length x → b₃ ≡ put b₂ p (le 4 n)
+    → b₃ ≡ put b₀ at (le 1 f ++ (x ++ le 4 n))
+stored b₀ b₁ b₂ b₃ at g f p n x e h i j k = cc (put-then b₀ at 1 f (x ++ le 4 n), put-append (put b₀ at (le 1 f)) (at + 1) x (le 4 n))
 
 flag-of-requires : tie.Need-flag-of-requires
 flag-of-requires c κs = search needs
@@ -48,10 +53,9 @@ same-length c = search needs
 returns : tie.Need-returns
 unfolding frontBytes
 returns c =
-    let a = c .before .before .before .before .before .before .before .before .before .before .before .before .before .before .args in
-    let f = flagOf (a .h .count) (a .far) in (
+    let a = c .before .before .before .before .before .before .before .before .before .before .before .before .before .before .args in (
       omega (arith, long (a .h) (a .far) (a .n), c .before .before .before .before .before .before .store-hist .ensures .0),
-      cc (put-then (a .buf .now) (a .at) 1 f (histBytes (a .h) ++ le 4 (a .n)), put-append (put (a .buf .now) (a .at) (le 1 f)) (a .at + 1) (histBytes (a .h)) (le 4 (a .n))),
+      stored (a .buf .now) _ _ _ (a .at) _ (flagOf (a .h .count) (a .far)) _ (a .n) (histBytes (a .h)) (c .before .before .before .before .before .before .before .before .before .before .before .before .flag-of .ensures) (c .before .before .before .before .before .before .before .before .before .before .put-u8 .ensures) (c .before .before .before .before .before .before .store-hist .ensures .1) (c .before .before .before .before .before .before .store-hist .ensures .0) (c .before .before .put-u32 .ensures),
     )
 
 pub store-front-spec : {M : Type 1} → statement M

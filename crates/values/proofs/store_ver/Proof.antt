@@ -1,3 +1,7 @@
+use Prim.Native.Nat.{ℕ, _+_}
+use mathlib.Core.Path.{ap, sym, _∙_}
+use mathlib.Core.List.{List}
+use Rattle.spans.specs.Span.{put}
 use Rattle.numbers.specs.Number.{le}
 use Rattle.numbers.proofs.Numbers.{put-then}
 use Rattle.values.specs.Keys.{verBytes}
@@ -25,7 +29,9 @@ returns : tie.Need-returns
 unfolding verBytes
 returns c =
     let a = c .before .before .before .before .before .before .before .before .before .args in
-    cc (put-then (a .buf .now) (a .at) 8 (a .v .txid) (le 4 (a .v .cmd)))
+    c .before .before .put-u32 .ensures
+    ∙ ap (λ (b : List ℕ). put b (a .at + 8) (le 4 (a .v .cmd))) (c .before .before .before .before .before .before .put-u64 .ensures)
+    ∙ sym (put-then (a .buf .now) (a .at) 8 (a .v .txid) (le 4 (a .v .cmd)))
 
 pub store-ver-spec : {M : Type 1} → statement M
 store-ver-spec =

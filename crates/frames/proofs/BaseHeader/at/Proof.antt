@@ -1,10 +1,11 @@
 -- `frames::BaseHeader::at` meets its contract. Assumes nothing.
 use native.Mathlib.Omega.{arith}
 use Prim.Native.Nat.{_+_}
-use mathlib.Core.Path.{_≡_, sym, _∙_}
+use mathlib.Core.Path.{_≡_, ap, sym, _∙_}
 use mathlib.Core.Bool.{true, false}
 use denote.Ref.{now}
 use borrow.Author.Tests.{le-leb, lt-leb, eq-eqb, ne-eqb}
+use Rattle.frames.specs.declared.BaseHeader.{BaseHeader}
 use Rattle.frames.specs.Layout.{boxLen, baseFields, baseOk, pageAt}
 use Rattle.frames.proofs.Frames.{framed}
 use borrow.Author.Needs.{needs}
@@ -47,13 +48,13 @@ ok-requires c κs = search needs
 returns-4 : tie.Need-returns-4
 unfolding pageAt
 returns-4 c =
-    let o : baseOk (c .before .before .before .before .before .before .before .before .h .given .0 .0) (baseFields (now (c .before .before .before .before .before .before .before .before .before .before .before .before .args .s)) (c .before .before .before .before .before .before .before .before .before .before .before .before .args .a .0 + boxLen)) ≡ true = cc in
+    let o : baseOk (c .before .before .before .before .before .before .before .before .h .given .0 .0) (baseFields (now (c .before .before .before .before .before .before .before .before .before .before .before .before .args .s)) (c .before .before .before .before .before .before .before .before .before .before .before .before .args .a .0 + boxLen)) ≡ true = ap (λ (b : BaseHeader). baseOk (c .before .before .before .before .before .before .before .before .h .given .0 .0) b) (sym (c .before .before .fields .ensures)) ∙ sym (c .before .ok .ensures) ∙ c .if3 .taken in
     simp (← c .before .before .before .before .before .before .before .before .before .before .at .ensures, c .before .before .before .before .before .before .before .before .h .given .1, eq-eqb _ _ (c .before .before .before .before .before .if1 .left), le-leb _ _ (c .before .before .before .if2 .left), o, c .before .before .fields .ensures)
 
 returns-5 : tie.Need-returns-5
 unfolding pageAt
 returns-5 c =
-    let o : baseOk (c .before .before .before .before .before .before .before .before .h .given .0 .0) (baseFields (now (c .before .before .before .before .before .before .before .before .before .before .before .before .args .s)) (c .before .before .before .before .before .before .before .before .before .before .before .before .args .a .0 + boxLen)) ≡ false = cc in
+    let o : baseOk (c .before .before .before .before .before .before .before .before .h .given .0 .0) (baseFields (now (c .before .before .before .before .before .before .before .before .before .before .before .before .args .s)) (c .before .before .before .before .before .before .before .before .before .before .before .before .args .a .0 + boxLen)) ≡ false = ap (λ (b : BaseHeader). baseOk (c .before .before .before .before .before .before .before .before .h .given .0 .0) b) (sym (c .before .before .fields .ensures)) ∙ sym (c .before .ok .ensures) ∙ c .if3 .left in
     simp (← c .before .before .before .before .before .before .before .before .before .before .at .ensures, c .before .before .before .before .before .before .before .before .h .given .1, eq-eqb _ _ (c .before .before .before .before .before .if1 .left), le-leb _ _ (c .before .before .before .if2 .left), o)
 
 pub at-spec : {M : Type 1} → statement M

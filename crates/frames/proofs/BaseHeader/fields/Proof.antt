@@ -75,7 +75,17 @@ shared-slice-read-t31 c = search needs
 
 returns : tie.Need-returns
 unfolding baseFields
-returns c = cc
+returns c =
+    simp (
+      c .before .before .before .before .before .before .before .before .before .before .before .read-u32 .ensures,
+      c .before .before .before .before .before .before .before .before .before .before .read-u16 .ensures,
+      c .before .before .before .before .before .before .before .before .before .read-u162 .ensures,
+      c .before .before .before .before .before .before .before .before .read-u64 .ensures,
+      c .before .before .before .before .before .before .before .read-u642 .ensures,
+      c .before .before .before .before .before .before .read-u322 .ensures,
+      c .before .before .before .before .before .read-u323 .ensures,
+      c .before .before .before .before .read-u324 .ensures,
+    )
 
 pub fields-spec : {M : Type 1} → statement M
 fields-spec =

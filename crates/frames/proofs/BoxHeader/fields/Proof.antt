@@ -51,7 +51,7 @@ read-u64-requires-3 c κs = search needs
 
 returns : tie.Need-returns
 unfolding boxFields
-returns c = cc
+returns c = simp (c .before .before .before .before .before .before .before .read-u32 .ensures, c .before .before .read-u64 .ensures, c .before .read-u642 .ensures, c .read-u643 .ensures)
 
 pub fields-spec : {M : Type 1} → statement M
 fields-spec =

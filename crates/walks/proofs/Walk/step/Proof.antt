@@ -25,16 +25,16 @@ returns-2 : tie.Need-returns-2
 unfolding stepAt
 returns-2 c = simp (lt-ltb _ _ (c .before .before .before .before .before .before .if1 .taken), ← c .before .before .before .before .next .ensures, c .before .before .item .given .1, c .behind .ensures)
 
-returns-3 : tie.Need-returns-3
-unfolding stepAt
-returns-3 c = simp (le-ltb _ _ (c .before .before .if1 .left), eq-eqb _ _ (c .if2 .taken))
-
 head-requires : tie.Need-head-requires
 head-requires c κs = search needs
 
+returns-3 : tie.Need-returns-3
+unfolding stepAt
+returns-3 c = simp (le-ltb _ _ (c .before .before .before .if1 .left), ne-eqb _ _ (c .before .if2 .taken), c .head .ensures)
+
 returns-4 : tie.Need-returns-4
 unfolding stepAt
-returns-4 c = simp (le-ltb _ _ (c .before .before .before .if1 .left), ne-eqb _ _ (c .before .if2 .left), c .head .ensures)
+returns-4 c = simp (le-ltb _ _ (c .before .before .if1 .left), eq-eqb _ _ (c .if2 .left))
 
 pub step-spec : {M : Type 1} → statement M
 step-spec =
@@ -46,6 +46,6 @@ step-spec =
     returns
     behind-requires
     returns-2
-    returns-3
     head-requires
+    returns-3
     returns-4)

@@ -1,0 +1,44 @@
+-- How an answer's words become the call's, where the call makes the answer of two.
+-- Assumes nothing.
+use Prim.Native.Nat.{ℕ}
+use mathlib.Core.Path.{_≡_, sym, ap, _∙_}
+use mathlib.Core.List.{List}
+use lib.ListN.{length}
+use Rattle.order.specs.declared.Ver.{Ver}
+use Rattle.frames.specs.declared.Addr.{Addr}
+use Rattle.frames.specs.declared.Opened.{Opened}
+use Rattle.frames.specs.Layout.{openAt}
+use Rattle.pages.specs.Edges.{boundsRead, boundsAt}
+use Rattle.pages.specs.Refused.{boundsNumber}
+use Rattle.image.specs.declared.Built.{Built}
+use Rattle.image.specs.Call.{callOf, builtNumber}
+use Rattle.delta.specs.Built.{leafBuilt, afterwards}
+use Rattle.delta.specs.Deltas.{leafDelta}
+use Rattle.words.specs.Words.{written}
+use Rattle.tells.specs.Answers.{pageWords, builtWords}
+use Rattle.words.proofs.Laws.{written-none, told}
+
+-- no page at an address
+pub page-bad : (s : List ℕ) (a : Addr) (out : List ℕ) {r : ℕ} → openAt s a ≡ Opened.Bad → r ≡ 4
+    → (r ≡ boundsNumber (boundsAt s a)) × (out ≡ written (pageWords (openAt s a) (boundsAt s a)) out)
+unfolding boundsAt
+page-bad s a out e n = (
+  n ∙ ap (λ (z : Opened). boundsNumber (boundsRead z)) (sym e),
+  sym (written-none out) ∙ ap (λ (z : Opened). written (pageWords z (boundsRead z)) out) (sym e),
+)
+
+-- a leaf delta: its version is made of two of the call's numbers
+module _ (limit group lsn ckpt : ℕ) (a : List ℕ) (next : ℕ) (key value : List ℕ) where
+  abbrev leafOf : Ver → Built
+  leafOf v = leafBuilt (callOf limit 0 group (v .txid) lsn ckpt) (length a) next (length key) (length value)
+
+  abbrev arenaOf : Built → Ver → List ℕ
+  arenaOf x v = afterwards x a next (leafDelta (callOf limit 0 group (v .txid) lsn ckpt) next v key value)
+
+  pub leaf-told : (out : List ℕ) {v u : Ver} {x : Built} {r : ℕ} {a′ o : List ℕ} → v ≡ u → x ≡ leafOf v → a′ ≡ arenaOf x v
+      → (r ≡ builtNumber x) × (o ≡ written (builtWords x) out)
+      → (r ≡ builtNumber (leafOf u)) × ((a′ ≡ arenaOf (leafOf u) u) × (o ≡ written (builtWords (leafOf u)) out))
+  leaf-told out {v} {u} ev e f h =
+      let g = e ∙ ap leafOf ev in
+      let t = told builtNumber builtWords out g h in
+      (t .0, (f ∙ ap (λ (z : Built). arenaOf z v) g ∙ ap (λ (z : Ver). arenaOf (leafOf u) z) ev, t .1))

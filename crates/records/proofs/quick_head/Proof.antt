@@ -1,0 +1,32 @@
+-- `records::quick_head` meets its contract. Assumes nothing.
+use native.Mathlib.Omega.{arith}
+use mathlib.Core.Path.{refl, sym, _∙_}
+use denote.Ref.{now}
+use mathlib.Core.Logic.{inl, inr}
+use Rattle.records.proofs.Inside.{slot-inside}
+use Rattle.records.proofs.Quick.{quick-on, slot-rec}
+use borrow.Author.Needs.{needs}
+use Rattle.records.proofs.quick_head.Statement.{statement}
+use Rattle.records.proofs.quick_head.Tie as tie
+
+slot-at-requires : tie.Need-slot-at-requires
+slot-at-requires c κs = search needs
+
+enum-known-p : tie.Need-enum-known-p
+enum-known-p c = search needs
+
+enum-told : tie.Need-enum-told
+enum-told c = search needs
+
+returns : tie.Need-returns
+returns c = inl refl
+
+head-in-requires : tie.Need-head-in-requires
+head-in-requires c κs = (c .before .before .before .before .before .pre .0, (c .before .before .before .before .before .pre .1, omega (arith, slot-inside (now (c .before .before .before .before .before .args .s)) (c .before .before .before .before .before .args .b) (c .before .before .before .before .before .args .i) (c .before .p .given .0 .0) (sym (c .before .before .before .slot-at .ensures) ∙ c .before .p .given .1))))
+
+returns-2 : tie.Need-returns-2
+returns-2 c = quick-on (slot-rec (now (c .before .before .before .before .before .before .args .s)) (c .before .before .before .before .before .before .args .b) (c .before .before .before .before .before .before .args .i) (c .before .before .p .given .0 .0) (sym (c .before .before .before .before .slot-at .ensures) ∙ c .before .before .p .given .1)) (c .head-in .ensures)
+
+pub quick-head-spec : {M : Type 1} → statement M
+quick-head-spec =
+    tie.close (tie.spec slot-at-requires enum-known-p enum-told returns head-in-requires returns-2)
