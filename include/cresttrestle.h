@@ -105,6 +105,13 @@ uint32_t ct_hint(const uint8_t *arena, size_t arena_len, uint64_t at, uint64_t c
  *      [6] [7] [8] its history's page, slot and count (0 without), [9] reads. None: all 0 but reads */
 uint32_t ct_search(const uint8_t *arena, size_t arena_len, uint64_t addr, const uint8_t *key, size_t key_len, uint64_t *out, size_t out_len);
 
+/* The row of a key in a leaf as of a version (txid, cmd): the newest that is no newer, from the page or from the key's history; none where all
+ * are newer or the key is absent. For all that transaction n and the ones before it wrote, ask with txid n and cmd 2^32 - 1.
+ * out: [0] 1 found, 0 none, [1] slot of the key, [2] txid, [3] cmd of the row itself, [4] [5] its value (index, bytes),
+ *      [6] reads, the versions passed over not counted. None: all 0 but reads */
+uint32_t ct_as_of(const uint8_t *arena, size_t arena_len, uint64_t addr, const uint8_t *key, size_t key_len, uint64_t txid, uint32_t cmd,
+                  uint64_t *out, size_t out_len);
+
 /* lower_bound: the first position whose key and version do not come before the probe's; a key's newer version comes first, so
  * txid 2^64 - 1 and cmd 2^32 - 1 stand before every version of the key.
  * out: [0] 1 at a key, 0 past the end, [1] position, [2] reads */

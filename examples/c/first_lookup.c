@@ -1,5 +1,6 @@
 /*
- * A first lookup: builds a leaf of two rows in an arena on the stack, looks one up, walks the page, and prints what it finds.
+ * A first lookup: builds a leaf of three rows in an arena on the stack, looks one up, also as it was at an older version, walks the page, and
+ * prints what it finds.
  * tools/c-example builds and runs it. The exit status is 0 where every answer is the expected one.
  */
 #include "cresttrestle.h"
@@ -35,9 +36,10 @@ int main(void) {
     uint8_t list[256];
     uint64_t out[CT_OUT_WORDS], walk[CT_WALK_WORDS];
 
-    /* The record list: version byte 1, the count of the bytes behind it, the rows in the order of their keys. */
+    /* The record list: version byte 1, the count of the bytes behind it, the rows in the order of their keys, a key's newest first. */
     size_t end = put_row(list, 5, "apple", 7, 0, "red");
     end = put_row(list, end, "pear", 9, 0, "green");
+    end = put_row(list, end, "pear", 5, 0, "white");
     list[0] = 1;
     put_number(list, 1, end - 5, 4);
 
@@ -52,6 +54,12 @@ int main(void) {
     if (out[5] != 5 || memcmp(arena + out[4], "green", 5) != 0) return wrong("the value of pear", no);
     printf("pear is %.*s, written by transaction %llu\n", (int)out[5], (const char *)arena + out[4], (unsigned long long)out[2]);
 
+    /* The same when transaction 8 was the last: its newest row that is no newer than all of transaction 8. */
+    no = ct_as_of(arena, sizeof arena, page, (const uint8_t *)"pear", 4, 8, UINT32_MAX, out, CT_OUT_WORDS);
+    if (no != CT_OK || out[0] != 1 || out[2] != 5) return wrong("ct_as_of", no);
+    if (out[5] != 5 || memcmp(arena + out[4], "white", 5) != 0) return wrong("the old value of pear", no);
+    printf("as of transaction 8 it is %.*s, written by transaction %llu\n", (int)out[5], (const char *)arena + out[4], (unsigned long long)out[2]);
+
     no = ct_search(arena, sizeof arena, page, (const uint8_t *)"plum", 4, out, CT_OUT_WORDS);
     if (no != CT_OK || out[0] != 0) return wrong("ct_search of a key that is not there", no);
     printf("plum is not there\n");
@@ -63,7 +71,7 @@ int main(void) {
         printf("row %.*s = %.*s\n", (int)out[2], (const char *)arena + out[1], (int)out[6], (const char *)arena + out[5]);
         rows++;
     }
-    if (no != CT_OK || rows != 2) return wrong("ct_step", no);
+    if (no != CT_OK || rows != 3) return wrong("ct_step", no);
 
     /* An address with no page is refused, and no word of out is changed. */
     out[0] = 77;

@@ -106,6 +106,15 @@ int main(void) {
     MUST(ct_search(ARENA, right, (const uint8_t *)"b", 1, OUT) == 0 && out[2] == 9 && out[3] == 4 && is(out[4], out[5], "pq") && out[8] == 0);
     MUST(ct_search(ARENA, leaf, (const uint8_t *)"b", 1, OUT) == 0 && out[0] == 0 && out[2] == 0 && out[9] == 1);
     mark();
+    MUST(ct_as_of(ARENA, leaf, (const uint8_t *)"a", 1, 5, 0, OUT) == 0 && out[0] == 1 && out[1] == 0 && out[2] == 5 && out[3] == 0 && is(out[4], out[5], "xy"));
+    MUST(out[6] == 1 && wrote(7));
+    MUST(ct_as_of(ARENA, leaf, (const uint8_t *)"a", 1, 4, UINT32_MAX, OUT) == 0 && out[0] == 1 && out[2] == 3 && is(out[4], out[5], "z") && out[6] == 1);
+    MUST(ct_as_of(ARENA, merged, (const uint8_t *)"a", 1, 3, 0, OUT) == 0 && out[0] == 1 && out[2] == 3 && is(out[4], out[5], "z"));
+    MUST(ct_as_of(ARENA, merged, (const uint8_t *)"b", 1, 9, 4, OUT) == 0 && out[1] == 1 && out[2] == 9 && out[3] == 4 && is(out[4], out[5], "pq"));
+    MUST(ct_as_of(ARENA, merged, (const uint8_t *)"b", 1, 9, 3, OUT) == 0 && out[0] == 0 && out[1] == 0 && out[2] == 0 && out[5] == 0 && out[6] == 1);
+    MUST(ct_as_of(ARENA, leaf, (const uint8_t *)"a", 1, 2, 7, OUT) == 0 && out[0] == 0 && out[6] == 1);
+    MUST(ct_as_of(ARENA, leaf, (const uint8_t *)"b", 1, UINT64_MAX, UINT32_MAX, OUT) == 0 && out[0] == 0);
+    mark();
     MUST(ct_lower_bound(ARENA, merged, (const uint8_t *)"b", 1, 9, 4, OUT) == 0 && out[0] == 1 && out[1] == 1 && out[2] >= 1 && wrote(3));
     MUST(ct_lower_bound(ARENA, merged, (const uint8_t *)"b", 1, 9, 3, OUT) == 0 && out[0] == 0 && out[1] == 2);
     mark();
@@ -204,7 +213,7 @@ int main(void) {
     MUST(ct_delta_index(ARENA, 9, 0, 0, 0, 0, NONE, 0, OUT) == CT_BAD_ARENA);
     MUST(ct_page(ARENA, 8, OUT) == CT_BAD_FRAME && ct_history_hints(ARENA, intl, OUT) == CT_BAD_FRAME && ct_remote_hints(ARENA, intl, OUT) == CT_BAD_FRAME);
     MUST(ct_search(ARENA, intl, (const uint8_t *)"b", 1, OUT) == CT_BAD_FRAME && ct_floor(ARENA, leaf, (const uint8_t *)"b", 1, OUT) == CT_BAD_FRAME);
-    MUST(ct_lower_bound(ARENA, 12, (const uint8_t *)"b", 1, 0, 0, OUT) == CT_BAD_FRAME);
+    MUST(ct_as_of(ARENA, intl, (const uint8_t *)"b", 1, 9, 0, OUT) == CT_BAD_FRAME && ct_lower_bound(ARENA, 12, (const uint8_t *)"b", 1, 0, 0, OUT) == CT_BAD_FRAME);
     MUST(ct_forward(ARENA, leaf, 0, 2, walk, CT_WALK_WORDS) == CT_BAD_FRAME && ct_backward(ARENA, intl, 0, 0, walk, CT_WALK_WORDS) == CT_BAD_FRAME);
     MUST(ct_delta_key(ARENA, leaf, OUT) == CT_BAD_FRAME && ct_delta_val(ARENA, leaf, OUT) == CT_BAD_FRAME);
     MUST(ct_delta_index_key(ARENA, leaf, OUT) == CT_BAD_FRAME && ct_delta_child(ARENA, leaf, OUT) == CT_BAD_FRAME);
@@ -222,6 +231,6 @@ int main(void) {
                                  : ct_steps(ARENA, walk, (size_t)(k % (CT_WALK_WORDS + 1)), many, (size_t)(k % 47));
         MUST(no == 0 || no == CT_BAD_FRAME);
     }
-    printf("calls: 23 calls, their words, short slices, refusals and made-up walks are as the header says\n");
+    printf("calls: 24 calls, their words, short slices, refusals and made-up walks are as the header says\n");
     return 0;
 }

@@ -1,7 +1,7 @@
 /*
  * How much stack the calls take: each call runs on a painted stack of its own, and the lowest byte that is no longer paint tells how deep
- * it went, less what an empty call takes there. Prints bytes per call, the most over all its runs; fails where a lookup (search, lower
- * bound, floor, step, steps) takes over LOOKUP_LIMIT bytes, and where an answer is wrong, since a refusal measures nothing.
+ * it went, less what an empty call takes there. Prints bytes per call, the most over all its runs; fails where a lookup (search, as of,
+ * lower bound, floor, step, steps) takes over LOOKUP_LIMIT bytes, and where an answer is wrong, since a refusal measures nothing.
  */
 #include "cresttrestle.h"
 
@@ -54,6 +54,8 @@ static uint32_t __attribute__((noinline)) nothing(uint64_t *o, size_t n) { retur
 
 static void run_nothing(void) { answer = nothing(OUT); }
 static void run_search(void) { answer = ct_search(ARENA, leaf, key, key_len, OUT); }
+static uint64_t as_of;
+static void run_as_of(void) { answer = ct_as_of(ARENA, leaf, key, key_len, as_of, 0, OUT); }
 static void run_lower_bound(void) { answer = ct_lower_bound(ARENA, leaf, key, key_len, UINT64_MAX, UINT32_MAX, OUT); }
 static void run_floor(void) { answer = ct_floor(ARENA, intl, key, key_len, OUT); }
 static void run_step(void) { answer = ct_step(ARENA, WALK, OUT); }
@@ -183,6 +185,16 @@ int main(void) {
         must(answer == 0 && out[0] == (uint64_t)(k % 2 == 0), "ct_search");
     }
     tell("ct_search", 1);
+    /* head, both older versions, none; among them values in remote frames */
+    for (int k = 0; k < 2 * KEYS; k++) {
+        name('a', k);
+        for (as_of = 0; as_of < 5; as_of++) {
+            run(run_as_of);
+            uint64_t ver = k % 2 == 1 ? 0 : as_of < 3 ? as_of : 3;
+            must(answer == 0 && out[0] == (uint64_t)(ver != 0) && out[2] == ver, "ct_as_of");
+        }
+    }
+    tell("ct_as_of", 1);
     for (int k = 0; k < 2 * KEYS; k++) {
         name('a', k);
         run(run_lower_bound);

@@ -33,6 +33,8 @@ use Rattle.capi.proofs.ct_hint as hint-fn
 use Rattle.capi.proofs.ct_hint.Reads as hint
 use Rattle.capi.proofs.ct_search as search-fn
 use Rattle.capi.proofs.ct_search.Reads as search
+use Rattle.capi.proofs.ct_as_of as as-of-fn
+use Rattle.capi.proofs.ct_as_of.Reads as as-of
 use Rattle.capi.proofs.ct_lower_bound as lower-bound-fn
 use Rattle.capi.proofs.ct_lower_bound.Reads as lower-bound
 use Rattle.capi.proofs.ct_floor as floor-fn
@@ -104,6 +106,9 @@ hint-decided κs s at n k out = both (λ (x : AtExit hint-fn.ended κs). now (x 
 
 pub search-decided : (κs : Lfts 3) (s : RefT (List ℕ)) (at : ℕ) (key out : RefT (List ℕ)) → Both (λ (r : ℕ) (x : AtExit search-fn.ended κs). search.Post κs (s, (at, (key, (out, tt)))) r x) (λ (x : AtExit search-fn.ended κs). now (x .1 .1 .1 .0))
 search-decided κs s at key out = both (λ (x : AtExit search-fn.ended κs). now (x .1 .1 .1 .0)) _ _
+
+pub as-of-decided : (κs : Lfts 3) (s : RefT (List ℕ)) (at : ℕ) (key : RefT (List ℕ)) (txid cmd : ℕ) (out : RefT (List ℕ)) → Both (λ (r : ℕ) (x : AtExit as-of-fn.ended κs). as-of.Post κs (s, (at, (key, (txid, (cmd, (out, tt)))))) r x) (λ (x : AtExit as-of-fn.ended κs). now (x .1 .1 .1 .1 .1 .0))
+as-of-decided κs s at key txid cmd out = both (λ (x : AtExit as-of-fn.ended κs). now (x .1 .1 .1 .1 .1 .0)) _ _
 
 pub lower-bound-decided : (κs : Lfts 3) (s : RefT (List ℕ)) (at : ℕ) (key : RefT (List ℕ)) (txid cmd : ℕ) (out : RefT (List ℕ)) → Both (λ (r : ℕ) (x : AtExit lower-bound-fn.ended κs). lower-bound.Post κs (s, (at, (key, (txid, (cmd, (out, tt)))))) r x) (λ (x : AtExit lower-bound-fn.ended κs). now (x .1 .1 .1 .1 .1 .0))
 lower-bound-decided κs s at key txid cmd out = both (λ (x : AtExit lower-bound-fn.ended κs). now (x .1 .1 .1 .1 .1 .0)) _ _

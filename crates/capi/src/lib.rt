@@ -14,6 +14,8 @@ ghost use Rattle.pages.specs.HintsAt.{historyHintsAt, remoteHintsAt, hintIn};
 ghost use Rattle.pages.specs.Refused.{checkedNumber, boundsNumber, hintsNumber};
 ghost use Rattle.sst.specs.Search.{searchAt, floorAt, lowerAt};
 ghost use Rattle.sst.specs.Refused.{foundNumber, floorNumber, boundNumber};
+ghost use Rattle.asof.specs.AsOf.{asOfAt};
+ghost use Rattle.asof.specs.Refused.{asOfNumber};
 ghost use Rattle.walks.specs.Walk.{forwardAt, backwardAt, stepAt};
 ghost use Rattle.walks.specs.Refused.{begunNumber, stepNumber};
 ghost use Rattle.image.specs.Prefix.{common};
@@ -27,7 +29,7 @@ ghost use Rattle.delta.specs.Refused as refused;
 ghost use Rattle.overlay.specs.Overlay.{laidAt, laidNumber};
 ghost use Rattle.runs.specs.Steps.{runOf, runWords, roomIn, runNumber, runWalk, runEnd, runSays, stepsAt, stepsWords};
 ghost use Rattle.words.specs.Words.{written, sheetIn, pastIn, walkIn, sheetWords, walkWords, itemWords, branchWords, endWords, stepWords, movedWords};
-ghost use Rattle.tells.specs.Answers.{prefixWords, builtWords, boundsWords, pageWords, hintsWords, hintsFrom, hintWords, foundWords, boundWords, floorWords, begunWords, leafKeyWords, indexKeyWords, valueWords, childWords, laidWords};
+ghost use Rattle.tells.specs.Answers.{prefixWords, builtWords, boundsWords, pageWords, hintsWords, hintsFrom, hintWords, foundWords, asOfWords, boundWords, floorWords, begunWords, leafKeyWords, indexKeyWords, valueWords, childWords, laidWords};
 use delta::Child;
 use delta::IndexKey;
 use delta::LeafKey;
@@ -287,6 +289,22 @@ pub extern "C" fn ct_search(arena: &[u8], at: u64, key: &[u8], out: &mut [u64]) 
 {
     let x = sst::search_ver_val_by_raw(arena, Addr(at), key);
     tells::tell_found(out, x)
+}
+
+#[no_mangle]
+pub extern "C" fn ct_as_of(
+    arena: &[u8],
+    at: u64,
+    key: &[u8],
+    txid: u64,
+    cmd: u32,
+    out: &mut [u64],
+) -> u32
+    ensures { λ r. ⌜ r ≡ asOfNumber (asOfAt (now (arena .entry)) (addr at) (now (key .entry)) (verOf txid cmd)) ⌝ }
+    ensures { λ _. ⌜ now (out .exit) ≡ written (asOfWords (asOfAt (now (arena .entry)) (addr at) (now (key .entry)) (verOf txid cmd))) (now (out .entry)) ⌝ }
+{
+    let x = asof::as_of(arena, Addr(at), key, Ver::new(txid, cmd));
+    tells::tell_as_of(out, x)
 }
 
 #[no_mangle]

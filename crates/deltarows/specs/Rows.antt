@@ -32,7 +32,8 @@ use Rattle.delta.specs.Built.{lengthsOk, judged, leafBuilt, indexBuilt}
 use Rattle.delta.specs.Read.{deltaIs, leafKeyAt, indexKeyAt, valueAt, childAt}
 use Rattle.delta.specs.Read as D
 use Rattle.overlay.specs.declared.Laid.{Laid}
-use Rattle.overlay.specs.Overlay.{headSlot, headAt, pageValue, isProbe, deltaValue, laidBy, laidAt}
+use Rattle.found.specs.Head.{headSlot, headAt}
+use Rattle.overlay.specs.Overlay.{pageValue, isProbe, deltaValue, laidBy, laidAt}
 
 abbrev builtRow : Built → List ℕ → List ℕ
 builtRow (Built.At a n) image = 0 ∷ a .0 ∷ n ∷ image

@@ -24,10 +24,11 @@ use Rattle.sst.specs.declared.Outcome.{Outcome}
 use Rattle.sst.specs.Search.{leaves, outcomeAt, foundRec, headIn, searchOf, searchAt}
 use Rattle.delta.specs.declared.LeafKey.{LeafKey}
 use Rattle.delta.specs.Read.{leafKeyAt}
-use Rattle.overlay.specs.declared.Head.{Head}
+use Rattle.found.specs.declared.Head.{Head}
+use Rattle.found.specs.Head.{headOf, headAt}
+use Rattle.found.proofs.Heads.{head-from}
 use Rattle.overlay.specs.declared.Laid.{Laid}
-use Rattle.overlay.specs.Overlay.{headOf, headAt, pageRec, pageValue, isProbe, deltaValue, laidBy, laidAt}
-use Rattle.overlay.proofs.Heads.{head-from}
+use Rattle.overlay.specs.Overlay.{pageRec, pageValue, isProbe, deltaValue, laidBy, laidAt}
 
 -- "the delta's key is the probe": the very same bytes
 pub probe-same : (t : List ℕ) (key : Place) (probe : List ℕ) → partIn t key ≡ probe → isProbe t key probe ≡ true
@@ -60,15 +61,15 @@ module _ (s : List ℕ) (a : Addr) (t : List ℕ) (d : Addr) (probe : List ℕ) 
     bad-page r e = on ∙ rw e refl
 
     -- "or the page has none": the delta's value
-    pub delta-alone : headAt s a probe ≡ Head.Nothing → partIn t key ≡ probe → laidAt s a t d probe ≡ deltaValue t d
+    pub delta-alone : (n : ℕ) → headAt s a probe ≡ Head.Nothing n → partIn t key ≡ probe → laidAt s a t d probe ≡ deltaValue t d
     unfolding laidBy
-    delta-alone e p = on ∙ rw (e, probe-same t key probe p) refl
+    delta-alone n e p = on ∙ rw (e, probe-same t key probe p) refl
 
-    pub neither : headAt s a probe ≡ Head.Nothing → isProbe t key probe ≡ false → laidAt s a t d probe ≡ Laid.Nothing
+    pub neither : (n : ℕ) → headAt s a probe ≡ Head.Nothing n → isProbe t key probe ≡ false → laidAt s a t d probe ≡ Laid.Nothing
     unfolding laidBy
-    neither e p = on ∙ rw (e, p) refl
+    neither n e p = on ∙ rw (e, p) refl
 
-    module _ (b : Body) (i : ℕ) (v : Ver) (e : headAt s a probe ≡ Head.Is b i v) where
+    module _ (b : Body) (i : ℕ) (v : Ver) (at m : ℕ) (e : headAt s a probe ≡ Head.Is b i v at m) where
       -- "it is no older than the page's head"; equal versions: the delta
       pub delta-wins : partIn t key ≡ probe → newerThan v ver ≡ false → laidAt s a t d probe ≡ deltaValue t d
       unfolding laidBy
@@ -89,7 +90,7 @@ module _ (s : List ℕ) (a : Addr) (t : List ℕ) (d : Addr) (probe : List ℕ) 
 
 -- ---- the page's side is search's: the same head, and the same place of its value
 
-pub none-searched : (s : List ℕ) (a : Addr) (probe : List ℕ) (n : ℕ) → searchAt s a probe ≡ Found.Nothing n → headAt s a probe ≡ Head.Nothing
+pub none-searched : (s : List ℕ) (a : Addr) (probe : List ℕ) (n : ℕ) → searchAt s a probe ≡ Found.Nothing n → headAt s a probe ≡ Head.Nothing n
 unfolding searchAt headAt headIn
 none-searched s a probe n e = go (outcomeAt s a probe leaves) e
   where
@@ -97,20 +98,18 @@ none-searched s a probe n e = go (outcomeAt s a probe leaves) e
     rec i m (RecRead.Is r) e′ = let z : _≡_ {A = ℕ} 0 1 = cc in omega arith
     rec i m RecRead.Bad e′ = let z : _≡_ {A = ℕ} 0 1 = cc in omega arith
 
-    go : (o : Outcome) → searchOf s o ≡ Found.Nothing n → headOf s o ≡ Head.Nothing
+    go : (o : Outcome) → searchOf s o ≡ Found.Nothing n → headOf s o ≡ Head.Nothing n
     go (Outcome.Halves b (Halved.At i m)) e′ = absurd (rec i m (recAt s b i) e′)
-    go (Outcome.Halves b (Halved.End p m)) e′ = refl
+    go (Outcome.Halves b (Halved.End p m)) e′ = cc
     go (Outcome.Halves b Halved.Bad) e′ = absurd (let z : _≡_ {A = ℕ} 0 1 = cc in omega arith)
-    go Outcome.Empty e′ = refl
+    go Outcome.Empty e′ = cc
     go (Outcome.Refused r) e′ = absurd (let z : _≡_ {A = ℕ} 0 1 = cc in omega arith)
 
-pub page-searched : (s : List ℕ) (a : Addr) (probe : List ℕ) (b : Body) (i : ℕ) (v w : Ver) (h : HistRef) (p : Place) (j n : ℕ)
-    → headAt s a probe ≡ Head.Is b i v → searchAt s a probe ≡ Found.Is j w h p n → pageValue s b i ≡ Laid.Page p
+pub page-searched : (s : List ℕ) (a : Addr) (probe : List ℕ) (b : Body) (i : ℕ) (v w : Ver) (h : HistRef) (p : Place) (at m j n : ℕ)
+    → headAt s a probe ≡ Head.Is b i v at m → searchAt s a probe ≡ Found.Is j w h p n → pageValue s b i ≡ Laid.Page p
 unfolding searchAt headIn pageValue
-page-searched s a probe b i v w h p j n e f =
-    let g = head-from s a probe b i v e in
-    go (recAt s b i) (sym (ap (searchOf s) (g .found)) ∙ f)
+page-searched s a probe b i v w h p at m j n e f = go (recAt s b i) (sym (ap (searchOf s) (head-from s a probe b i v at m e .found)) ∙ f)
   where
-    go : (r : RecRead) → foundRec s i (head-from s a probe b i v e .reads) r ≡ Found.Is j w h p n → pageRec r ≡ Laid.Page p
+    go : (r : RecRead) → foundRec s i m r ≡ Found.Is j w h p n → pageRec r ≡ Laid.Page p
     go (RecRead.Is r) q = let x : place (r .«val_at») (r .«val_len») ≡ p = cc in ap Laid.Page x
     go RecRead.Bad q = absurd (let z : _≡_ {A = ℕ} 0 1 = cc in omega arith)

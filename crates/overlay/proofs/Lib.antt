@@ -1,4 +1,3 @@
-pub mod Heads
 pub mod Laws
 pub mod Searched
 pub mod Decided

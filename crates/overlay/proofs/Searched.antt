@@ -23,10 +23,11 @@ use Rattle.sst.specs.Search.{leaves, outcomeAt, foundRec, headIn, searchOf, sea
 use Rattle.sst.specs.Says.{FoundSays}
 use Rattle.sst.proofs.Opens.{outcome-ready}
 use Rattle.sst.proofs.Answers.{search-says, search-not-four}
+use Rattle.found.specs.Head.{headOf, headSlot, headAt}
 use Rattle.delta.specs.declared.LeafKey.{LeafKey}
 use Rattle.delta.specs.Read.{leafKeyAt}
 use Rattle.overlay.specs.declared.Laid.{Laid}
-use Rattle.overlay.specs.Overlay.{headOf, headSlot, headAt, pageValue, isProbe, deltaValue, laidBy, laidAt}
+use Rattle.overlay.specs.Overlay.{pageValue, isProbe, deltaValue, laidBy, laidAt}
 
 -- "If the delta's key is the probe (mine) and it is no older than the page's head, or the page has none, its value is handed back from the
 -- delta's buffer; otherwise the page's", beside what search found on the page
@@ -37,7 +38,7 @@ beside t d mine ver (Found.Refused r) = Laid.Refused r
 
 module _ (s : List ℕ) (a : Addr) (t : List ℕ) (d : Addr) (probe : List ℕ) (mine : Bool) (ver : Ver) where
   of-record : (b : Body) (i n : ℕ) → Inside s b → (r : RecRead) → recAt s b i ≡ r → (foundRec s i n r ≡ Found.Refused Refusal.BadFrame → ⊥)
-      → laidBy s t d mine ver (headSlot s b i) ≡ beside t d mine ver (foundRec s i n r)
+      → laidBy s t d mine ver (headSlot s b i n) ≡ beside t d mine ver (foundRec s i n r)
   unfolding laidBy headSlot pageValue
   of-record b i n j (RecRead.Is r) e f = rw (at-inside s b i r j e .1, e) refl
   of-record b i n j RecRead.Bad e f = absurd (f refl)

@@ -10,42 +10,19 @@ use Rattle.frames.specs.declared.Addr.{Addr}
 use Rattle.frames.specs.declared.Body.{Body}
 use Rattle.frames.specs.declared.Refusal.{Refusal}
 use Rattle.frames.specs.Refusals.{numberOf}
-use Rattle.values.specs.declared.KeyRead.{KeyRead}
 use Rattle.records.specs.declared.RecRead.{RecRead}
-use Rattle.records.specs.Records.{verIn, keyAtSlot, recAt}
+use Rattle.records.specs.Records.{recAt}
 use Rattle.pages.specs.declared.Place.{Place}
 use Rattle.pages.specs.Edges.{place, partIn}
-use Rattle.sst.specs.declared.Halved.{Halved}
-use Rattle.sst.specs.declared.Outcome.{Outcome}
-use Rattle.sst.specs.Search.{leaves, outcomeAt}
+use Rattle.found.specs.declared.Head.{Head}
+use Rattle.found.specs.Head.{headAt}
 use Rattle.delta.specs.declared.LeafKey.{LeafKey}
 use Rattle.delta.specs.declared.Value.{Value}
 use Rattle.delta.specs.Read.{leafKeyAt, valueAt}
-use Rattle.overlay.specs.declared.Head.{Head}
 use Rattle.overlay.specs.declared.Laid.{Laid}
 
--- ---- the page's side: the head that a search of the leaf finds, by its halving. "The delta's value and remote are judged only if handed
--- back, the page's likewise", so only its key is read
-
-abbrev pub headKey : List ℕ → Body → ℕ → KeyRead → Head
-headKey s b i (KeyRead.Key v r n) = Head.Is b i (verIn s v)
-headKey s b i KeyRead.Bad = Head.Refused Refusal.BadFrame
-
-unfoldable pub headSlot : List ℕ → Body → ℕ → Head
-headSlot s b i = headKey s b i (keyAtSlot s b i)
-
-abbrev pub headIn : List ℕ → Body → Halved → Head
-headIn s b (Halved.At i n) = headSlot s b i
-headIn s b (Halved.End p n) = Head.Nothing
-headIn s b Halved.Bad = Head.Refused Refusal.BadFrame
-
-abbrev pub headOf : List ℕ → Outcome → Head
-headOf s (Outcome.Halves b h) = headIn s b h
-headOf s Outcome.Empty = Head.Nothing
-headOf s (Outcome.Refused r) = Head.Refused r
-
-unfoldable pub headAt : List ℕ → Addr → List ℕ → Head
-headAt s a probe = headOf s (outcomeAt s a probe leaves)
+-- ---- the page's side: the head that a search of the leaf finds (`found`). "The delta's value and remote are judged only if handed back,
+-- the page's likewise", so only its key is read
 
 -- "otherwise the page's"
 abbrev pub pageRec : RecRead → Laid
@@ -73,8 +50,8 @@ deltaValue t d = deltaVal (valueAt t d)
 -- the delta's buffer; otherwise the page's"
 
 unfoldable pub laidBy : List ℕ → List ℕ → Addr → Bool → Ver → Head → Laid
-laidBy s t d mine ver (Head.Is b i v) = cond (mine && not (newerThan v ver)) (deltaValue t d) (pageValue s b i)
-laidBy s t d mine ver Head.Nothing = cond mine (deltaValue t d) Laid.Nothing
+laidBy s t d mine ver (Head.Is b i v at n) = cond (mine && not (newerThan v ver)) (deltaValue t d) (pageValue s b i)
+laidBy s t d mine ver (Head.Nothing n) = cond mine (deltaValue t d) Laid.Nothing
 laidBy s t d mine ver (Head.Refused r) = Laid.Refused r
 
 -- "Both frames' headers and the delta's key are judged for 4 before the probe for 7": the delta's key first, then the page and the probe

@@ -2,6 +2,7 @@
 // a place; then that part is lent on from the buffer that holds it.
 use delta::LeafKey;
 use delta::Value;
+use found::Head;
 use frames::Addr;
 use frames::Body;
 use frames::Refusal;
@@ -9,21 +10,11 @@ use order::Order;
 use order::Ver;
 use pages::Place;
 use records::RecRead;
-use sst::Halved;
-use sst::Outcome;
-use sst::Want;
-use values::KeyRead;
 ghost use mathlib.Core.Path.{_≡_};
 ghost use Rattle.frames.specs.Layout.{Inside};
-ghost use Rattle.overlay.specs.Overlay.{headSlot, headIn, headAt, isProbe, pageValue, deltaValue, laidBy, laidAt};
+ghost use Rattle.found.specs.Head.{headAt};
+ghost use Rattle.overlay.specs.Overlay.{isProbe, pageValue, deltaValue, laidBy, laidAt};
 ghost use Rattle.overlay.specs.Lent.{PartIs, LentIs};
-
-// The page's head that has the probe as its key: its page, slot and version. Its value is not judged.
-pub enum Head {
-    Is { page: Body, slot: usize, ver: Ver },
-    Nothing,
-    Refused(Refusal),
-}
 
 // Which buffer holds the value and where, none, or why it is refused.
 pub enum Laid {
@@ -34,57 +25,6 @@ pub enum Laid {
 }
 
 // ---- the page's side
-
-// The key of slot i again, for its version.
-fn head_slot(s: &[u8], b: Body, i: usize) -> Head
-    requires { ⌜ Inside (now s) b ⌝ }
-    requires { ⌜ b .kind ≡ 0 ⌝ }
-    ensures { λ r. ⌜ r ≡ headSlot (now (s .entry)) b i ⌝ }
-{
-    let KeyRead::Key {
-        ver_at,
-        rest_at: _,
-        rest_len: _,
-    } = records::key_at(s, b, i)
-    else {
-        return Head::Refused(Refusal::BadFrame);
-    };
-    let v = records::ver_at(s, ver_at);
-    Head::Is {
-        page: b,
-        slot: i,
-        ver: v,
-    }
-}
-
-fn head_in(s: &[u8], b: Body, h: Halved) -> Head
-    requires { ⌜ Inside (now s) b ⌝ }
-    requires { ⌜ b .kind ≡ 0 ⌝ }
-    ensures { λ r. ⌜ r ≡ headIn (now (s .entry)) b h ⌝ }
-{
-    match h {
-        Halved::At(i, _) => head_slot(s, b, i),
-        Halved::End(_, _) => Head::Nothing,
-        Halved::Bad => Head::Refused(Refusal::BadFrame),
-    }
-}
-
-// The head that search finds, by the same halving.
-fn head_at(s: &[u8], a: Addr, probe: &[u8]) -> Head
-    ensures { λ r. ⌜ r ≡ headAt (now (s .entry)) a (now (probe .entry)) ⌝ }
-{
-    let w = Want {
-        leaf: true,
-        index: false,
-        lower: false,
-        ver: Ver::new(0, 0),
-    };
-    match sst::halve_at(s, a, probe, w) {
-        Outcome::Refused(r) => Head::Refused(r),
-        Outcome::Empty => Head::Nothing,
-        Outcome::Halves(b, h) => head_in(s, b, h),
-    }
-}
 
 // The page's value.
 fn page_value(s: &[u8], b: Body, i: usize) -> Laid
@@ -127,15 +67,21 @@ fn delta_value(t: &[u8], d: Addr) -> Laid
 fn laid_by(s: &[u8], a: Addr, t: &[u8], d: Addr, probe: &[u8], mine: bool, ver: Ver) -> Laid
     ensures { λ r. ⌜ r ≡ laidBy (now (s .entry)) (now (t .entry)) d mine ver (headAt (now (s .entry)) a (now (probe .entry))) ⌝ }
 {
-    match head_at(s, a, probe) {
+    match found::head_at(s, a, probe) {
         Head::Refused(r) => Laid::Refused(r),
-        Head::Nothing => {
+        Head::Nothing { reads: _ } => {
             if mine {
                 return delta_value(t, d);
             }
             Laid::Nothing
         }
-        Head::Is { page, slot, ver: v } => {
+        Head::Is {
+            page,
+            slot,
+            ver: v,
+            value: _,
+            reads: _,
+        } => {
             if mine & !v.newer(ver) {
                 return delta_value(t, d);
             }

@@ -11,6 +11,7 @@ use Rattle.pages.specs.declared.Hint.{Hint}
 use Rattle.sst.specs.declared.Found.{Found}
 use Rattle.sst.specs.declared.Bound.{Bound}
 use Rattle.sst.specs.declared.Floor.{Floor}
+use Rattle.asof.specs.declared.AsOf.{AsOf}
 use Rattle.walks.specs.declared.Begun.{Begun}
 use Rattle.image.specs.declared.Built.{Built}
 use Rattle.delta.specs.declared.LeafKey.{LeafKey}
@@ -63,6 +64,11 @@ foundWords (Found.Is slot v h p reads) =
     1 ∷ slot ∷ v .txid ∷ v .cmd ∷ p .at ∷ p .len ∷ h .page .0 ∷ h .slot ∷ h .count ∷ reads ∷ []
 foundWords (Found.Nothing reads) = 0 ∷ 0 ∷ 0 ∷ 0 ∷ 0 ∷ 0 ∷ 0 ∷ 0 ∷ 0 ∷ reads ∷ []
 foundWords (Found.Refused r) = []
+
+abbrev pub asOfWords : AsOf → List ℕ
+asOfWords (AsOf.Is slot v p reads) = 1 ∷ slot ∷ v .txid ∷ v .cmd ∷ p .at ∷ p .len ∷ reads ∷ []
+asOfWords (AsOf.Nothing reads) = 0 ∷ 0 ∷ 0 ∷ 0 ∷ 0 ∷ 0 ∷ reads ∷ []
+asOfWords (AsOf.Refused r) = []
 
 abbrev pub boundWords : Bound → List ℕ
 boundWords (Bound.At p reads) = 1 ∷ p ∷ reads ∷ []

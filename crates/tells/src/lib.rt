@@ -2,12 +2,14 @@
 ghost use mathlib.Core.Path.{_≡_};
 ghost use Rattle.pages.specs.Refused.{boundsNumber, hintsNumber};
 ghost use Rattle.sst.specs.Refused.{foundNumber, floorNumber, boundNumber};
+ghost use Rattle.asof.specs.Refused.{asOfNumber};
 ghost use Rattle.walks.specs.Refused.{begunNumber};
 ghost use Rattle.image.specs.Call as call;
 ghost use Rattle.delta.specs.Refused as refused;
 ghost use Rattle.overlay.specs.Overlay.{laidNumber};
 ghost use Rattle.words.specs.Words.{written};
-ghost use Rattle.tells.specs.Answers.{builtWords, boundsWords, hintsWords, hintWords, foundWords, boundWords, floorWords, begunWords, leafKeyWords, indexKeyWords, valueWords, childWords, laidWords};
+ghost use Rattle.tells.specs.Answers.{builtWords, boundsWords, hintsWords, hintWords, foundWords, asOfWords, boundWords, floorWords, begunWords, leafKeyWords, indexKeyWords, valueWords, childWords, laidWords};
+use asof::AsOf;
 use delta::Child;
 use delta::IndexKey;
 use delta::LeafKey;
@@ -127,6 +129,38 @@ pub fn tell_found(out: &mut [u64], x: Found) -> u32
             0
         }
         Found::Refused(r) => words::no(r),
+    }
+}
+
+pub fn tell_as_of(out: &mut [u64], x: AsOf) -> u32
+    ensures { λ r. ⌜ r ≡ asOfNumber x ⌝ }
+    ensures { λ _. ⌜ now (out .exit) ≡ written (asOfWords x) (now (out .entry)) ⌝ }
+{
+    match x {
+        AsOf::Is {
+            slot,
+            ver,
+            value,
+            reads,
+        } => {
+            words::store_five(
+                out,
+                0,
+                1,
+                slot as u64,
+                ver.txid,
+                ver.cmd as u64,
+                value.at as u64,
+            );
+            words::store_two(out, 5, value.len as u64, reads as u64);
+            0
+        }
+        AsOf::Nothing { reads } => {
+            words::store_five(out, 0, 0, 0, 0, 0, 0);
+            words::store_two(out, 5, 0, reads as u64);
+            0
+        }
+        AsOf::Refused(r) => words::no(r),
     }
 }
 

@@ -11,6 +11,7 @@ use Rattle.spans.specs.Only.{Decides, decides}
 use Rattle.frames.specs.declared.Addr.{Addr}
 use Rattle.frames.specs.declared.Opened.{Opened}
 use Rattle.values.specs.declared.HistRef.{HistRef}
+use Rattle.records.specs.declared.RecRead.{RecRead}
 use Rattle.walks.specs.declared.Sheet.{Sheet}
 use Rattle.walks.specs.declared.Past.{Past}
 use Rattle.walks.specs.declared.Entered.{Entered}
@@ -19,7 +20,9 @@ use Rattle.walks.specs.declared.Item.{Item}
 use Rattle.walks.specs.declared.Branch.{Branch}
 use Rattle.walks.specs.declared.Begun.{Begun}
 use Rattle.walks.specs.declared.Step.{Step}
-use Rattle.walks.specs.Walk.{forwardAt, backwardAt, bodyOf, enterAt, stepAt}
+use Rattle.walks.specs.declared.Aged.{Aged}
+use Rattle.walks.specs.Walk.{forwardAt, backwardAt, bodyOf, readAt, enterAt, stepAt}
+use Rattle.walks.specs.Aged.{agedAt}
 use Rattle.walks.proofs.forward as forward-fn
 use Rattle.walks.proofs.forward.Reads as forward-at
 use Rattle.walks.proofs.backward as backward-fn
@@ -28,6 +31,10 @@ use Rattle.walks.proofs.body_of as body-fn
 use Rattle.walks.proofs.body_of.Reads as body-at
 use Rattle.walks.proofs.enter as enter-fn
 use Rattle.walks.proofs.enter.Reads as enter-at
+use Rattle.walks.proofs.read as read-fn
+use Rattle.walks.proofs.read.Reads as read-at
+use Rattle.walks.proofs.Past.aged as aged-fn
+use Rattle.walks.proofs.Past.aged.Reads as aged-at
 use Rattle.walks.proofs.Walk.step as step-fn
 use Rattle.walks.proofs.Walk.step.Reads as step-at
 use Rattle.walks.proofs.rest_of as rest-fn
@@ -52,6 +59,12 @@ module _ (κs : Lfts 1) (s : RefT (List ℕ)) where
 
   pub step-decided : (w : Walk) (x : AtExit step-fn.ended κs) → Decides (λ (r : Step). step-at.Post κs (w, (s, tt)) r x) (λ (r : Step). r)
   step-decided w x = decides (λ (r : Step). r) (stepAt (now s) w)
+
+  pub read-decided : (v : Sheet) (kind i : ℕ) (x : AtExit read-fn.ended κs) → Decides (λ (r : RecRead). read-at.Post κs (s, (v, (kind, (i, tt)))) r x) (λ (r : RecRead). r)
+  read-decided v kind i x = decides (λ (r : RecRead). r) (readAt (now s) v kind i)
+
+  pub aged-decided : (p : Past) (x : AtExit aged-fn.ended κs) → Decides (λ (r : Aged). aged-at.Post κs (p, (s, tt)) r x) (λ (r : Aged). r)
+  aged-decided p x = decides (λ (r : Aged). r) (agedAt (now s) p)
 
 -- the bytes of a part are decided
 module _ (κs : Lfts 1) (s : RefT (List ℕ)) where

@@ -6,6 +6,8 @@ pub mod Keeps
 pub mod Listing
 pub mod Says
 pub mod Shorter
+pub mod Turns
+pub mod Ages
 pub mod Held
 pub mod Hands
 pub mod Decided

@@ -3,3 +3,5 @@ pub mod Walk
 pub mod Refused
 pub mod Listed
 pub mod Cases
+pub mod Turned
+pub mod Aged

@@ -4,6 +4,8 @@ ghost use mathlib.Core.Path.{_≡_};
 ghost use Prim.Native.Nat.{_+_, _*_, _-_, _≤_, _<_, _^_};
 ghost use lib.ListN.{length};
 ghost use Rattle.spans.specs.Span.{partOr};
+ghost use Rattle.walks.specs.Turned.{turnedAt};
+ghost use Rattle.walks.specs.Aged.{keyOld, agedIn, agedAt};
 ghost use Rattle.walks.specs.Walk.{sheetOf, pastOf, pastOver, upWay, fitsIn, bodyIn, bodyOf, readAt, kindOfWay, upRange, downRange, begunOf, forwardAt, backwardAt, movedOf, onOf, behindOf, itemOf, nextIn, nextOld, enterAt, headStep, stepAt};
 use frames::Addr;
 use frames::BaseHeader;
@@ -16,6 +18,7 @@ use pages::Place;
 use records::Rec;
 use records::RecRead;
 use values::HistRef;
+use values::KeyRead;
 
 // A page as a walk carries it: where it stands, its slots, the boundaries behind them, its end.
 pub struct Sheet {
@@ -245,7 +248,7 @@ pub fn body_of(s: &[u8], v: Sheet, kind: u8) -> Opened
 }
 
 // The record of slot i of a page of this kind that a walk carries.
-fn read(s: &[u8], v: Sheet, kind: u8, i: usize) -> RecRead
+pub fn read(s: &[u8], v: Sheet, kind: u8, i: usize) -> RecRead
     ensures { λ r. ⌜ r ≡ readAt (now (s .entry)) v kind i ⌝ }
 {
     if fits(s.len(), v) {
@@ -323,6 +326,12 @@ pub fn enter(s: &[u8], h: HistRef, was: Past) -> Entered
     Entered::Bad
 }
 
+// Where the next old version stands, and the history page entered, or 0.
+enum Turned {
+    Is(Past, Addr),
+    Bad,
+}
+
 impl Past {
     // Behind the old version at the slot.
     fn after(self) -> Past
@@ -352,21 +361,30 @@ impl Past {
         OldStep::Is(item_of(s, key, r, named), self.after())
     }
 
-    // The same, or, behind the page's last, the first of the page that it links to.
+    // Where the next old version stands: here, or, behind the page's last, first in the page that it links to, which is then named.
+    fn turned(self, s: &[u8]) -> Turned
+        ensures { λ r. ⌜ r ≡ turnedAt (now (s .entry)) self ⌝ }
+    {
+        let page = self.page;
+        if self.slot != page.elems {
+            return Turned::Is(self, Addr(0));
+        }
+        let link = self.link;
+        let Opened::Is(d) = pages::history_at(s, link) else {
+            return Turned::Bad;
+        };
+        Turned::Is(past_over(d, 0, self.left), link)
+    }
+
+    // The old version there.
     fn next(self, s: &[u8], key: Place) -> OldStep
         requires { ⌜ 0 < self .left ⌝ }
         ensures { λ r. ⌜ r ≡ nextOld (now (s .entry)) key self ⌝ }
     {
-        let page = self.page;
-        if self.slot != page.elems {
-            return self.here(s, key, Addr(0));
-        }
-        let link = self.link;
-        let Opened::Is(d) = pages::history_at(s, link) else {
+        let Turned::Is(past, named) = self.turned(s) else {
             return OldStep::Bad;
         };
-        let first = past_over(d, 0, self.left);
-        first.here(s, key, link)
+        past.here(s, key, named)
     }
 }
 
@@ -458,6 +476,60 @@ impl Walk {
             return self.head(s);
         }
         Step::End
+    }
+}
+
+// ---- the versions of a history without their values, for a lookup as of a version
+
+// The next old version by its key alone: its version and slot, and what is left behind it, on the same page.
+pub enum Aged {
+    Is { ver: Ver, slot: usize, rest: Past },
+    End,
+    Bad,
+}
+
+// The key of slot i of a history page that a walk carries.
+fn key_old(s: &[u8], v: Sheet, i: usize) -> KeyRead
+    ensures { λ r. ⌜ r ≡ keyOld (now (s .entry)) v i ⌝ }
+{
+    if fits(s.len(), v) {
+        return records::key_at(s, body_in(v, Body::HISTORY), i);
+    }
+    KeyRead::Bad
+}
+
+impl Past {
+    fn aged_here(self, s: &[u8]) -> Aged
+        requires { ⌜ 0 < self .left ⌝ }
+        ensures { λ r. ⌜ r ≡ agedIn (now (s .entry)) self ⌝ }
+    {
+        let page = self.page;
+        let KeyRead::Key {
+            ver_at,
+            rest_at: _,
+            rest_len: _,
+        } = key_old(s, page, self.slot)
+        else {
+            return Aged::Bad;
+        };
+        Aged::Is {
+            ver: records::ver_at(s, ver_at),
+            slot: self.slot,
+            rest: self.after(),
+        }
+    }
+
+    // The version that the walk would list next: its value stays unread, and so does its remote frame.
+    pub fn aged(self, s: &[u8]) -> Aged
+        ensures { λ r. ⌜ r ≡ agedAt (now (s .entry)) self ⌝ }
+    {
+        if self.left == 0 {
+            return Aged::End;
+        }
+        let Turned::Is(past, _) = self.turned(s) else {
+            return Aged::Bad;
+        };
+        past.aged_here(s)
     }
 }
 

@@ -141,6 +141,17 @@ unsafe extern "C" {
         out: *mut u64,
         out_len: usize,
     ) -> u32;
+    fn ct_as_of(
+        arena: *const u8,
+        arena_len: usize,
+        addr: u64,
+        key: *const u8,
+        key_len: usize,
+        txid: u64,
+        cmd: u32,
+        out: *mut u64,
+        out_len: usize,
+    ) -> u32;
     fn ct_lower_bound(
         arena: *const u8,
         arena_len: usize,
@@ -436,6 +447,14 @@ pub(crate) fn hint(arena: &[u8], at: u64, count: u64, k: u64) -> Words<1> {
 pub(crate) fn search(arena: &[u8], addr: u64, key: &[u8]) -> Words<10> {
     words(|out, n| unsafe {
         ct_search(arena.as_ptr(), arena.len(), addr, key.as_ptr(), key.len(), out, n)
+    })
+}
+
+#[inline]
+pub(crate) fn as_of(arena: &[u8], addr: u64, key: &[u8], txid: u64, cmd: u32) -> Words<7> {
+    let (probe, len) = (key.as_ptr(), key.len());
+    words(|out, n| unsafe {
+        ct_as_of(arena.as_ptr(), arena.len(), addr, probe, len, txid, cmd, out, n)
     })
 }
 

@@ -4,7 +4,7 @@
 //! `std` and allocates nothing (feature `alloc` adds lists and keys that own their bytes). Every call ends on every input, damaged
 //! bytes included, and answers or is refused with a [`Refusal`]; a refusal changes nothing.
 //!
-//! Build a page of a list, look a row up, walk it:
+//! Build a page of a list, look a row up, also as it was at an older version, walk it:
 //!
 //! ```
 //! use cresttrestle::{Arena, Bounds, Build, RowList, Ver};
@@ -23,6 +23,8 @@
 //! let page = arena.page(leaf);
 //! let found = page.search(b"7 -30.0")?.expect("a row");
 //! assert_eq!(found.value, b"-1840 cm");
+//! let last_season = page.as_of(b"7 -30.0", Ver::of_txid(10))?.expect("a row that old");
+//! assert_eq!((last_season.ver.txid, last_season.value), (9, &b"-1790 cm"[..]));
 //! for row in page.walk(..)?.rows() {
 //!     let row = row?;
 //!     println!("{:?} {}: {}", row.key, row.ver.txid, row.value.escape_ascii());
@@ -48,6 +50,6 @@ pub use arena::{Arena, Bounds, Build, calc_prefix};
 pub use delta::{Delta, Laid};
 pub use list::{IndexList, Lent, ListFull, Room, RowList};
 pub use names::{Addr, PageId, Ver};
-pub use page::{Bound, Floor, Found, Hints, History, Info, Kind, Page, View};
+pub use page::{AsOf, Bound, Floor, Found, Hints, History, Info, Kind, Page, View};
 pub use refusal::Refusal;
 pub use walk::{Child, Key, Record, Row, Walk};

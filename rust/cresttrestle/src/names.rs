@@ -103,4 +103,14 @@ impl Ver {
     pub const fn new(txid: u64, cmd: u32) -> Ver {
         Ver { txid, cmd }
     }
+
+    /// The largest version of a transaction: as of it, all that the transaction wrote is there.
+    ///
+    /// ```
+    /// # use cresttrestle::Ver;
+    /// assert!(Ver::of_txid(7) >= Ver::new(7, 3) && Ver::of_txid(7) < Ver::new(8, 0));
+    /// ```
+    pub const fn of_txid(txid: u64) -> Ver {
+        Ver { txid, cmd: u32::MAX }
+    }
 }

@@ -76,7 +76,7 @@ pub struct Info<'a> {
     pub sibling: Option<PageId>,
 }
 
-/// Where a row's older versions stand. A walk reads them; a search only names them.
+/// Where a row's older versions stand. A walk reads them, [`Page::as_of`] looks one up; a search only names them.
 #[derive(Clone, Copy, Debug, PartialEq, Eq)]
 pub struct History {
     /// The first history page.
@@ -98,6 +98,17 @@ pub struct Found<'a> {
     pub value: &'a [u8],
     /// Its older versions.
     pub history: Option<History>,
+}
+
+/// The row of a key as of a version: its newest that is no newer.
+#[derive(Clone, Copy, Debug, PartialEq, Eq)]
+pub struct AsOf<'a> {
+    /// The key's position in the page.
+    pub slot: usize,
+    /// The row's own version, at most the one that was asked for.
+    pub ver: Ver,
+    /// Its value, in its page or in a frame of its own.
+    pub value: &'a [u8],
 }
 
 /// Where a lower bound stands.
@@ -215,6 +226,47 @@ impl<'a> Page<'a> {
             }),
         });
         Ok((found, reads as u32))
+    }
+
+    /// The row of a key in a leaf as of a version: its newest row that is no newer, whether it is the key's newest or stands in its
+    /// history; none where all are newer or the key is absent. What is refused is as for [`search`](Page::search).
+    ///
+    /// Last season's flights were reduced with the correction of transaction 7; two newer ones have been written since:
+    ///
+    /// ```
+    /// # use cresttrestle::{Arena, AsOf, Bounds, Build, RowList, Ver};
+    /// # let (mut bytes, mut buffer) = ([0; 512], [0; 128]);
+    /// # let mut arena = Arena::new(&mut bytes);
+    /// # let mut list = RowList::lent(&mut buffer)?;
+    /// # list.push(b"7 -30.0", Ver::new(12, 0), b"-1840 cm")?;
+    /// # list.push(b"7 -30.0", Ver::new(9, 0), b"-1790 cm")?;
+    /// # list.push(b"7 -30.0", Ver::new(6, 2), b"-1755 cm")?;
+    /// # let leaf = arena.new_leaf(list.bytes(), Bounds::default(), Build::default())?;
+    /// let page = arena.page(leaf); // versions (12, 0), (9, 0), (6, 2)
+    /// let then = page.as_of(b"7 -30.0", Ver::of_txid(7))?.expect("a row");
+    /// assert_eq!((then.ver, then.value), (Ver::new(6, 2), &b"-1755 cm"[..]));
+    /// assert_eq!(page.as_of(b"7 -30.0", Ver::new(9, 0))?.unwrap().value, b"-1790 cm"); // no newer: itself too
+    /// assert_eq!(page.as_of(b"7 -30.0", Ver::of_txid(5))?, None); // all are newer
+    /// # let newest = page.as_of(b"7 -30.0", Ver::NEWEST)?.unwrap();
+    /// # assert_eq!(newest, AsOf { slot: 0, ver: Ver::new(12, 0), value: b"-1840 cm" });
+    /// # assert_eq!(page.as_of(b"8 -30.0", Ver::NEWEST)?, None);
+    /// # Ok::<(), Box<dyn std::error::Error>>(())
+    /// ```
+    pub fn as_of(self, key: &[u8], ver: Ver) -> Result<Option<AsOf<'a>>, Refusal> {
+        self.as_of_counted(key, ver).map(|(row, _)| row)
+    }
+
+    /// The same, with the number of keys read in this page; versions skipped in the history are not counted.
+    #[inline]
+    pub fn as_of_counted(self, key: &[u8], ver: Ver) -> Result<(Option<AsOf<'a>>, u32), Refusal> {
+        let [found, slot, txid, cmd, value, value_len, reads] =
+            ffi::as_of(self.bytes, self.addr.get(), key, ver.txid, ver.cmd)?;
+        let row = (found == 1).then(|| AsOf {
+            slot: slot as usize,
+            ver: Ver::new(txid, cmd as u32),
+            value: part(self.bytes, value, value_len),
+        });
+        Ok((row, reads as u32))
     }
 
     /// The first position whose key and version do not come before these, of a leaf or index page (which ignores the version).

@@ -74,6 +74,33 @@ fn p7_history() {
 }
 
 #[test]
+fn p7_as_of() {
+    let mut bytes = [0; 512];
+    let mut arena = Arena::new(&mut bytes);
+    let bounds = Bounds { lo: b"a", hi: Some(b"ab"), sibling: None };
+    let leaf = arena.new_leaf(&rows(P7), bounds, Build::default()).unwrap();
+    let empty = arena.new_leaf(&rows(&[]), bounds, Build::default()).unwrap();
+    let page = arena.page(leaf);
+    let head = Some(AsOf { slot: 0, ver: Ver::new(5, 0), value: b"xy" });
+    let old = Some(AsOf { slot: 0, ver: Ver::new(3, 0), value: b"z" });
+    for (ver, row) in [
+        (Ver::NEWEST, head),
+        (Ver::new(5, 0), head),
+        (Ver::of_txid(4), old),
+        (Ver::new(3, 0), old),
+        (Ver::of_txid(2), None),
+        (Ver::default(), None),
+    ] {
+        assert_eq!(page.as_of_counted(b"a", ver), Ok((row, 1)), "as of {ver:?}");
+    }
+    assert_eq!(page.as_of_counted(b"ab", Ver::NEWEST), Ok((None, 1)));
+    assert_eq!(page.as_of(b"b", Ver::NEWEST), Err(Refusal::WrongPrefix));
+    // an empty page answers before the probe is judged; a history page is no leaf
+    assert_eq!(arena.page(empty).as_of_counted(b"b", Ver::NEWEST), Ok((None, 0)));
+    assert_eq!(arena.page(Addr::new(8)).as_of(b"a", Ver::NEWEST), Err(Refusal::BadFrame));
+}
+
+#[test]
 fn p9_floor() {
     let mut buffer = [0; 64];
     let mut list = IndexList::lent(&mut buffer).unwrap();

@@ -73,6 +73,11 @@ pub enum Read {
     Search {
         key: Vec<u8>,
     },
+    AsOf {
+        key: Vec<u8>,
+        txid: u64,
+        cmd: u32,
+    },
     Walk {
         begin: u64,
         end: u64,
@@ -219,6 +224,7 @@ impl Op {
                 Read::Lower { .. } => "lower bound",
                 Read::Floor { .. } => "floor",
                 Read::Search { .. } => "search",
+                Read::AsOf { .. } => "as of",
                 Read::Walk { .. } => "walk",
                 Read::Back { .. } => "walk back",
                 Read::Range { .. } => "range",

@@ -68,10 +68,15 @@ fn entries() -> Vec<Case> {
                 cmd: 0,
                 value: Vec::new(),
             });
+            let as_of = |txid| ask(1, Read::AsOf { key: b"k".to_vec(), txid, cmd: 0 });
             vec![
                 leaf(1, versions.collect()),
                 ask(1, Read::Check),
                 ask(1, Read::Search { key: b"k".to_vec() }),
+                as_of(70_000),
+                as_of(30_000),
+                as_of(4_466),
+                as_of(4_465),
             ]
         }),
         case(6_000_000, {

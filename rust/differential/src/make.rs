@@ -38,6 +38,8 @@ struct Page {
     index: bool,
     prefix: Vec<u8>,
     keys: Vec<Vec<u8>>,
+    /// A leaf's rows.
+    rows: Vec<Row>,
 }
 
 /// Where a leaf built at 8 ends, from the oracle.
@@ -192,6 +194,8 @@ impl Make {
                 self.read(page.at, Read::Floor { key: probe.clone() });
             } else {
                 self.read(page.at, Read::Search { key: probe.clone() });
+                let (txid, cmd) = self.version();
+                self.read(page.at, Read::AsOf { key: probe.clone(), txid, cmd });
             }
             if k % 3 == 0 {
                 let other = self.rng.pick(&probes);
@@ -202,6 +206,27 @@ impl Make {
         }
         if self.rng.once_in(6) {
             self.read(page.at, Read::Delta);
+        }
+        if !page.rows.is_empty() {
+            self.ask_versions(page);
+        }
+    }
+
+    /// A key as of its versions, of several where they are many: at each, just above it and just below; and as of the least and the
+    /// largest. A row is drawn, not a key, so that keys with many versions come often.
+    fn ask_versions(&mut self, page: &Page) {
+        let key = self.rng.pick(&page.rows).key;
+        let all: Vec<(u64, u32)> =
+            page.rows.iter().filter(|row| row.key == key).map(|row| (row.txid, row.cmd)).collect();
+        let mut versions = vec![(0, 0), (u64::MAX, u32::MAX)];
+        let some = all.iter().step_by(all.len().div_ceil(4));
+        for &(txid, cmd) in some.chain(all.last().filter(|_| all.len() > 4)) {
+            let below = if cmd > 0 { (txid, cmd - 1) } else { (txid - 1, u32::MAX) };
+            let above = if cmd < u32::MAX { (txid, cmd + 1) } else { (txid + 1, 0) };
+            versions.extend([(txid, cmd), below, above]);
+        }
+        for (txid, cmd) in versions {
+            self.read(page.at, Read::AsOf { key: key.clone(), txid, cmd });
         }
     }
 
@@ -258,8 +283,8 @@ impl Make {
         let (place, sizes) = (self.place(&prefix), self.sizes());
         let keys = self.keys(&prefix, most);
         let rows = self.rows(&keys, sizes.limit as usize, sizes.budget);
-        let at = self.build_leaf(Next::Free, sizes, place, rows);
-        Page { at, index: false, prefix, keys }
+        let at = self.build_leaf(Next::Free, sizes, place, rows.clone());
+        Page { at, index: false, prefix, keys, rows }
     }
 
     fn leaf_case(&mut self) -> usize {
@@ -281,7 +306,14 @@ impl Make {
         let keys = self.keys(&prefix, 40);
         let children = self.children(&keys);
         let left = self.build_index(Next::Free, place, children);
-        self.ask(&Page { at: left, index: true, prefix: prefix.clone(), keys: keys.clone() }, 8);
+        let index = |at, prefix: &[u8], keys: &[Vec<u8>]| Page {
+            at,
+            index: true,
+            prefix: prefix.to_vec(),
+            keys: keys.to_vec(),
+            rows: Vec::new(),
+        };
+        self.ask(&index(left, &prefix, &keys), 8);
         if self.rng.once_in(2) {
             // merged with a second part, which may be in order or not
             let more = sample::keys(&mut self.rng, &prefix, 4);
@@ -295,7 +327,7 @@ impl Make {
             let right_at = self.build_index(Next::Free, place, children);
             let sizes = self.sizes();
             let at = self.merge(left, right_at, sizes);
-            self.ask(&Page { at, index: true, prefix, keys: [keys, right].concat() }, 6);
+            self.ask(&index(at, &prefix, &[keys, right].concat()), 6);
         }
         self.length()
     }
@@ -308,6 +340,7 @@ impl Make {
         let one_size = self.sizes();
         let same = self.rng.once_in(2);
         let mut rows = self.rows(&keys, one_size.limit as usize, one_size.budget);
+        let all = rows.clone();
         let parts = self.rng.between(2, 3);
         let mut pages = Vec::new();
         for k in 0..parts {
@@ -337,7 +370,8 @@ impl Make {
             merged.extend([left_first, right_first]);
         }
         for &at in &merged {
-            self.ask(&Page { at, index: false, prefix: prefix.clone(), keys: keys.clone() }, 3);
+            let (prefix, keys, rows) = (prefix.clone(), keys.clone(), all.clone());
+            self.ask(&Page { at, index: false, prefix, keys, rows }, 3);
         }
         // once more with an empty page, or the wrong way round, or with itself
         let again = match self.rng.below(4) {
@@ -407,18 +441,19 @@ impl Make {
             .collect();
         keys.sort();
         keys.dedup();
-        let (at, index) = if self.rng.once_in(2) {
+        let (at, index, rows) = if self.rng.once_in(2) {
             let children = self.children(&keys);
-            (self.build_index(Next::Free, place, children), true)
+            (self.build_index(Next::Free, place, children), true, Vec::new())
         } else {
             let sizes = self.sizes();
-            let rows = keys.iter().map(|key| {
+            let row = |key: &Vec<u8>| {
                 let value = key[key.len() - 2..].to_vec();
                 Row { key: key.clone(), txid: 1_000_000, cmd: 1, value }
-            });
-            (self.build_leaf(Next::Free, sizes, place, rows.collect()), false)
+            };
+            let rows: Vec<Row> = keys.iter().map(row).collect();
+            (self.build_leaf(Next::Free, sizes, place, rows.clone()), false, rows)
         };
-        self.ask(&Page { at, index, prefix, keys }, 6);
+        self.ask(&Page { at, index, prefix, keys, rows }, 6);
         262_144
     }
 
@@ -737,8 +772,12 @@ impl Make {
             self.read(at, Read::Lower { key: key.clone(), txid: 19, cmd: 5 });
             self.read(at, Read::Floor { key: key.clone() });
             self.read(at, Read::Search { key: key.clone() });
+            for (txid, cmd) in [(20, 5), (18, 5), (13, 9)] {
+                self.read(at, Read::AsOf { key: key.clone(), txid, cmd });
+            }
             self.read(at, Read::Overlay { delta: At::Laid, key });
         }
+        self.read(at, Read::AsOf { key: b"pa".to_vec(), txid: 0, cmd: 0 });
         self.read(at, Read::Overlay { delta: At::Raw(8), key: b"pa".to_vec() });
         for (begin, end) in [(0, 0), (0, 1), (0, elems), (1, elems), (elems, 1), (0, elems + 1)] {
             self.read(at, Read::Walk { begin: begin as u64, end: end as u64 });

@@ -1,7 +1,8 @@
 //! The proved library's answers, through the crate, on memory between guard pages.
 
 use cresttrestle::{
-    Addr, Arena, Bounds, Build, Kind, Laid, PageId, Record, Refusal, Ver, View, Walk, calc_prefix,
+    Addr, Arena, AsOf, Bounds, Build, Kind, Laid, Page, PageId, Record, Refusal, Ver, View, Walk,
+    calc_prefix,
 };
 use oracle::answer::Stamp;
 use oracle::image;
@@ -31,6 +32,12 @@ pub enum Fault {
     Outside,
     /// A list in disorder is refused with 7 and not with 6 where the page has a hi.
     Number,
+    /// As of a version: the newest row that is older, for no newer.
+    Older,
+    /// As of a version: a key's newest row is never considered where it has older ones.
+    Headless,
+    /// As of a version: the history is followed one row short.
+    Short,
 }
 
 /// The arena, the second buffer and what is lent beside them.
@@ -283,6 +290,24 @@ impl Ours {
                 }
                 Err(why) => refused(say, why),
             },
+            Read::AsOf { key, txid, cmd } => {
+                let (key, ver) = (a.lend(key, *at_start), Ver::new(*txid, *cmd));
+                match as_of(page, key, ver, *fault) {
+                    Ok((row, reads)) => {
+                        match row {
+                            Some(row) => {
+                                say.word(row.slot as u64);
+                                say.word(row.ver.txid);
+                                say.word(row.ver.cmd.into());
+                                say.part(row.value);
+                            }
+                            None => say.name("none"),
+                        }
+                        say.word(reads.into());
+                    }
+                    Err(why) => refused(say, why),
+                }
+            }
             Read::Walk { begin, end } => {
                 // through the crate's range of positions, as a user writes it
                 listed(page.walk(*begin as usize..*end as usize), *fault, say);
@@ -332,6 +357,30 @@ impl Ours {
                 }
             }
         }
+    }
+}
+
+/// The row as of a version, or the wrong one that a fault makes of it.
+fn as_of<'a>(
+    page: Page<'a>,
+    key: &[u8],
+    ver: Ver,
+    fault: Fault,
+) -> Result<(Option<AsOf<'a>>, u32), Refusal> {
+    let answer = page.as_of_counted(key, ver)?;
+    let older = |than: Ver| match (than.txid, than.cmd) {
+        (0, 0) => Ok((None, answer.1)),
+        (txid, 0) => page.as_of_counted(key, Ver::of_txid(txid - 1)),
+        (txid, cmd) => page.as_of_counted(key, Ver::new(txid, cmd - 1)),
+    };
+    let (Some(row), Some(head)) = (answer.0, page.search(key).ok().flatten()) else {
+        return Ok(answer);
+    };
+    match fault {
+        Fault::Older => older(ver),
+        Fault::Headless if row.ver == head.ver && head.history.is_some() => older(row.ver),
+        Fault::Short if row.ver != head.ver && older(row.ver)?.0.is_none() => Ok((None, answer.1)),
+        _ => Ok(answer),
     }
 }
 

@@ -28,6 +28,8 @@ pub struct Count {
     pub questions: u64,
     /// How often mace's Rust answered beside the model.
     pub rust: u64,
+    /// How often a row as of a version was also picked from the list that its page was made from.
+    pub picked: u64,
     pub calls: BTreeMap<&'static str, u64>,
     pub kinds: BTreeMap<&'static str, u64>,
     /// By number; 0 counts the answers.
@@ -100,6 +102,7 @@ impl Runner {
             }
         }
         self.count.rust += theirs.rust_asked();
+        self.count.picked += theirs.picked;
         let readers_wrote = || Difference {
             at: case.ops.len(),
             what: "bytes changed by a reader".into(),

@@ -128,6 +128,7 @@ pub fn lines(op: &Op, names: &Names, arena: &[u8], buffer: &[u8]) -> String {
                 Read::Lower { key, txid, cmd } => writeln!(w, "lower {a} {} {txid} {cmd}", t(key)),
                 Read::Floor { key } => writeln!(w, "floor {a} {}", t(key)),
                 Read::Search { key } => writeln!(w, "search {a} {}", t(key)),
+                Read::AsOf { key, txid, cmd } => writeln!(w, "asof {a} {} {txid} {cmd}", t(key)),
                 Read::Walk { begin, end } => writeln!(w, "walk {a} {begin} {end}"),
                 Read::Back { start, end } => writeln!(w, "back {a} {start} {end}"),
                 Read::Range { from, to } => {
@@ -273,6 +274,7 @@ fn question(command: &str) -> Option<Reader> {
         "lower" => |w| Ok(Read::Lower { key: w.bytes()?, txid: w.number()?, cmd: w.number()? }),
         "floor" => |w| Ok(Read::Floor { key: w.bytes()? }),
         "search" => |w| Ok(Read::Search { key: w.bytes()? }),
+        "asof" => |w| Ok(Read::AsOf { key: w.bytes()?, txid: w.number()?, cmd: w.number()? }),
         "walk" => |w| Ok(Read::Walk { begin: w.number()?, end: w.number()? }),
         "back" => |w| Ok(Read::Back { start: w.number()?, end: w.number()? }),
         "dkey" | "dval" | "ikey" | "ipid" => |_| Ok(Read::Delta),

@@ -71,6 +71,9 @@ pub fn shrink(mut case: Case, most: Duration, mut differs: impl FnMut(&Case) -> 
                 }
             }
         }
+        // all versions at once, rows' and questions', in the same order
+        let smaller = ranked(&case);
+        accept(&mut case, smaller);
         for len in shorter(case.len) {
             let smaller = Case { len, ..case.clone() };
             accept(&mut case, smaller);
@@ -99,6 +102,7 @@ fn each_key(case: &mut Case, f: &mut dyn FnMut(&mut Vec<u8>)) {
                 Read::Lower { key, .. }
                 | Read::Floor { key }
                 | Read::Search { key }
+                | Read::AsOf { key, .. }
                 | Read::Overlay { key, .. } => f(key),
                 Read::Range { from, to } => [from, to].into_iter().flatten().for_each(&mut *f),
                 _ => {}
@@ -106,6 +110,33 @@ fn each_key(case: &mut Case, f: &mut dyn FnMut(&mut Vec<u8>)) {
             _ => {}
         }
     }
+}
+
+/// Every version of a leaf's rows, and every one that a question about versions asks for.
+fn each_version(case: &mut Case, f: &mut dyn FnMut(&mut u64, &mut u32)) {
+    for op in &mut case.ops {
+        match op {
+            Op::Leaf { list: List::Rows(rows), .. } => {
+                rows.iter_mut().for_each(|row| f(&mut row.txid, &mut row.cmd))
+            }
+            Op::Ask { read: Read::AsOf { txid, cmd, .. }, .. } => f(txid, cmd),
+            _ => {}
+        }
+    }
+}
+
+/// The case with its versions 0, 1, 2 .. in their order.
+fn ranked(case: &Case) -> Case {
+    let mut case = case.clone();
+    let mut versions = Vec::new();
+    each_version(&mut case, &mut |txid, cmd| versions.push((*txid, *cmd)));
+    versions.sort();
+    versions.dedup();
+    each_version(&mut case, &mut |txid, cmd| {
+        let rank = versions.binary_search(&(*txid, *cmd)).expect("it is there");
+        (*txid, *cmd) = (rank as u64, 0);
+    });
+    case
 }
 
 fn all_keys(case: &Case) -> Vec<Vec<u8>> {
@@ -167,6 +198,9 @@ fn cost(case: &Case) -> usize {
         | Read::Floor { key }
         | Read::Search { key }
         | Read::Overlay { key, .. } => 4 * key.len() + plain(key),
+        Read::AsOf { key, txid, cmd } => {
+            4 * key.len() + plain(key) + bits(*txid) + bits((*cmd).into())
+        }
         Read::Range { from, to } => {
             [from, to].into_iter().flatten().map(|key| 4 * key.len() + plain(key) + 1).sum()
         }
@@ -303,6 +337,14 @@ fn smaller_reads(read: &Read) -> Vec<Read> {
         }
         Read::Floor { key } => keys(key).into_iter().map(|key| Read::Floor { key }).collect(),
         Read::Search { key } => keys(key).into_iter().map(|key| Read::Search { key }).collect(),
+        Read::AsOf { key, txid, cmd } => {
+            let (t, c) = (*txid, *cmd);
+            let as_of = |txid, cmd| Read::AsOf { key: key.clone(), txid, cmd };
+            let shorter = keys(key).into_iter().map(|key| Read::AsOf { key, txid: t, cmd: c });
+            let less = smaller_number(t).into_iter().map(|txid| as_of(txid, c));
+            let cmds = smaller_number(c.into()).into_iter().map(|cmd| as_of(t, cmd as u32));
+            shorter.chain(less).chain(cmds).collect()
+        }
         Read::Overlay { delta, key } => {
             keys(key).into_iter().map(|key| Read::Overlay { delta: *delta, key }).collect()
         }

@@ -3,18 +3,22 @@
 use oracle::answer::{Bounds, Built, Step, What};
 use oracle::arena::Arena;
 use oracle::both::Both;
-use oracle::judge::Number;
-use oracle::list::{Child, Entry};
+use oracle::judge::{Number, WRONG_PREFIX};
+use oracle::list::{self, Child, Entry};
 use oracle::model::{self, Kind, Laid};
-use oracle::sample::Row;
+use oracle::sample::{self, Row};
 
 use crate::case::{Names, Op, Place, Read, damage};
+use crate::lists::Lists;
 use crate::ours::{front, put, room_to_lay};
 use crate::said::Said;
 
 pub struct Theirs {
     both: Both,
     buffer: Both,
+    lists: Lists,
+    /// How often a row was also picked from the list that its page was made from.
+    pub picked: u64,
 }
 
 pub fn bounds(place: &Place) -> Bounds<'_> {
@@ -35,7 +39,12 @@ fn said<T>(say: &mut Said, answer: Result<T, Number>, show: impl FnOnce(&mut Sai
 
 impl Theirs {
     pub fn new(len: usize, fill: u8) -> Self {
-        Theirs { both: Both::new(Arena::new(len, fill)), buffer: Both::new(Arena::new(0, 0)) }
+        Theirs {
+            both: Both::new(Arena::new(len, fill)),
+            buffer: Both::new(Arena::new(0, 0)),
+            lists: Lists::default(),
+            picked: 0,
+        }
     }
 
     pub fn bytes(&self) -> &[u8] {
@@ -57,9 +66,13 @@ impl Theirs {
             Op::Put { .. } | Op::Add { .. } | Op::Copy { .. } | Op::Strike { .. } => {
                 if let Some((at, bytes)) = damage(op, self.bytes(), names) {
                     put(self.both.arena.bytes_mut(), at, &bytes);
+                    self.lists.forget();
                 }
             }
-            Op::Cut { len } => self.both.arena = Arena::from_bytes(front(self.bytes(), *len)),
+            Op::Cut { len } => {
+                self.both.arena = Arena::from_bytes(front(self.bytes(), *len));
+                self.lists.forget();
+            }
             Op::Buffer { bytes } => self.buffer.arena = Arena::from_bytes(bytes),
             Op::BufferPut { at, bytes } => put(self.buffer.arena.bytes_mut(), *at, bytes),
             Op::BufferCut { len } => {
@@ -71,12 +84,16 @@ impl Theirs {
                 self.buffer.arena = Arena::from_bytes(&room_to_lay(*limit, row));
                 names.laid = self.build(op, names, say).map_or(0, |built| built.addr);
             }
-            Op::Leaf { name, .. }
-            | Op::Index { name, .. }
-            | Op::Merge { name, .. }
-            | Op::LeafDelta { name, .. }
-            | Op::IndexDelta { name, .. } => {
+            Op::Leaf { name, next, .. }
+            | Op::Index { name, next, .. }
+            | Op::Merge { name, next, .. }
+            | Op::LeafDelta { name, next, .. }
+            | Op::IndexDelta { name, next, .. } => {
                 if let Some(built) = self.build(op, names, say) {
+                    self.lists.wrote(names.next(*next), built.next);
+                    if let Some(rows) = self.rows(op, names) {
+                        self.lists.leaf(built.addr, rows);
+                    }
                     names.built.push((*name, built.addr));
                     names.free = built.next;
                 }
@@ -116,6 +133,19 @@ impl Theirs {
             say.word(built.next);
         });
         built.ok()
+    }
+
+    /// The rows that a leaf just made stands for, from the lists alone.
+    fn rows(&self, op: &Op, names: &Names) -> Option<Vec<Row>> {
+        match op {
+            Op::Leaf { list, .. } => {
+                let list = list.bytes();
+                let entries = list::entries(&list).ok()?;
+                Some(entries.iter().map(|e| sample::row(e.key, e.txid, e.cmd, e.value)).collect())
+            }
+            Op::Merge { left, right, .. } => self.lists.both(names.at(*left), names.at(*right)),
+            _ => None,
+        }
     }
 
     fn ask(&mut self, addr: u64, read: &Read, names: &Names, say: &mut Said) {
@@ -182,6 +212,28 @@ impl Theirs {
                             say.word(history.0);
                             say.word(history.1);
                             say.word(history.2);
+                        }
+                        None => say.name("none"),
+                    }
+                    say.word(reads.into());
+                });
+            }
+            Read::AsOf { key, txid, cmd } => {
+                let answer = both.as_of(addr, key, *txid, *cmd);
+                if let Some(row) = self.lists.pick(addr, key, *txid, *cmd) {
+                    // a probe of another prefix is refused, and no row has such a key
+                    let of_model =
+                        if answer == Err(WRONG_PREFIX) { Ok(None) } else { answer.map(|a| a.0) };
+                    assert_eq!(of_model, Ok(row), "model (left) and the list (right) differ");
+                    self.picked += 1;
+                }
+                said(say, answer, |say, (row, reads)| {
+                    match row {
+                        Some(row) => {
+                            say.word(row.pos as u64);
+                            say.word(row.txid);
+                            say.word(row.cmd.into());
+                            say.part(row.value);
                         }
                         None => say.name("none"),
                     }

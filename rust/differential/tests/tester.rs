@@ -74,6 +74,21 @@ fn a_number_that_is_not_the_lowest() {
 }
 
 #[test]
+fn older_for_no_newer() {
+    small(Fault::Older, "as of", 2, 1);
+}
+
+#[test]
+fn the_head_never_considered() {
+    small(Fault::Headless, "as of", 2, 2);
+}
+
+#[test]
+fn a_history_one_row_short() {
+    small(Fault::Short, "as of", 2, 2);
+}
+
+#[test]
 fn a_byte_read_outside() {
     let stops = |case: &Case| forked(|| Runner::new(Fault::Outside).run(case).is_some());
     let case = (0..300)

@@ -34,6 +34,17 @@ unsafe extern "C" {
         out: *mut u64,
         n: usize,
     ) -> u32;
+    fn ct_as_of(
+        arena: P,
+        len: usize,
+        addr: u64,
+        key: P,
+        key_len: usize,
+        txid: u64,
+        cmd: u32,
+        out: *mut u64,
+        n: usize,
+    ) -> u32;
     fn ct_lower_bound(
         arena: P,
         len: usize,
@@ -313,6 +324,15 @@ fn ask(arena: &[u8], addr: u64, read: &Read, words: &mut Words, seen: &mut Count
             let mut out = [1; 10];
             if unsafe { ct_search(p, len, addr, k, kl, out.as_mut_ptr(), 10) } == 0 && out[0] == 0 {
                 assert_eq!(out[..9], [0; 9], "none is all 0 but the keys read");
+            }
+        }
+        Read::AsOf { key, txid, cmd } => {
+            let (k, kl) = lent!(key);
+            let call = |out, n| unsafe { ct_as_of(p, len, addr, k, kl, *txid, *cmd, out, n) };
+            out_of_every_length(words, seen, 7, call);
+            let mut out = [1; 7];
+            if call(out.as_mut_ptr(), 7) == 0 && out[0] == 0 {
+                assert_eq!(out[..6], [0; 6], "none is all 0 but the keys read");
             }
         }
         Read::Floor { key } => {

@@ -24,7 +24,7 @@ pub struct Built {
     pub next: u64,
 }
 
-/// A search's head.
+/// A search's head, or the row as of a version with its key's position.
 #[derive(Clone, Copy, Debug, PartialEq, Eq)]
 pub struct Found<'a> {
     pub pos: usize,

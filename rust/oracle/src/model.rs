@@ -601,6 +601,58 @@ pub fn search<'a>(
     Ok((Some(Found { pos, txid: head.txid, cmd: head.cmd, value }), reads))
 }
 
+/// Order 1: "Given a key and a version, hand back the newest record of that key that is no newer than
+/// it, head or history, across linked pages, with its own version. If all are newer, or the key is
+/// absent, the answer is none. Refusals: 4 and 7 as for a search, 7 judged after an empty page." The
+/// key's slot stands with it; the keys read are the halving's.
+pub fn as_of<'a>(
+    arena: &'a [u8],
+    addr: u64,
+    probe: &[u8],
+    txid: u64,
+    cmd: u32,
+) -> Result<(Option<Found<'a>>, u32), Number> {
+    let page = page_of(arena, addr, Kind::Leaf)?;
+    if page.elems == 0 {
+        return Ok((None, 0));
+    }
+    let rest = probe_rest(arena, &page, probe)?;
+    let (end, reads) =
+        halve(page.elems, true, |pos| Ok(leaf_key_at(arena, &page, pos)?.rest.cmp(rest)))?;
+    let Ok(pos) = end else {
+        return Ok((None, reads));
+    };
+    // a record that is handed back is judged whole, its remote frame too; one that is skipped is
+    // judged as far as it must be read: a head's value for its history, an old one's version
+    let handed = |r: &LeafRecord<'a>| {
+        let value = resolve(arena, &r.value)?;
+        Ok((Some(Found { pos, txid: r.txid, cmd: r.cmd, value }), reads))
+    };
+    let head = leaf_record(arena, &page, pos)?;
+    if (head.txid, head.cmd) <= (txid, cmd) {
+        return handed(&head);
+    }
+    let Some(history) = head.value.history else {
+        return Ok((None, reads));
+    };
+    let mut page = page_of(arena, history.addr, Kind::History)?;
+    let mut at = history.slot;
+    laid_out(at < page.elems)?;
+    for _ in 0..history.count {
+        if at == page.elems {
+            page = page_of(arena, page.link, Kind::History)?;
+            at = 0;
+        }
+        let (key, body) = (slot(arena, &page, at)?, page.body(arena));
+        let version = (number(body, key, 8)?, number(body, key + 8, 4)? as u32);
+        if version <= (txid, cmd) {
+            return handed(&history_record(arena, &page, at)?);
+        }
+        at += 1;
+    }
+    Ok((None, reads))
+}
+
 // ---------------------------------------------------------------------------------------------
 // Walks
 

@@ -3,7 +3,7 @@
 
 use std::fmt::Write;
 
-use crate::answer::{Bounds, Built, Stamp, Step, What};
+use crate::answer::{Bounds, Built, Found, Stamp, Step, What};
 use crate::arena::Arena;
 use crate::both::{Asked, Both};
 use crate::judge::Number;
@@ -185,12 +185,12 @@ impl Script {
             }
             "search" => {
                 let (addr, key) = (w.number()?, w.bytes()?);
-                said(both.search(addr, &key), |answer| match answer {
-                    (Some(f), reads) => {
-                        format!("= {} {} {} {} {reads}", f.pos, f.txid, f.cmd, text::write(f.value))
-                    }
-                    (None, reads) => format!("none {reads}"),
-                })
+                said(both.search(addr, &key), found)
+            }
+            "asof" => {
+                let (addr, key) = (w.number()?, w.bytes()?);
+                let (txid, cmd) = (w.number()?, w.number()?);
+                said(both.as_of(addr, &key, txid, cmd), found)
             }
             "walk" => walked(both.walk(w.number()?, w.number()?, w.number()?)),
             "back" => walked(both.walk_back(w.number()?, w.number()?, w.number()?)),
@@ -248,6 +248,16 @@ fn said<T>(answer: Result<T, Number>, show: impl FnOnce(T) -> String) -> String 
     match answer {
         Ok(answer) => show(answer) + "\n",
         Err(number) => format!("! {number}\n"),
+    }
+}
+
+/// A row that a lookup handed back, or none; and the keys read.
+fn found((row, reads): (Option<Found>, u32)) -> String {
+    match row {
+        Some(f) => {
+            format!("= {} {} {} {} {reads}", f.pos, f.txid, f.cmd, text::write(f.value))
+        }
+        None => format!("none {reads}"),
     }
 }
 

@@ -54,6 +54,9 @@ fn read_everything(both: &mut Both, addresses: &[u64]) {
             let _ = both.lower_bound(addr, probe, 9, 5);
             let _ = both.floor(addr, probe);
             let _ = both.search(addr, probe);
+            for (txid, cmd) in [(0, 0), (8, 5), (9, 4), (9, 5)] {
+                let _ = both.as_of(addr, probe, txid, cmd);
+            }
         }
         for (begin, end) in [(0, 0), (0, 1), (0, 2), (0, 3), (2, 3), (0, u64::MAX)] {
             let _ = both.walk(addr, begin, end);

@@ -51,6 +51,7 @@ fn read_all(both: &mut Both, rng: &mut Prng, addr: u64, prefix: &[u8], keys: &[V
             both.floor(addr, &probe).unwrap();
         } else {
             both.search(addr, &probe).unwrap();
+            both.as_of(addr, &probe, txid, cmd).unwrap();
         }
     }
 }

@@ -3,7 +3,7 @@
 use crate::args::{Args, number};
 use crate::decode::{BASE, DELTA, LEAF, Version};
 use crate::file::ArenaFile;
-use crate::rows::{Form, address, version};
+use crate::rows::{self, Form, address, version};
 use crate::show::{self, Line, Look, Verdict, What};
 use crate::stop::Stop;
 use cresttrestle::{
@@ -20,6 +20,8 @@ const BUILD: [&str; 7] = ["size", "limit", "budget", "group", "txid", "lsn", "ch
 const MAKE: [&str; 10] =
     ["size", "limit", "budget", "group", "txid", "lsn", "checkpoint", "lo", "hi", "sibling"];
 
+const LIST: [&str; 4] = ["page", "from", "to", "as-of"];
+
 /// Runs a command line without the program's name.
 pub fn run(line: &[String], out: &mut dyn Write) -> Done {
     let Some((command, rest)) = line.split_first() else {
@@ -29,13 +31,11 @@ pub fn run(line: &[String], out: &mut dyn Write) -> Done {
         "make" => make(&Args::parse(rest, &MAKE, &["index", "as-is", "barometer"])?, out),
         "merge" => merge(&Args::parse(rest, &BUILD, &[])?, out),
         "delta" => delta(&Args::parse(rest, &BUILD, &["barometer"])?, out),
-        "get" => get(&Args::parse(rest, &["page"], &["all", "barometer"])?, out),
-        "list" => {
-            list(&Args::parse(rest, &["page", "from", "to"], &["all", "back", "barometer"])?, out)
-        }
+        "get" => get(&Args::parse(rest, &["page", "as-of"], &["all", "barometer"])?, out),
+        "list" => list(&Args::parse(rest, &LIST, &["all", "back", "barometer"])?, out),
         "overlay" => overlay(&Args::parse(rest, &["page", "delta"], &["barometer"])?, out),
         "check" => check(&Args::parse(rest, &["page"], &[])?, out),
-        "show" => show(&Args::parse(rest, &["page"], &["full", "barometer"])?, out),
+        "show" => show(&Args::parse(rest, &["page", "as-of"], &["full", "barometer"])?, out),
         "frames" => frames(&Args::parse(rest, &[], &[])?, out),
         "help" | "--help" | "-h" => say(out, HELP.trim_end()),
         other => Err(Stop::Usage(format!("no such command: {other}"))),
@@ -140,15 +140,38 @@ fn page<'a>(args: &Args, file: &'a ArenaFile) -> Result<Page<'a>, Stop> {
     Ok(file.view().page(file.page(args.number("page")?)?))
 }
 
+/// The version that is looked back to; only a leaf has versions.
+fn as_of(args: &Args, page: Page) -> Result<Option<Ver>, Stop> {
+    let ver = args.value("as-of").map(|v| word(rows::as_of(v))).transpose()?;
+    match page.info() {
+        Ok(info) if ver.is_some() && info.kind == Kind::Index => {
+            Err(Stop::Usage("--as-of wants a leaf: an index page has no versions".into()))
+        }
+        _ => Ok(ver),
+    }
+}
+
 fn get(args: &Args, out: &mut dyn Write) -> Done {
     let [path, key] = args.words(["ARENA", "KEY"])?;
     let (form, file) = (form(args), ArenaFile::open(path)?);
     let (key, page) = (word(form.key(key))?, page(args, &file)?);
-    let found = page.search(&key)?.ok_or(Stop::Nothing)?;
+    let as_of = as_of(args, page)?;
+    let (slot, ver, value) = match as_of {
+        None => {
+            let found = page.search(&key)?.ok_or(Stop::Nothing)?;
+            (found.slot, found.ver, found.value)
+        }
+        Some(ver) => {
+            let absent = || page.search(&key).is_ok_and(|found| found.is_none());
+            let row = page.as_of(&key, ver)?;
+            let row = row.ok_or_else(|| if absent() { Stop::Nothing } else { Stop::Newer })?;
+            (row.slot, row.ver, row.value)
+        }
+    };
     if args.has("all") {
-        return records(page.walk(found.slot..found.slot + 1)?, true, form, out);
+        return records(page.walk(slot..slot + 1)?, true, as_of, form, out);
     }
-    say(out, form.row_text(&key, found.ver, found.value))
+    say(out, form.row_text(&key, ver, value))
 }
 
 fn list(args: &Args, out: &mut dyn Write) -> Done {
@@ -165,14 +188,15 @@ fn list(args: &Args, out: &mut dyn Write) -> Done {
     } else {
         page.range(from.as_deref(), to.as_deref())?
     };
-    records(walk, args.has("all"), form, out)
+    records(walk, args.has("all"), as_of(args, page)?, form, out)
 }
 
-/// A record a line; without `all` only the newest of each key.
-fn records(walk: Walk, all: bool, form: Form, out: &mut dyn Write) -> Done {
+/// A record a line, those that are no newer than `as_of`; without `all` only the newest of each key.
+fn records(walk: Walk, all: bool, as_of: Option<Ver>, form: Form, out: &mut dyn Write) -> Done {
     let mut before = None;
     for record in walk {
         match record? {
+            Record::Row(row) if as_of.is_some_and(|ver| row.ver > ver) => {}
             Record::Row(row) => {
                 let key = row.key.to_vec();
                 if all || before.as_ref() != Some(&key) {
@@ -213,11 +237,14 @@ fn check(args: &Args, out: &mut dyn Write) -> Done {
     let file = ArenaFile::open(path)?;
     let page = page(args, &file)?;
     if let Err(why) = page.check() {
-        let first =
-            show::frame(file.bytes(), page.addr().get(), Look { full: false, form: Form::Plain })
-                .faults
-                .first()
-                .map(ToString::to_string);
+        let first = show::frame(
+            file.bytes(),
+            page.addr().get(),
+            Look { full: false, form: Form::Plain, as_of: None },
+        )
+        .faults
+        .first()
+        .map(ToString::to_string);
         return Err(Stop::Refused(
             why,
             first.unwrap_or_else(|| format!("no leaf or index page at {}", page.addr())),
@@ -236,7 +263,8 @@ fn show(args: &Args, out: &mut dyn Write) -> Done {
         _ => return Err(Stop::Usage("show wants ARENA and at most one address".into())),
     };
     let page = file.view().page(file.page(given)?);
-    let look = Look { full: args.has("full"), form: form(args) };
+    let as_of = as_of(args, page)?;
+    let look = Look { full: args.has("full"), form: form(args), as_of };
     let shown = show::frame(file.bytes(), page.addr().get(), look);
     write!(out, "{}", shown.text).map_err(Stop::output)?;
     // The printer has a decoder of its own, so it is asked here whether the proved library agrees.
@@ -253,6 +281,14 @@ fn show(args: &Args, out: &mut dyn Write) -> Done {
                 page.addr()
             )));
         }
+        if let Some(ver) = as_of
+            && answers(page, ver, &shown.lines)? != shown.answers
+        {
+            return Err(Stop::Bug(format!(
+                "show and the lookup as of a version disagree about page {}",
+                page.addr()
+            )));
+        }
     }
     match (sound, shown.verdict) {
         (Err(why), Verdict::Damaged) => Err(why.into()),
@@ -260,14 +296,26 @@ fn show(args: &Args, out: &mut dyn Write) -> Done {
     }
 }
 
+/// What the library answers for each key of the lines as of a version, in the printer's form.
+pub fn answers(page: Page, ver: Ver, lines: &[Line]) -> Result<Vec<Line>, Refusal> {
+    let keys = lines.chunk_by(|a, b| a.key == b.key).map(|versions| &versions[0].key);
+    let row = |key: &Vec<u8>| match page.as_of(key, ver) {
+        Ok(row) => row.map(|row| Ok(row_line(key.clone(), row.ver, row.value))),
+        Err(why) => Some(Err(why)),
+    };
+    keys.filter_map(row).collect()
+}
+
+fn row_line(key: Vec<u8>, ver: Ver, value: &[u8]) -> Line {
+    let version = Version { txid: ver.txid, cmd: ver.cmd };
+    Line { key, what: What::Row(version, value.to_vec()) }
+}
+
 /// A record of the library in the printer's form.
 pub fn line(record: Record) -> Line {
     let key = record.key().to_vec();
     match record {
-        Record::Row(row) => Line {
-            key,
-            what: What::Row(Version { txid: row.ver.txid, cmd: row.ver.cmd }, row.value.to_vec()),
-        },
+        Record::Row(row) => row_line(key, row.ver, row.value),
         Record::Child(child) => {
             Line { key, what: What::Child(child.page.map_or(0, |id| id.get())) }
         }

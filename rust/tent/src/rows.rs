@@ -137,6 +137,21 @@ pub fn version(word: &str) -> Result<Ver, String> {
     }
 }
 
+/// A version that is looked back to: `txid` when all of it was written, or `txid.cmd`.
+pub fn as_of(word: &str) -> Result<Ver, String> {
+    let exact = version(word)?;
+    Ok(if word.contains('.') { exact } else { Ver::of_txid(exact.txid) })
+}
+
+/// The same as text.
+pub fn as_of_text(ver: Ver) -> String {
+    if ver == Ver::of_txid(ver.txid) {
+        ver.txid.to_string()
+    } else {
+        format!("{}.{}", ver.txid, ver.cmd)
+    }
+}
+
 fn version_text(ver: Ver) -> String {
     if ver.cmd == 0 { ver.txid.to_string() } else { format!("{}.{}", ver.txid, ver.cmd) }
 }

@@ -3,7 +3,8 @@
 //! A page is called sound exactly where the proved check says 0 (tests/show.rs).
 
 use crate::decode::*;
-use crate::rows::Form;
+use crate::rows::{Form, as_of_text};
+use cresttrestle::Ver;
 use std::collections::BTreeMap;
 use std::fmt::Write;
 use std::rc::Rc;
@@ -35,13 +36,17 @@ pub struct Shown {
     pub verdict: Verdict,
     pub faults: Vec<Fault>,
     pub lines: Vec<Line>,
+    /// The rows that are marked as the answers as of `Look::as_of`.
+    pub answers: Vec<Line>,
 }
 
-/// How a page is printed: long keys and values whole or cut, and in which form beside hex.
+/// How a page is printed: long keys and values whole or cut, in which form beside hex, and the version as of which each key's row is
+/// marked.
 #[derive(Clone, Copy)]
 pub struct Look {
     pub full: bool,
     pub form: Form,
+    pub as_of: Option<Ver>,
 }
 
 /// Shows the frame at an address.
@@ -52,6 +57,8 @@ pub fn frame(arena: &[u8], addr: u64, look: Look) -> Shown {
         text: String::new(),
         faults: Vec::new(),
         lines: Vec::new(),
+        answers: Vec::new(),
+        open: None,
         pages: BTreeMap::new(),
     };
     let is_page = teller.frame(addr).is_some();
@@ -69,7 +76,8 @@ pub fn frame(arena: &[u8], addr: u64, look: Look) -> Shown {
     for fault in &teller.faults {
         writeln!(teller.text, "  {fault}").expect("text");
     }
-    Shown { text: teller.text, verdict, faults: teller.faults, lines: teller.lines }
+    let Teller { text, faults, lines, answers, .. } = teller;
+    Shown { text, verdict, faults, lines, answers }
 }
 
 /// A history page that was judged: its records, those that can be read.
@@ -85,6 +93,9 @@ struct Teller<'a> {
     text: String,
     faults: Vec<Fault>,
     lines: Vec<Line>,
+    answers: Vec<Line>,
+    /// the version as of which the key at hand has no answer yet
+    open: Option<Ver>,
     /// history pages by address, each judged once; none where the headers cannot be read
     pages: BTreeMap<u64, Option<Rc<Old<'a>>>>,
 }
@@ -361,12 +372,17 @@ impl<'a> Teller<'a> {
             t.rising(page.place(at), &mut before, rest);
             let value = t.keep(3, value(page, from, true))?;
             all += 1;
+            t.open = t.look.as_of;
             let read = t.row(3, &key, version, &value, "");
             t.keep(3, read);
-            if let Some(history) = value.history {
-                many = true;
-                t.versions(&key, version, &history, page.place(from));
+            match value.history {
+                Some(history) => {
+                    many = true;
+                    t.versions(&key, version, &history, page.place(from));
+                }
+                None => t.all_newer(3),
             }
+            t.open = None;
             Some(value.end)
         });
         if all == base.elems && base.many <= 1 && many != (base.many == 1) {
@@ -393,20 +409,32 @@ impl<'a> Teller<'a> {
             Bytes::Inline(_) => String::new(),
             Bytes::Remote(addr, _) => format!("  in the remote frame at {addr}"),
         };
+        // the first that is no newer answers; where it cannot be read, none does
+        let answers = self.open.take_if(|as_of| Ver::new(version.txid, version.cmd) <= *as_of);
         match whole(self.arena, value) {
             Ok(bytes) => {
+                let mark =
+                    answers.map_or(String::new(), |v| format!("  <-- as of {}", as_of_text(v)));
                 self.say(
                     deep,
-                    format!("version {version}  value {}{far}{from}", self.value(bytes)),
+                    format!("version {version}  value {}{far}{from}{mark}", self.value(bytes)),
                 );
-                self.lines
-                    .push(Line { key: key.to_vec(), what: What::Row(version, bytes.to_vec()) });
+                let line = Line { key: key.to_vec(), what: What::Row(version, bytes.to_vec()) };
+                self.answers.extend(answers.map(|_| line.clone()));
+                self.lines.push(line);
                 Ok(())
             }
             Err(fault) => {
                 self.say(deep, format!("version {version}  value cannot be read{far}{from}"));
                 Err(fault)
             }
+        }
+    }
+
+    /// Behind the last version of a key: whether the answer as of a version is none.
+    fn all_newer(&mut self, deep: usize) {
+        if let Some(as_of) = self.open.take() {
+            self.say(deep, format!("as of {}: none, all are newer", as_of_text(as_of)));
         }
     }
 
@@ -448,10 +476,13 @@ impl<'a> Teller<'a> {
                 (page, slot) = (next, 0);
             }
             match &page.records[slot] {
-                None => self.say(
-                    4,
-                    format!("an older version in slot {slot} of {} cannot be read", page.addr),
-                ),
+                None => {
+                    self.open = None;
+                    self.say(
+                        4,
+                        format!("an older version in slot {slot} of {} cannot be read", page.addr),
+                    )
+                }
                 Some((version, value)) => {
                     let (version, value) = (*version, *value);
                     // a remote that does not resolve was marked with its page
@@ -476,6 +507,7 @@ impl<'a> Teller<'a> {
             }
             slot += 1;
         }
+        self.all_newer(4);
     }
 
     /// Judges the history page at an address, whole, once; with `shown` prints its header and records.

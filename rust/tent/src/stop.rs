@@ -9,6 +9,8 @@ pub enum Stop {
     Refused(Refusal, String),
     /// asked for a row that is not there
     Nothing,
+    /// asked for a row as of a version, and the key's rows are all newer
+    Newer,
     Usage(String),
     /// a line of the rows' file
     Rows(String),
@@ -26,7 +28,7 @@ impl Stop {
     pub fn status(&self) -> u8 {
         match self {
             Stop::Refused(why, _) => why.number(),
-            Stop::Nothing => NOTHING,
+            Stop::Nothing | Stop::Newer => NOTHING,
             Stop::Usage(_) => 64,
             Stop::Rows(_) => 65,
             Stop::Bug(_) => 70,
@@ -59,6 +61,7 @@ impl fmt::Display for Stop {
             }
             Stop::Refused(why, more) => write!(f, "refused {}, {why} ({more})", why.number()),
             Stop::Nothing => write!(f, "none: the page has no such key"),
+            Stop::Newer => write!(f, "none: all rows of this key are newer"),
             Stop::Usage(words) => write!(f, "{words}\ntry: tent --help"),
             Stop::Rows(words) | Stop::Io(words) => write!(f, "{words}"),
             Stop::Closed => Ok(()),

@@ -192,6 +192,52 @@ fn last_page(f: &Folder) -> String {
 }
 
 #[test]
+fn as_of_a_version() {
+    let f = Folder::new("as-of");
+    f.write("rows.csv", "a,9,new\na,7.2,mid\na,7,early\na,4,old\nb,8,only\nc,3,long ago\n");
+    f.ok(&["make", "a", "rows.csv", "--budget", "256", "--limit", "4"]);
+    let get = |key: &str, ver: &str| f.ok(&["get", "a", key, "--as-of", ver]);
+    assert_eq!(get("a", "9"), "a,9,new\n");
+    assert_eq!(get("a", "8"), "a,7.2,mid\n");
+    assert_eq!(get("a", "7"), "a,7.2,mid\n", "all of the transaction");
+    assert_eq!(get("a", "7.1"), "a,7,early\n");
+    assert_eq!(get("a", "7.0"), "a,7,early\n", "no newer: itself too");
+    assert_eq!(get("a", "6"), "a,4,old\n");
+    f.stops(32, "all rows of this key are newer", &["get", "a", "a", "--as-of", "3"]);
+    f.stops(32, "the page has no such key", &["get", "a", "x", "--as-of", "9"]);
+    assert_eq!(f.ok(&["get", "a", "a", "--as-of=7.1", "--all"]), "a,7,early\na,4,old\n");
+    assert_eq!(f.ok(&["list", "a", "--as-of", "7"]), "a,7.2,mid\nc,3,long ago\n");
+    assert_eq!(
+        f.ok(&["list", "a", "--as-of", "8", "--back", "--from", "b"]),
+        "c,3,long ago\nb,8,only\n"
+    );
+    assert_eq!(f.ok(&["list", "a", "--as-of", "6", "--all"]), "a,4,old\nc,3,long ago\n");
+    assert_eq!(f.ok(&["list", "a", "--as-of", "2"]), "");
+    // a row a key, as `get` says each
+    for ver in ["9", "8.0", "7", "7.1", "5", "3", "2"] {
+        let one =
+            |key| String::from_utf8(f.run(&["get", "a", key, "--as-of", ver]).stdout).unwrap();
+        assert_eq!(f.ok(&["list", "a", "--as-of", ver]), one("a") + &one("b") + &one("c"));
+    }
+    let shown = f.ok(&["show", "a", "--as-of", "7.1"]);
+    let marked: Vec<&str> = shown.lines().filter(|line| line.contains("as of")).collect();
+    assert!(marked[0].contains("version 7  value") && marked[0].ends_with("  <-- as of 7.1"));
+    assert!(marked[1].ends_with("as of 7.1: none, all are newer"));
+    assert!(marked[2].contains("version 3  value") && marked.len() == 3, "{shown}");
+    // a skipped newer row needs no remote: its frame is damaged, and only the row itself is refused
+    let mut bytes = f.read("a");
+    let newest = bytes.windows(8).rposition(|w| w == b"long ago").expect("the remote of c");
+    bytes[newest - 8] ^= 1;
+    f.write("b", &bytes);
+    f.stops(4, "bad frame", &["get", "b", "c", "--as-of", "3"]);
+    f.stops(32, "newer", &["get", "b", "c", "--as-of", "2"]);
+    f.write("index.csv", "m,12\n");
+    f.ok(&["make", "i", "index.csv", "--index"]);
+    f.stops(64, "an index page has no versions", &["list", "i", "--as-of", "7"]);
+    f.stops(64, "is no version", &["get", "a", "a", "--as-of", "last year"]);
+}
+
+#[test]
 fn every_refusal_by_number_changes_nothing() {
     let f = Folder::new("refused");
     f.write("rows.csv", "ba,5,xy\nba,3,z\nbc,1,w\n");

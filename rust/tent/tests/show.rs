@@ -1,16 +1,16 @@
 //! The page printer is held against the proved library: it must say "sound" exactly where the check says 0, and print what the walk
-//! lists. Pages come from the judge's vectors (built, merged, crafted and damaged ones) and from random damage to them.
+//! lists; on a sound page it must mark, as of a version, what the lookup answers. Pages come from the judge's vectors (built, merged, crafted and damaged ones) and from random damage to them.
 
-use cresttrestle::{Addr, View};
+use cresttrestle::{Addr, Ver, View};
 use oracle::prng::Prng;
 use oracle::text;
 use std::path::Path;
-use tent::commands::line;
+use tent::commands::{answers, line};
 use tent::rows::Form;
-use tent::show::{self, Line, Look, Verdict};
+use tent::show::{self, Line, Look, Verdict, What};
 
-const WHOLE: Look = Look { full: true, form: Form::Plain };
-const CUT: Look = Look { full: false, form: Form::Plain };
+const WHOLE: Look = Look { full: true, form: Form::Plain, as_of: None };
+const CUT: Look = Look { full: false, form: Form::Plain, as_of: None };
 
 /// Compares what is shown of a frame with the check and, on a sound page, with the walk; a frame of any other kind with the judge's
 /// definition of its soundness, since the library has no check for it. Answers whether it is a sound page.
@@ -41,8 +41,30 @@ fn agree(arena: &[u8], addr: u64) -> bool {
             .map(|record| line(record.expect("a sound page")))
             .collect();
         assert_eq!(shown.lines, walked, "page {addr}:\n{}", shown.text);
+        marks_agree(arena, addr, &walked);
     }
     sound
+}
+
+/// As of a version of the page's own (its last row's, so that there are newer ones) and as of the one just before it.
+fn marks_agree(arena: &[u8], addr: u64, walked: &[Line]) {
+    let Some(Line { what: What::Row(last, _), .. }) = walked.last() else { return };
+    let before = match (last.txid, last.cmd) {
+        (0, 0) => Ver::default(),
+        (txid, 0) => Ver::of_txid(txid - 1),
+        (txid, cmd) => Ver::new(txid, cmd - 1),
+    };
+    for ver in [Ver::new(last.txid, last.cmd), before] {
+        let shown = show::frame(arena, addr, Look { as_of: Some(ver), ..CUT });
+        let page = View::new(arena).page(Addr::new(addr));
+        let asked = answers(page, ver, walked).expect("a sound page");
+        assert_eq!(shown.answers, asked, "as of {ver:?}, page {addr}:\n{}", shown.text);
+        let marked = shown.text.lines().filter(|line| line.contains("  <-- as of ")).count();
+        let none =
+            shown.text.lines().filter(|line| line.ends_with(": none, all are newer")).count();
+        let keys = walked.chunk_by(|a, b| a.key == b.key).count();
+        assert_eq!((marked, none), (asked.len(), keys - asked.len()), "{}", shown.text);
+    }
 }
 
 /// The text of a file of vectors.
@@ -200,6 +222,27 @@ fn p7_in_words() {
     ] {
         assert!(shown.contains(line), "{line:?} is not in\n{shown}");
     }
+}
+
+#[test]
+fn p7_as_of() {
+    let p7 = p7();
+    let shown = |arena: &[u8], ver| {
+        let text = show::frame(arena, 104, Look { as_of: Some(ver), ..CUT }).text;
+        let lines =
+            text.lines().filter(|line| line.contains("as of")).map(|l| l.trim().to_string());
+        lines.collect::<Vec<_>>()
+    };
+    assert_eq!(shown(&p7, Ver::of_txid(9)), ["version 5  value \"xy\" 7879  <-- as of 9"]);
+    assert_eq!(shown(&p7, Ver::new(5, 0)), ["version 5  value \"xy\" 7879  <-- as of 5.0"]);
+    let old = "version 3  value \"z\" 7a  (page 8, slot 0)  <-- as of 4";
+    assert_eq!(shown(&p7, Ver::of_txid(4)), [old]);
+    assert_eq!(shown(&p7, Ver::of_txid(2)), ["as of 2: none, all are newer"]);
+    // the old version's flag is damaged: nobody can say
+    let mut arena = p7.clone();
+    arena[96] = 7;
+    assert_eq!(shown(&arena, Ver::of_txid(4)), [""; 0]);
+    assert_eq!(shown(&arena, Ver::of_txid(5)).len(), 1);
 }
 
 #[test]

@@ -2,7 +2,7 @@
 use mathlib.Core.Path.{sym, _∙_}
 use denote.Ref.{now}
 use Rattle.overlay.specs.Overlay.{laidBy}
-use Rattle.overlay.proofs.Heads.{head-inside}
+use Rattle.found.proofs.Heads.{head-inside}
 use borrow.Author.Needs.{needs}
 use Rattle.overlay.proofs.laid_by.Statement.{statement}
 use Rattle.overlay.proofs.laid_by.Tie as tie
@@ -37,7 +37,7 @@ unfolding laidBy
 returns-2 c = simp (← c .before .before .before .before .before .before .head-at .ensures, c .before .before .before .before .page .given .1, ← c .before .before .newer .ensures, c .before .if2 .taken, c .delta-value2 .ensures)
 
 page-value-requires : tie.Need-page-value-requires
-page-value-requires c κs = head-inside (now (c .before .before .before .before .before .before .before .before .before .args .s)) (c .before .before .before .before .before .before .before .before .before .args .a) (now (c .before .before .before .before .before .before .before .before .before .args .probe)) (c .before .before .before .page .given .0 .0) (c .before .before .before .page .given .0 .1 .0) (c .before .before .before .page .given .0 .1 .1 .0) (sym (c .before .before .before .before .before .head-at .ensures) ∙ c .before .before .before .page .given .1)
+page-value-requires c κs = head-inside (now (c .before .before .before .before .before .before .before .before .before .args .s)) (c .before .before .before .before .before .before .before .before .before .args .a) (now (c .before .before .before .before .before .before .before .before .before .args .probe)) _ _ _ _ _ (sym (c .before .before .before .before .before .head-at .ensures) ∙ c .before .before .before .page .given .1)
 
 returns-3 : tie.Need-returns-3
 unfolding laidBy

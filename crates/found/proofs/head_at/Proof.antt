@@ -1,13 +1,13 @@
--- `overlay::head_at` meets its contract. Assumes nothing.
+-- `found::head_at` meets its contract. Assumes nothing.
 use mathlib.Core.Path.{_≡_, sym, ap, _∙_}
 use denote.Ref.{now}
 use Rattle.sst.specs.declared.Outcome.{Outcome}
 use Rattle.sst.specs.Search.{leaves, outcomeAt}
 use Rattle.sst.proofs.Opens.{outcome-ready, leaf-kind}
-use Rattle.overlay.specs.Overlay.{headOf, headAt}
+use Rattle.found.specs.Head.{headOf, headAt}
 use borrow.Author.Needs.{needs}
-use Rattle.overlay.proofs.head_at.Statement.{statement}
-use Rattle.overlay.proofs.head_at.Tie as tie
+use Rattle.found.proofs.head_at.Statement.{statement}
+use Rattle.found.proofs.head_at.Tie as tie
 
 new-requires : tie.Need-new-requires
 new-requires c κs = search needs

@@ -1,13 +1,13 @@
--- `overlay::head_slot` meets its contract. Assumes nothing.
+-- `found::head_slot` meets its contract. Assumes nothing.
 use native.Mathlib.Omega.{arith}
 use mathlib.Core.Path.{sym, _∙_}
 use denote.Ref.{now}
 use Rattle.records.proofs.Inside.{skip-twelve}
 use Rattle.sst.proofs.Opens.{key-at-inside}
-use Rattle.overlay.specs.Overlay.{headSlot}
+use Rattle.found.specs.Head.{headSlot}
 use borrow.Author.Needs.{needs}
-use Rattle.overlay.proofs.head_slot.Statement.{statement}
-use Rattle.overlay.proofs.head_slot.Tie as tie
+use Rattle.found.proofs.head_slot.Statement.{statement}
+use Rattle.found.proofs.head_slot.Tie as tie
 
 key-at-requires : tie.Need-key-at-requires
 key-at-requires c κs = search needs
@@ -27,6 +27,11 @@ ver-at-requires c κs =
     let k = key-at-inside (now (c .before .before .before .before .before .args .s)) (c .before .before .before .before .before .args .b) (c .before .before .before .before .before .args .i) (c .before .ver-at .given .0 .0) (c .before .ver-at .given .0 .1 .0) (c .before .ver-at .given .0 .1 .1 .0) (c .before .before .before .before .before .pre .0) (sym (c .before .before .before .key-at .ensures) ∙ c .before .ver-at .given .1) in
     omega (arith, k .ver, k .rest, skip-twelve (c .before .before .before .before .before .args .b .kind) (λ e. omega (arith, c .before .before .before .before .before .pre .1)), c .before .before .before .before .before .pre .0 .payload, c .before .before .before .before .before .pre .0 .arena)
 
+add-t11 : tie.Need-add-t11
+add-t11 c =
+    let k = key-at-inside (now (c .before .before .before .before .before .before .args .s)) (c .before .before .before .before .before .before .args .b) (c .before .before .before .before .before .before .args .i) (c .before .before .ver-at .given .0 .0) (c .before .before .ver-at .given .0 .1 .0) (c .before .before .ver-at .given .0 .1 .1 .0) (c .before .before .before .before .before .before .pre .0) (sym (c .before .before .before .before .key-at .ensures) ∙ c .before .before .ver-at .given .1) in
+    omega (arith, k .rest, c .before .before .before .before .before .before .pre .0 .payload, c .before .before .before .before .before .before .pre .0 .arena, c .before .before .before .before .before .before .good)
+
 returns-2 : tie.Need-returns-2
 unfolding headSlot
 returns-2 c = simp (← c .before .before .before .before .key-at .ensures, c .before .before .ver-at .given .1, c .ver-at2 .ensures)
@@ -34,4 +39,11 @@ returns-2 c = simp (← c .before .before .before .before .key-at .ensures, c .b
 pub head-slot-spec : {M : Type 1} → statement M
 head-slot-spec =
     tie.close
-    (tie.spec key-at-requires enum-known-ver-at enum-told returns ver-at-requires returns-2)
+    (tie.spec
+    key-at-requires
+    enum-known-ver-at
+    enum-told
+    returns
+    ver-at-requires
+    add-t11
+    returns-2)

@@ -1,0 +1,4 @@
+-- The crate's definitions.
+pub mod AsOf
+pub mod Refused
+pub mod Cases
