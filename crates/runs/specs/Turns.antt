@@ -56,11 +56,12 @@ abbrev pub Heads : List ℕ → Walk → HeadRead → Type 0
 Heads s w (HeadRead.Is r v a) = (stepAt s w ≡ Step.Found (itemOf s (v .key) r (r .hist .page)) v) × (Known s a (v .past) × (r .«ver_at» + 12 ≤ length s))
 Heads s w HeadRead.Not = Unit {0}
 
--- what the short ways do: nothing, or a turn
-abbrev pub Quicks : List ℕ → ℕ → ℕ → Walk → List ℕ → Turn → List ℕ → Type 0
-Quicks s room at w o (Turn.On n v a) o′ = Filling s room at w o v (at + 9 * n) n o′ × (Known s a (v .past) × (0 < n))
-Quicks s room at w o (Turn.Stop number) o′ = o′ ≡ o
-
+-- a turn: some records on, or the end
 abbrev pub Turns : List ℕ → ℕ → ℕ → Walk → List ℕ → Turn → List ℕ → Type 0
 Turns s room at w o (Turn.On n v a) o′ = Filling s room at w o v (at + 9 * n) n o′ × (Known s a (v .past) × (0 < n))
 Turns s room at w o (Turn.Stop number) o′ = Stopping s room w o number o′
+
+-- what the short ways do: such a turn, or nothing, which says nothing of the walk
+abbrev pub Quicks : List ℕ → ℕ → ℕ → Walk → List ℕ → Turn → List ℕ → Type 0
+Quicks s room at w o (Turn.On n v a) o′ = Turns s room at w o (Turn.On n v a) o′
+Quicks s room at w o (Turn.Stop number) o′ = o′ ≡ o

@@ -277,6 +277,7 @@ fn quick(s: &[u8], w: Walk, known: u64, out: &mut [u64], at: usize, room: usize)
     Turn::On(1, v, seen)
 }
 
+// One turn: by the short ways, else by the walk's own step, which alone says the end and a refusal.
 fn next(s: &[u8], w: Walk, known: u64, out: &mut [u64], at: usize, room: usize) -> Turn
     requires { ⌜ Known (now s) known (w .past) ⌝ }
     requires { ⌜ 0 < room ⌝ }

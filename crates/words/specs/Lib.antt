@@ -1,1 +1,2 @@
+-- The crate's definitions.
 pub mod Words
