@@ -14,7 +14,7 @@ use Rattle.spans.specs.Span.{part, put, Lies}
 use Rattle.spans.proofs.Part.{length-part, part-add, part-one, part-zero, getD-part, part-agree}
 use Rattle.spans.proofs.Put.{put-next, put-one, put-cons, length-put}
 use Rattle.spans.proofs.Lying.{lies-part, put-lies, part-lies}
-use Rattle.numbers.specs.Number.{le, ofLe, be, ofBe, leAt, beAt, Bytes}
+use Rattle.numbers.specs.Number.{le, ofLe, be, ofBe, leAt, beAt, turned, Bytes}
 
 pub length-le : (k n : ℕ) → length (le k n) ≡ k
 unfolding le
@@ -164,6 +164,21 @@ ofLe-inj xs ys l hx hy e = sym (le-ofLe xs hx) ∙ ap₂ le l e ∙ le-ofLe ys h
 pub ofBe-inj : (xs ys : List ℕ) → length xs ≡ length ys → Bytes xs → Bytes ys → ofBe xs ≡ ofBe ys → xs ≡ ys
 ofBe-inj xs ys l hx hy e = sym (be-ofBe xs hx) ∙ ap₂ be l e ∙ be-ofBe ys hy
 
+-- ---- turned round
+
+-- in two halves
+pub turned-join : (j k n : ℕ) → turned (j + k) n ≡ turned k (n / 256 ^ j) + 256 ^ k * turned j (n % 256 ^ j)
+unfolding turned
+turned-join j k n =
+    ap ofBe (le-append j k n)
+    ∙ ofBe-append (le j n) (le k (n / 256 ^ j))
+    ∙ ap₂ (λ (m : ℕ) (x : List ℕ). ofBe (le k (n / 256 ^ j)) + 256 ^ m * ofBe x) (length-le k (n / 256 ^ j)) (sym (le-mod j n))
+
+-- two bytes
+pub turned-two : (n : ℕ) → n < 65536 → turned 2 n ≡ 256 * (n % 256) + n / 256
+unfolding turned ofBe le ofLe
+turned-two n h = omega arith
+
 -- ---- in a slice: a number of j + k bytes is read and stored in two halves
 
 pub read-le : (l : List ℕ) (i j k : ℕ) → i + j ≤ length l → leAt (j + k) l i ≡ leAt j l i + 256 ^ j * leAt k l (i + j)
@@ -221,6 +236,12 @@ leAt-agree a b k i m h e = ap ofLe (part-agree a b i k m h e)
 pub bytes-part : (l : List ℕ) (i n : ℕ) → Bytes l → Bytes (part l i n)
 unfolding part
 bytes-part l i n h = bytes-take n (drop i l) (λ k. subst (λ (x : ℕ). x < 256) (sym (getD-drop i l k 0)) (h (i + k)))
+
+-- a number that was read with the lowest byte first
+pub turned-le : (l : List ℕ) (i k : ℕ) → i + k ≤ length l → Bytes l → turned k (leAt k l i) ≡ beAt k l i
+unfolding turned leAt beAt
+turned-le l i k h b =
+    ap ofBe (ap (λ (m : ℕ). le m (ofLe (part l i k))) (sym (length-part l i k h)) ∙ le-ofLe (part l i k) (bytes-part l i k b))
 
 pub leAt-lt : (l : List ℕ) (i k : ℕ) → i + k ≤ length l → Bytes l → leAt k l i < 256 ^ k
 unfolding leAt

@@ -22,6 +22,10 @@ be k n = reverse (le k n)
 unfoldable pub ofBe : List ℕ → ℕ
 ofBe bs = ofLe (reverse bs)
 
+-- the number of n's lowest k bytes, turned round
+unfoldable pub turned : ℕ → ℕ → ℕ
+turned k n = ofBe (le k n)
+
 -- the number of k bytes at index i
 unfoldable pub leAt : ℕ → List ℕ → ℕ → ℕ
 leAt k s i = ofLe (part s i k)

@@ -3,7 +3,7 @@ ghost use mathlib.Core.Path.{_≡_};
 ghost use Prim.Native.Nat.{_+_, _≤_, _<_};
 ghost use lib.ListN.{length};
 ghost use Rattle.spans.specs.Span.{put};
-ghost use Rattle.numbers.specs.Number.{le, be, leAt, beAt};
+ghost use Rattle.numbers.specs.Number.{le, be, leAt, beAt, turned};
 
 pub fn read_u16(s: &[u8], at: usize) -> u16
     requires { ⌜ at + 2 ≤ length (now s) ⌝ }
@@ -63,31 +63,50 @@ pub fn put_u64(buf: &mut [u8], at: usize, x: u64)
     put_u32(buf, at + 4, (x / 4294967296) as u32);
 }
 
+// ---- the highest byte first: one load, its bytes turned round. The compiler knows this form as one instruction; bytes joined one by one it
+// does not, once there are eight.
+
+fn turn_u16(x: u16) -> u16
+    ensures { λ r. ⌜ r ≡ turned 2 x ⌝ }
+{
+    256 * (x % 256) + x / 256
+}
+
+fn turn_u32(x: u32) -> u32
+    ensures { λ r. ⌜ r ≡ turned 4 x ⌝ }
+{
+    let a = turn_u16((x % 65536) as u16) as u32;
+    let b = turn_u16((x / 65536) as u16) as u32;
+    b + 65536 * a
+}
+
+fn turn_u64(x: u64) -> u64
+    ensures { λ r. ⌜ r ≡ turned 8 x ⌝ }
+{
+    let a = turn_u32((x % 4294967296) as u32) as u64;
+    let b = turn_u32((x / 4294967296) as u32) as u64;
+    b + 4294967296 * a
+}
+
 pub fn read_u16_be(s: &[u8], at: usize) -> u16
     requires { ⌜ at + 2 ≤ length (now s) ⌝ }
     ensures { λ r. ⌜ r ≡ beAt 2 (now (s .entry)) at ⌝ }
 {
-    let a = s[at] as u16;
-    let b = s[at + 1] as u16;
-    b + 256 * a
+    turn_u16(read_u16(s, at))
 }
 
 pub fn read_u32_be(s: &[u8], at: usize) -> u32
     requires { ⌜ at + 4 ≤ length (now s) ⌝ }
     ensures { λ r. ⌜ r ≡ beAt 4 (now (s .entry)) at ⌝ }
 {
-    let a = read_u16_be(s, at) as u32;
-    let b = read_u16_be(s, at + 2) as u32;
-    b + 65536 * a
+    turn_u32(read_u32(s, at))
 }
 
 pub fn read_u64_be(s: &[u8], at: usize) -> u64
     requires { ⌜ at + 8 ≤ length (now s) ⌝ }
     ensures { λ r. ⌜ r ≡ beAt 8 (now (s .entry)) at ⌝ }
 {
-    let a = read_u32_be(s, at) as u64;
-    let b = read_u32_be(s, at + 4) as u64;
-    b + 4294967296 * a
+    turn_u64(read_u64(s, at))
 }
 
 pub fn put_u16_be(buf: &mut [u8], at: usize, x: u16)

@@ -5,7 +5,7 @@ use mathlib.Core.Path.{_≡_, refl, sym, ap, _∙_}
 use mathlib.Core.Bool.{Bool, true, false, cond}
 use mathlib.Core.List.{List}
 use native.Mathlib.Omega.{arith}
-use borrow.Author.Tests.{ltb-true, leb-true, eqb-true, eq-eqb, ne-eqb}
+use borrow.Author.Tests.{ltb-true, leb-true, eqb-true, le-leb, lt-leb, eq-eqb, ne-eqb}
 use lib.ListN.{length, take}
 use lib.Seq.{length-take-le}
 use lib.Dec.{leb, ltb, eqb}
@@ -35,6 +35,9 @@ slot-no p e = let z : _≡_ {A = ℕ} 0 1 = cc in omega arith
 
 rec-no : (r : Rec) → RecRead.Bad ≡ RecRead.Is r → ⊥
 rec-no r e = let z : _≡_ {A = ℕ} 0 1 = cc in omega arith
+
+pub val-no : (h : HistRef) (p n : ℕ) (a : Addr) (next : ℕ) → ValRead.Bad ≡ ValRead.Is h p n a next → ⊥
+val-no h p n a next e = let z : _≡_ {A = ℕ} 0 1 = cc in omega arith
 
 -- a page's end is in the arena
 pub ends : (s : List ℕ) (b : Body) → Inside s b → length (take (b .end) s) ≡ b .end
@@ -81,16 +84,13 @@ pub val-inside : (s : List ℕ) (b : Body) (at : ℕ) (h : HistRef) (p n : ℕ) 
 unfolding valIn
 val-inside s b at h p n a next i e = go (valAt (take (b .end) s) at (eqb (b .kind) 0)) refl e
   where
-    no : ValRead.Bad ≡ ValRead.Is h p n a next → ⊥
-    no z = let y : _≡_ {A = ℕ} 0 1 = cc in omega arith
-
     far : (h′ : HistRef) (a′ : Addr) (n′ next′ : ℕ) → next′ ≤ b .end → (r : RemoteRead) → remoteAt s a′ n′ ≡ r → farOf h′ a′ n′ next′ r ≡ ValRead.Is h p n a next → ValInside s b p n next
     far h′ a′ n′ next′ l (RemoteRead.At q) w e′ =
         let x : q ≡ p = cc in
         let y : n′ ≡ n = cc in
         let z : next′ ≡ next = cc in
         record { val = omega (arith, remote-inside s a′ n′ q w); behind = omega arith }
-    far h′ a′ n′ next′ l RemoteRead.Bad w e′ = absurd (no e′)
+    far h′ a′ n′ next′ l RemoteRead.Bad w e′ = absurd (val-no h p n a next e′)
 
     go : (v : Val) → valAt (take (b .end) s) at (eqb (b .kind) 0) ≡ v → valOf s v ≡ ValRead.Is h p n a next → ValInside s b p n next
     go (Val.Inline h′ p′ n′ next′) q e′ =
@@ -103,7 +103,7 @@ val-inside s b at h p n a next i e = go (valAt (take (b .end) s) at (eqb (b .kin
     go (Val.Remote h′ a′ n′ next′) q e′ =
         let k = remote-place (take (b .end) s) at (eqb (b .kind) 0) h′ a′ n′ next′ q in
         far h′ a′ n′ next′ (omega (arith, k .inside, ends s b i)) (remoteAt s a′ n′) refl e′
-    go Val.Bad q e′ = absurd (no e′)
+    go Val.Bad q e′ = absurd (val-no h p n a next e′)
 
 -- the record at a place
 pub rec-inside : (s : List ℕ) (b : Body) (at : ℕ) (r : Rec) → Inside s b → recIn s b at ≡ RecRead.Is r → RecInside s b r × (keyIn s b at ≡ KeyRead.Key (r .«ver_at») (r .«rest_at») (r .«rest_len»))
@@ -174,6 +174,37 @@ pub ver-inside : (s : List ℕ) (b : Body) (j : ℕ) (r : Rec) → Inside s b �
 ver-inside s b j r i n e =
     let k = at-inside s b j r i e .0 in
     omega (arith, k .ver, k .rest, skip-twelve (b .kind) n, i .payload, i .arena)
+
+-- ---- the record of a slot, by its key and what stands behind the key
+
+-- where it begins: a key does not tell
+abbrev pub fromOf : SlotRead → ℕ
+fromOf (SlotRead.At p) = p
+fromOf SlotRead.Bad = 0
+
+module _ (s : List ℕ) (b : Body) (i : ℕ) where
+  rec-key : recAt s b i ≡ recKey s b (fromOf (slotAt s b i)) (keyAtSlot s b i)
+  unfolding recAt recIn keyAtSlot
+  rec-key = go (slotAt s b i)
+    where
+      go : (w : SlotRead) → recSlot s b w ≡ recKey s b (fromOf w) (keySlot s b w)
+      go (SlotRead.At p) = refl
+      go SlotRead.Bad = refl
+
+  pub rec-no-key : keyAtSlot s b i ≡ KeyRead.Bad → recAt s b i ≡ RecRead.Bad
+  rec-no-key e = rec-key ∙ ap (recKey s b (fromOf (slotAt s b i))) e
+
+  module _ (v ra rn : ℕ) (e : keyAtSlot s b i ≡ KeyRead.Key v ra rn) where
+    -- a head or an old version: its value
+    pub rec-val : (x : ValRead) → (b .kind ≡ 1 → ⊥) → valIn s b (ra + rn) ≡ x → recAt s b i ≡ recVal (fromOf (slotAt s b i)) v ra rn x
+    rec-val x k u = rec-key ∙ ap (recKey s b (fromOf (slotAt s b i))) e ∙ rw (ne-eqb (b .kind) 1 k, u)
+
+    -- an index record: its page id
+    pub rec-short : b .kind ≡ 1 → b .end < ra + rn + 8 → recAt s b i ≡ RecRead.Bad
+    rec-short k l = rec-key ∙ ap (recKey s b (fromOf (slotAt s b i))) e ∙ rw (eq-eqb (b .kind) 1 k, lt-leb (ra + rn + 8) (b .end) l)
+
+    pub rec-page : b .kind ≡ 1 → ra + rn + 8 ≤ b .end → recAt s b i ≡ RecRead.Is (recOf (fromOf (slotAt s b i)) v ra rn noHist (ra + rn) 8 (addr 0) (ra + rn + 8))
+    rec-page k l = rec-key ∙ ap (recKey s b (fromOf (slotAt s b i))) e ∙ rw (eq-eqb (b .kind) 1 k, le-leb (ra + rn + 8) (b .end) l)
 
 -- ---- parts: on a page that was opened they are all there
 

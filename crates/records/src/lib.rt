@@ -10,6 +10,7 @@ ghost use Rattle.values.specs.Vals.{noHist, valOf, valAt};
 ghost use Rattle.values.specs.declared.FrontRead.{FrontRead};
 ghost use Rattle.values.specs.declared.Val.{Val};
 ghost use Rattle.records.specs.declared.RecRead.{RecRead};
+ghost use Rattle.records.specs.declared.ValRead.{ValRead};
 ghost use Rattle.records.specs.Records.{slotAt, verIn, keyIn, keyAtSlot, valIn, recIn, recAt, Quickly};
 ghost use Rattle.records.specs.Parts.{loIn, hiIn, prefixIn};
 use frames::Addr;
@@ -106,7 +107,8 @@ fn key_in(s: &[u8], b: Body, at: usize) -> KeyRead
     }
 }
 
-fn skip_of(kind: u8) -> usize
+// The bytes before a key's rest that are its version: an index key has none.
+pub fn skip_of(kind: u8) -> usize
     ensures { λ r. ⌜ r ≡ skipOf kind ⌝ }
 {
     if kind == Body::INDEX { 0 } else { 12 }
@@ -332,6 +334,30 @@ fn old_val(t: &[u8], at: usize) -> Val
         }
     }
     Val::Bad
+}
+
+// The value of a leaf's head, at a place.
+pub fn quick_value(s: &[u8], b: Body, at: usize) -> ValRead
+    requires { ⌜ Inside (now s) b ⌝ }
+    requires { ⌜ b .kind ≡ 0 ⌝ }
+    ensures { λ r. ⌜ Quickly ValRead.Bad r (valIn (now (s .entry)) b at) ⌝ }
+{
+    let e = b.end;
+    match head_val(&s[..e], at) {
+        Val::Inline {
+            hist,
+            at: p,
+            size,
+            next,
+        } => ValRead::Is {
+            hist: hist,
+            val_at: p,
+            val_len: size,
+            remote: Addr(0),
+            next: next,
+        },
+        _ => ValRead::Bad,
+    }
 }
 
 // The head at a place of a leaf.

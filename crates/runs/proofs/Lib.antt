@@ -1,2 +1,4 @@
+pub mod Bare
+pub mod Heading
 pub mod Running
 pub mod Ways

@@ -10,15 +10,18 @@ use Rattle.spans.specs.Span.{put}
 use Rattle.frames.specs.Layout.{addr}
 use Rattle.values.specs.declared.HistRef.{HistRef}
 use Rattle.records.specs.declared.Rec.{Rec}
+use Rattle.records.specs.declared.RecRead.{RecRead}
+use Rattle.pages.specs.declared.Place.{Place}
 use Rattle.pages.specs.Sound.{historyAt}
 use Rattle.walks.specs.declared.Past.{Past}
 use Rattle.walks.specs.declared.Walk.{Walk}
 use Rattle.walks.specs.declared.Step.{Step}
 use Rattle.walks.specs.declared.Entered.{Entered}
-use Rattle.walks.specs.Walk.{pastOf, walkOf, itemOf, restOf, enterOf, enterAt, stepAt}
+use Rattle.walks.specs.Walk.{pastOf, walkOf, onOf, itemOf, restOf, enterOf, enterAt, stepAt}
 use Rattle.runs.specs.declared.Run.{Run}
 use Rattle.runs.specs.declared.Reached.{Reached}
 use Rattle.runs.specs.declared.HeadRead.{HeadRead}
+use Rattle.runs.specs.declared.Plain.{Plain}
 use Rattle.runs.specs.declared.Turn.{Turn}
 use Rattle.runs.specs.Steps.{run, runOf, runWords}
 
@@ -44,6 +47,13 @@ pub record Known (s : List ℕ) (a : ℕ) (p : Past) : Type 0 where
 abbrev pub aged : Walk → ℕ → Walk
 aged w n = walkOf (w .page) (w .way) (w .pos) (w .heads) (w .key) (pastOf (w .past .page) (w .past .link) (w .past .slot + n) (w .past .left - n))
 
+-- the walk behind n heads without history, the last one's key, and where the next head stands
+abbrev pub onTo : Walk → ℕ → ℕ → Place → Walk
+onTo w n p key = walkOf (w .page) (w .way) p (w .heads - n) key (w .past)
+
+abbrev pub headedBy : Walk → Plain → Walk
+headedBy w x = onTo w (x .count) (x .pos) (x .key)
+
 -- a walk with another's page and way
 abbrev pub samePage : Walk → Walk → Walk
 samePage w v = walkOf (w .page) (w .way) (v .pos) (v .heads) (v .key) (v .past)
@@ -51,6 +61,20 @@ samePage w v = walkOf (w .page) (w .way) (v .pos) (v .heads) (v .key) (v .past)
 abbrev pub Reaches : List ℕ → HistRef → Past → Reached → Type 0
 Reaches s h was (Reached.Is p a) = (enterAt s h was ≡ Entered.Is p) × Known s a p
 Reaches s h was Reached.Not = Unit {0}
+
+-- the head at the walk, read: it is the walk's step, once its history is entered
+pub record Ahead (s : List ℕ) (w : Walk) (r : Rec) : Type 0 where
+  pub some : 0 < w .heads
+  pub below : w .pos < length s
+  pub ver : r .«ver_at» + 12 ≤ length s
+  pub steps : (p : Past) → enterAt s (r .hist) (w .past) ≡ Entered.Is p → stepAt s w ≡ Step.Found (itemOf s (restOf r) r (r .hist .page)) (onOf w (restOf r) p)
+
+-- what the heads without history come to, and the head behind them that has one
+pub record Plains (s : List ℕ) (room first : ℕ) (w : Walk) (o : List ℕ) (x : Plain) (o′ : List ℕ) : Type 0 where
+  pub few : x .count ≤ w .heads
+  pub fresh : x .count ≡ 0 → o′ ≡ o
+  pub fills : Filling s room first w o (headedBy w x) (first + 9 * x .count) (x .count) o′
+  pub next : (r : Rec) → x .next ≡ RecRead.Is r → (x .count < room) × Ahead s (headedBy w x) r
 
 abbrev pub Heads : List ℕ → Walk → HeadRead → Type 0
 Heads s w (HeadRead.Is r v a) = (stepAt s w ≡ Step.Found (itemOf s (v .key) r (r .hist .page)) v) × (Known s a (v .past) × (r .«ver_at» + 12 ≤ length s))

@@ -5,10 +5,12 @@ ghost use mathlib.Core.List.{[], _∷_};
 ghost use Prim.Native.Nat.{_+_, _*_, _-_, _<_, _≤_, _^_};
 ghost use lib.ListN.{length};
 ghost use Rattle.spans.specs.Span.{put};
+ghost use Rattle.records.specs.declared.Rec.{Rec};
+ghost use Rattle.records.specs.declared.RecRead.{RecRead};
 ghost use Rattle.walks.specs.Walk.{itemOf, movedOf};
 ghost use Rattle.words.specs.Words.{written, itemWords};
 ghost use Rattle.runs.specs.Steps.{runOf, runWords, roomIn, runNumber, runWalk, runEnd, runSays};
-ghost use Rattle.runs.specs.Turns.{Filling, Known, Reaches, Heads, Quicks, Turns, aged, samePage};
+ghost use Rattle.runs.specs.Turns.{Filling, Known, Reaches, Ahead, Plains, Heads, Quicks, Turns, aged, headedBy, samePage};
 use frames::Addr;
 use frames::Body;
 use frames::Opened;
@@ -40,6 +42,14 @@ enum HeadRead {
     Not,
 }
 
+// Heads without history: how many, where the next head stands, the last one's key; and the next head, read, where it has history.
+struct Plain {
+    count: usize,
+    pos: usize,
+    key: Place,
+    next: RecRead,
+}
+
 // A turn of the loop: how many records, the walk behind them, the history page that is known then; or no record, and the number of the
 // refusal, 0 at the end.
 enum Turn {
@@ -47,14 +57,14 @@ enum Turn {
     Stop(u32),
 }
 
-// A record's nine words from word k on.
+// A record's nine words from word k on, which the slice has.
 fn tell_rec(s: &[u8], out: &mut [u64], k: usize, key: Place, r: Rec, named: Addr)
-    requires { ⌜ k + 9 < 2 ^ 64 ⌝ }
+    requires { ⌜ k + 9 ≤ length (now out) ⌝ }
     requires { ⌜ r .«ver_at» + 12 ≤ length (now s) ⌝ }
     ensures { λ _. ⌜ now (out .exit) ≡ put (now (out .entry)) k (itemWords (itemOf (now (s .entry)) key r named)) ⌝ }
 {
     let v = records::ver_at(s, r.ver_at);
-    words::store_nine(
+    words::put_nine(
         out,
         k,
         1,
@@ -76,9 +86,9 @@ fn least(a: usize, b: usize) -> usize
     if a < b { a } else { b }
 }
 
-// Old versions at the walk, as long as they stand in its history page in the common form: how many.
-fn olds(s: &[u8], w: Walk, out: &mut [u64], first: usize, room: usize) -> usize
-    requires { ⌜ first + 9 * room < 2 ^ 64 ⌝ }
+// Old versions at the walk, as long as they stand in its history page in the common form: how many. At most as many as fit into the slice.
+fn olds(s: &[u8], w: Walk, out: &mut [u64], first: usize, room: usize, fit: usize) -> usize
+    requires { ⌜ (fit ≤ room) × (9 * fit ≤ length (now out) - first) ⌝ }
     ensures { λ n. ⌜ n ≤ w .past .left ⌝ }
     ensures { λ n. ⌜ (0 < n → w .past .slot + n ≤ w .past .page .elems) ⌝ }
     ensures { λ n. ⌜ (n ≡ 0 → now (out .exit) ≡ now (out .entry)) ⌝ }
@@ -91,7 +101,7 @@ fn olds(s: &[u8], w: Walk, out: &mut [u64], first: usize, room: usize) -> usize
     let Opened::Is(b) = walks::body_of(s, page, Body::HISTORY) else {
         return 0;
     };
-    let most = least(room, w.past.left);
+    let most = least(fit, w.past.left);
     let mut at: usize = first;
     let mut n: usize = 0;
     while n < most {
@@ -175,26 +185,114 @@ fn moved(way: usize, pos: usize) -> usize
     if pos == 0 { 0 } else { pos - 1 }
 }
 
-// The head at the walk, in the common form, and the walk behind it.
-fn head(s: &[u8], w: Walk, known: u64) -> HeadRead
-    requires { ⌜ Known (now s) known (w .past) ⌝ }
+// Heads at the walk, as long as they are in the common form and without history, and fit into the slice.
+fn plains(s: &[u8], w: Walk, out: &mut [u64], first: usize, room: usize, fit: usize) -> Plain
+    requires { ⌜ (fit ≤ room) × (9 * fit ≤ length (now out) - first) ⌝ }
     requires { ⌜ w .past .left ≡ 0 ⌝ }
-    ensures { λ r. ⌜ Heads (now (s .entry)) w r ⌝ }
+    ensures { λ x. ⌜ Plains (now (s .entry)) room first w (now (out .entry)) x (now (out .exit)) ⌝ }
+    ensures { λ x. ⌜ ((r : Rec) → x .next ≡ RecRead.Is r → x .count < fit) ⌝ }
+{
+    let page = w.page;
+    let key = w.key;
+    if w.way == Walk::INDEX {
+        return Plain {
+            count: 0,
+            pos: w.pos,
+            key: key,
+            next: RecRead::Bad,
+        };
+    }
+    let Opened::Is(b) = walks::body_of(s, page, Body::LEAF) else {
+        return Plain {
+            count: 0,
+            pos: w.pos,
+            key: key,
+            next: RecRead::Bad,
+        };
+    };
+    let most = least(fit, w.heads);
+    let mut at: usize = first;
+    let mut pos: usize = w.pos;
+    let mut key_at: usize = w.key.at;
+    let mut key_len: usize = w.key.len;
+    let mut n: usize = 0;
+    while n < most {
+        let RecRead::Is(r) = records::quick_head(s, b, pos) else {
+            return Plain {
+                count: n,
+                pos: pos,
+                key: Place {
+                    at: key_at,
+                    len: key_len,
+                },
+                next: RecRead::Bad,
+            };
+        };
+        if r.hist.count != 0 {
+            return Plain {
+                count: n,
+                pos: pos,
+                key: Place {
+                    at: key_at,
+                    len: key_len,
+                },
+                next: RecRead::Is(r),
+            };
+        }
+        key_at = r.rest_at;
+        key_len = r.rest_len;
+        tell_rec(
+            s,
+            out,
+            at,
+            Place {
+                at: key_at,
+                len: key_len,
+            },
+            r,
+            Addr(0),
+        );
+        pos = moved(w.way, pos);
+        at += 9;
+        n += 1;
+    }
+    Plain {
+        count: n,
+        pos: pos,
+        key: Place {
+            at: key_at,
+            len: key_len,
+        },
+        next: RecRead::Bad,
+    }
+}
+
+// The walk behind heads without history.
+fn headed(w: Walk, x: Plain) -> Walk
+    requires { ⌜ x .count ≤ w .heads ⌝ }
+    ensures { λ v. ⌜ v ≡ headedBy w x ⌝ }
+{
+    let page = w.page;
+    let key = x.key;
+    let past = w.past;
+    Walk {
+        page: page,
+        way: w.way,
+        pos: x.pos,
+        heads: w.heads - x.count,
+        key: key,
+        past: past,
+    }
+}
+
+// The head at the walk, which has been read, and the walk behind it.
+fn behind(s: &[u8], w: Walk, known: u64, r: Rec) -> HeadRead
+    requires { ⌜ Known (now s) known (w .past) ⌝ }
+    requires { ⌜ Ahead (now s) w r ⌝ }
+    ensures { λ x. ⌜ Heads (now (s .entry)) w x ⌝ }
 {
     let page = w.page;
     let was = w.past;
-    if w.heads == 0 {
-        return HeadRead::Not;
-    }
-    if w.way == Walk::INDEX {
-        return HeadRead::Not;
-    }
-    let Opened::Is(b) = walks::body_of(s, page, Body::LEAF) else {
-        return HeadRead::Not;
-    };
-    let RecRead::Is(r) = records::quick_head(s, b, w.pos) else {
-        return HeadRead::Not;
-    };
     let h = r.hist;
     let Reached::Is(past, seen) = reach(s, h, was, known) else {
         return HeadRead::Not;
@@ -253,41 +351,74 @@ fn any(s: &[u8], w: Walk, out: &mut [u64], at: usize, room: usize) -> Turn
     }
 }
 
-// What the short ways read: the old versions behind a head, or the next head; 0 where they read nothing.
-fn quick(s: &[u8], w: Walk, known: u64, out: &mut [u64], at: usize, room: usize) -> Turn
+// What the short ways read: the old versions behind a head; or the heads without history and the next head with its own; a stop where they
+// read nothing.
+fn quick(s: &[u8], w: Walk, known: u64, out: &mut [u64], at: usize, room: usize, fit: usize) -> Turn
     requires { ⌜ Known (now s) known (w .past) ⌝ }
     requires { ⌜ 0 < room ⌝ }
+    requires { ⌜ (fit ≤ room) × (9 * fit ≤ length (now out) - at) ⌝ }
     requires { ⌜ at + 9 * room < 2 ^ 64 ⌝ }
     ensures { λ r. ⌜ Quicks (now (s .entry)) room at w (now (out .entry)) r (now (out .exit)) ⌝ }
 {
     let past = w.past;
     if 0 < past.left {
-        let n = olds(s, w, out, at, room);
+        let n = olds(s, w, out, at, room, fit);
         if n == 0 {
             return Turn::Stop(0);
         }
         return Turn::On(n, age(w, n), known);
     }
-    let HeadRead::Is(r, v, seen) = head(s, w, known) else {
-        return Turn::Stop(0);
+    let x = plains(s, w, out, at, room, fit);
+    let u = headed(w, x);
+    let n = x.count;
+    let read = x.next;
+    let RecRead::Is(h) = read else {
+        if n == 0 {
+            return Turn::Stop(0);
+        }
+        return Turn::On(n, u, known);
+    };
+    let HeadRead::Is(r, v, seen) = behind(s, u, known, h) else {
+        if n == 0 {
+            return Turn::Stop(0);
+        }
+        return Turn::On(n, u, known);
     };
     let key = v.key;
     let named = r.hist.page;
-    tell_rec(s, out, at, key, r, named);
-    Turn::On(1, v, seen)
+    tell_rec(s, out, at + 9 * n, key, r, named);
+    Turn::On(n + 1, v, seen)
 }
 
 // One turn: by the short ways, else by the walk's own step, which alone says the end and a refusal.
-fn next(s: &[u8], w: Walk, known: u64, out: &mut [u64], at: usize, room: usize) -> Turn
+fn next(s: &[u8], w: Walk, known: u64, out: &mut [u64], at: usize, room: usize, fit: usize) -> Turn
     requires { ⌜ Known (now s) known (w .past) ⌝ }
     requires { ⌜ 0 < room ⌝ }
+    requires { ⌜ (fit ≤ room) × (9 * fit ≤ length (now out) - at) ⌝ }
     requires { ⌜ at + 9 * room < 2 ^ 64 ⌝ }
     ensures { λ r. ⌜ Turns (now (s .entry)) room at w (now (out .entry)) r (now (out .exit)) ⌝ }
 {
-    match quick(s, w, known, out, at, room) {
+    match quick(s, w, known, out, at, room, fit) {
         Turn::On(n, v, seen) => Turn::On(n, v, seen),
         Turn::Stop(_) => any(s, w, out, at, room),
     }
+}
+
+fn less(a: usize, b: usize) -> usize
+    ensures { λ r. ⌜ r ≡ a - b ⌝ }
+{
+    if a < b { 0 } else { a - b }
+}
+
+// How many records stand whole in so many words, from word `first` on: the short ways ask for no word's place.
+fn whole_in(len: usize, first: usize, room: usize) -> usize
+    ensures { λ r. ⌜ r ≤ room ⌝ }
+    ensures { λ r. ⌜ 9 * r ≤ len - first ⌝ }
+{
+    if len < first {
+        return 0;
+    }
+    least(room, (len - first) / 9)
 }
 
 // At most `room` steps, each record's words behind the one's before, from word `first` on.
@@ -296,12 +427,13 @@ pub fn fill(s: &[u8], from: Walk, out: &mut [u64], first: usize, room: usize) ->
     ensures { λ r. ⌜ r ≡ runOf room 0 (now (s .entry)) from ⌝ }
     ensures { λ _. ⌜ now (out .exit) ≡ put (now (out .entry)) first (runWords room (now (s .entry)) from) ⌝ }
 {
+    let fit = whole_in(out.len(), first, room);
     let mut w = from;
     let mut known: u64 = 0;
     let mut at: usize = first;
     let mut k: usize = 0;
     while k < room {
-        match next(s, w, known, out, at, room - k) {
+        match next(s, w, known, out, at, room - k, less(fit, k)) {
             Turn::On(n, v, seen) => {
                 w = v;
                 known = seen;

@@ -1,7 +1,7 @@
 -- The crate's laws.
 pub mod Turns
 pub mod Compared
-pub mod Overlap
+pub mod Narrows
 pub mod Halving
 pub mod Opens
 pub mod Rising

@@ -1,31 +1,29 @@
 -- What a page that is ready for a search tells.
 -- Assumes nothing.
 use Prim.Native.Nat.{ℕ, _+_, _*_, _-_, _≤_, suc-le-suc, zero-le}
-use mathlib.Core.Path.{_≡_, refl, ap, _∙_}
+use mathlib.Core.Path.{_≡_, refl, sym, ap, _∙_}
 use mathlib.Core.Bool.{Bool, true, false, cond, _||_}
 use mathlib.Core.List.{List, [], _∷_}
 use native.Mathlib.Omega.{arith}
 use borrow.Author.Tests.{eq-eqb, ne-eqb, eqb-true, eqb-false}
 use lib.ListN.{length, take, drop, length-drop}
 use lib.Seq.{take-all}
-use lib.Dec.{leb, eqb}
+use lib.Dec.{eqb}
 use Rattle.spans.proofs.Part.{length-part}
 use Rattle.spans.proofs.Tests.{ask, dont}
+use Rattle.order.specs.declared.Ver.{Ver}
 use Rattle.order.specs.Order.{startsWith}
 use Rattle.frames.specs.declared.Addr.{Addr}
 use Rattle.frames.specs.declared.Body.{Body}
 use Rattle.frames.specs.declared.Opened.{Opened}
 use Rattle.frames.specs.declared.Refusal.{Refusal}
-use Rattle.frames.specs.Layout.{baseLen, addr, openAt, Inside}
+use Rattle.frames.specs.Layout.{baseLen, openAt, Inside}
 use Rattle.frames.proofs.Frames.{open-inside}
 use Rattle.values.specs.declared.KeyRead.{KeyRead}
-use Rattle.values.specs.Vals.{noHist}
 use Rattle.records.specs.declared.SlotRead.{SlotRead}
-use Rattle.records.specs.declared.Rec.{Rec}
-use Rattle.records.specs.declared.RecRead.{RecRead}
-use Rattle.records.specs.Records.{slotAt, keyIn, keySlot, keyAtSlot, recOf, recKey, recIn, recSlot, recAt}
+use Rattle.records.specs.Records.{slotAt, keySlot, keyAtSlot}
 use Rattle.records.specs.Parts.{prefixIn}
-use Rattle.records.proofs.Inside.{KeyInside, key-inside, prefix-part, at-inside}
+use Rattle.records.proofs.Inside.{KeyInside, key-inside, prefix-part}
 use Rattle.sst.specs.declared.Want.{Want}
 use Rattle.sst.specs.declared.Ready.{Ready}
 use Rattle.sst.specs.declared.Halved.{Halved}
@@ -59,29 +57,6 @@ key-at-inside s b i v r n z e = go (slotAt s b i) e
     go : (w : SlotRead) → keySlot s b w ≡ KeyRead.Key v r n → KeyInside b v r n
     go (SlotRead.At p) q = key-inside s b p v r n z q
     go SlotRead.Bad q = absurd (let z : _≡_ {A = ℕ} 0 1 = cc in omega arith)
-
--- an index page's value is a page id of 8 bytes (`records`)
-pub index-eight : (s : List ℕ) (b : Body) (i : ℕ) (r : Rec) → b .kind ≡ 1 → recAt s b i ≡ RecRead.Is r → r .«val_len» ≡ 8
-unfolding recAt recIn
-index-eight s b i r k e = go (slotAt s b i) e
-  where
-    no : RecRead.Bad ≡ RecRead.Is r → ⊥
-    no z = let y : _≡_ {A = ℕ} 0 1 = cc in omega arith
-
-    key : (p : ℕ) (x : KeyRead) → recKey s b p x ≡ RecRead.Is r → r .«val_len» ≡ 8
-    key p (KeyRead.Key v ra rn) q =
-        let q′ : cond (leb (ra + rn + 8) (b .end)) (RecRead.Is (recOf p v ra rn noHist (ra + rn) 8 (addr 0) (ra + rn + 8))) RecRead.Bad ≡ RecRead.Is r = rw (eq-eqb (b .kind) 1 k) at q in
-        let a1 = ask (leb (ra + rn + 8) (b .end)) _ RecRead.Bad (RecRead.Is r) no q′ in
-        let x : recOf p v ra rn noHist (ra + rn) 8 (addr 0) (ra + rn + 8) ≡ r = cc in
-        rw (← x)
-    key p KeyRead.Bad q = absurd (no q)
-
-    go : (w : SlotRead) → recSlot s b w ≡ RecRead.Is r → r .«val_len» ≡ 8
-    go (SlotRead.At p) q = key p (keyIn s b p) q
-    go SlotRead.Bad q = absurd (no q)
-
-pub page-inside : (s : List ℕ) (b : Body) (i : ℕ) (r : Rec) → Inside s b → b .kind ≡ 1 → recAt s b i ≡ RecRead.Is r → r .«val_at» + 8 ≤ length s
-page-inside s b i r z k e = omega (arith, at-inside s b i r z e .0 .val, index-eight s b i r k e)
 
 -- the prefix has its length (`records`)
 pub prefix-length : (s : List ℕ) (b : Body) → Inside s b → length (prefixIn s b) ≡ b .«prefix_len»
@@ -164,6 +139,13 @@ module _ (s : List ℕ) (probe : List ℕ) (w : Want) (b : Body) where
     pub ends-other : (b .elems ≡ 0 → ⊥) → fitsPrefix s b probe ≡ false → endedIn s b probe w ≡ Ended.Refused Refusal.WrongPrefix
     unfolding endedIn
     ends-other e f = rw (k, ne-eqb _ _ e, f)
+
+-- for a search that looks for no version: its version was made of two zeros
+abbrev pub wants : Bool → Bool → Ver → Want
+wants leaf index v = record { leaf = leaf; index = index; lower = false; ver = v }
+
+pub end-of : (s : List ℕ) (b : Body) (probe : List ℕ) (w x : Want) (r e : Ended) → x ≡ w → r ≡ endedIn s b probe x → r ≡ e → endedIn s b probe w ≡ e
+end-of s b probe w x r e y h k = ap (endedIn s b probe) (sym y) ∙ sym h ∙ k
 
 -- what it says of the page at an address
 abbrev pub backOf : Body → Ended → Outcome

@@ -1,6 +1,6 @@
 -- The crate's definitions.
 pub mod Halve
-pub mod Words
+pub mod Narrow
 pub mod Search
 pub mod Refused
 pub mod Says

@@ -1,15 +1,14 @@
 // The three searches of sst.rs: lower bound, floor and search. Each is one halving of a page's slots over a comparison that may refuse.
 ghost use mathlib.Core.Path.{_≡_};
-ghost use Prim.Native.Nat.{_+_, _≤_};
-ghost use lib.ListN.{length, take, drop};
-ghost use Rattle.order.specs.Order.{cmpBytes};
+ghost use Prim.Native.Nat.{_+_, _-_, _≤_, _<_};
+ghost use lib.ListN.{length};
 ghost use Rattle.frames.specs.Layout.{Inside};
 ghost use Rattle.values.specs.Keys.{skipOf};
-ghost use Rattle.pages.specs.Sound.{isLess};
 ghost use Rattle.sst.specs.Halve.{halve};
-ghost use Rattle.sst.specs.Words.{Spotted};
+ghost use Rattle.sst.specs.Narrow.{Marks, MarkedAt, equalAt, IsMet, Narrowed};
 ghost use Rattle.sst.specs.Search.{newerAt, keyCmp, fitsPrefix, halved, endedIn, outcomeAt, boundIn, floorSlot, pageIn, floorIn, headIn, foundIn, searchAt, floorAt, lowerAt};
 use frames::Addr;
+use frames::BaseHeader;
 use frames::Body;
 use frames::Opened;
 use frames::PageId;
@@ -18,10 +17,12 @@ use order::Order;
 use order::Ver;
 use pages::Place;
 use records::RecRead;
+use records::SlotRead;
+use records::ValRead;
 use values::HistRef;
 use values::KeyRead;
 
-// How a key stands to the probe, or that it cannot be read: for the definitions, the loop asks in two questions.
+// How a key stands to the probe, or that it cannot be read.
 pub enum Cmp {
     Less,
     Equal,
@@ -113,154 +114,199 @@ fn newer_at(s: &[u8], kind: u8, at: usize, v: Ver) -> bool
     records::ver_at(s, at).newer(v)
 }
 
-// How far the first n bytes of two strings are the same, sixteen at a time.
-fn pairs(a: &[u8], b: &[u8], n: usize) -> usize
-    requires { ⌜ (n ≤ length (now a)) × (n ≤ length (now b)) ⌝ }
-    ensures { λ r. ⌜ (r ≤ n) × (take r (now (a .entry)) ≡ take r (now (b .entry))) ⌝ }
-{
-    let mut i: usize = 0;
-    while 16 <= n - i {
-        if numbers::read_u64(a, i) != numbers::read_u64(b, i) {
-            return i;
-        }
-        if numbers::read_u64(a, i + 8) != numbers::read_u64(b, i + 8) {
-            return i;
-        }
-        i += 16;
-    }
-    i
-}
-
-// The same, eight at a time: plain loads, in either byte order.
-fn same(a: &[u8], b: &[u8], n: usize) -> usize
-    requires { ⌜ (n ≤ length (now a)) × (n ≤ length (now b)) ⌝ }
-    ensures { λ r. ⌜ (r ≤ n) × (take r (now (a .entry)) ≡ take r (now (b .entry))) ⌝ }
-{
-    let mut i = pairs(a, b, n);
-    while 8 <= n - i {
-        if numbers::read_u64(a, i) != numbers::read_u64(b, i) {
-            return i;
-        }
-        i += 8;
-    }
-    i
-}
-
-// Two words of four bytes that decide: each may begin with bytes that are known to be the same.
-pub struct Spots {
-    pub first: usize,
-    pub last: usize,
-}
-
-// For strings of n bytes, the first i of them the same: the eight bytes behind, or the last eight.
-fn spots_of(n: usize, i: usize) -> Spots
-    requires { ⌜ (4 ≤ n) × (i ≤ n) ⌝ }
-    ensures { λ r. ⌜ Spotted n i r ⌝ }
-{
-    if 8 <= n - i {
-        return Spots {
-            first: i,
-            last: i + 4,
-        };
-    }
-    if 8 <= n {
-        return Spots {
-            first: n - 8,
-            last: n - 4,
-        };
-    }
-    Spots {
-        first: 0,
-        last: n - 4,
-    }
-}
-
-// What is left from the first spot on. Both words are read before anything is asked: which of them differs cannot be foreseen.
-fn by_words(a: &[u8], b: &[u8], p: Spots) -> Order
-    requires { ⌜ (p .first ≤ p .last) × (p .last ≤ p .first + 4) ⌝ }
-    requires { ⌜ (p .last + 4 ≤ length (now a)) × (length (now a) ≡ length (now b)) ⌝ }
-    ensures { λ r. ⌜ r ≡ cmpBytes (drop (p .first) (now (a .entry))) (drop (p .first) (now (b .entry))) ⌝ }
-{
-    let x = numbers::read_u32_be(a, p.first);
-    let y = numbers::read_u32_be(b, p.first);
-    let u = numbers::read_u32_be(a, p.last);
-    let v = numbers::read_u32_be(b, p.last);
-    if (x == y) & (u == v) {
-        let k = p.last + 4;
-        if k == a.len() {
-            return Order::Equal;
-        }
-        return order::compare(&a[k..], &b[k..]);
-    }
-    if (x < y) | ((x == y) & (u < v)) {
-        return Order::Less;
-    }
-    Order::Greater
-}
-
-// order::compare for the halving's loop: keys as long as the probe, the common case, are compared in place.
-fn against(a: &[u8], b: &[u8]) -> Order
-    ensures { λ r. ⌜ r ≡ cmpBytes (now (a .entry)) (now (b .entry)) ⌝ }
-{
-    let n = b.len();
-    if a.len() != n {
-        return order::compare(a, b);
-    }
-    if n < 4 {
-        return order::compare(a, b);
-    }
-    let i = same(a, b, n);
-    by_words(a, b, spots_of(n, i))
-}
-
-fn is_less(c: Order) -> bool
-    ensures { λ r. ⌜ r ≡ isLess c ⌝ }
-{
-    match c {
-        Order::Less => true,
-        Order::Equal => false,
-        Order::Greater => false,
-    }
-}
-
 // ---- the halving
 
-// A page's slots, halved. Less or greater is asked last and of one value, so that it is no branch: nobody could foresee it.
+// Where a halving stands: the slots that are left, the keys read, and the record whose key is the probe, where it stopped at one.
+pub struct Stand {
+    pub lo: usize,
+    pub hi: usize,
+    pub reads: usize,
+    pub met: SlotRead,
+}
+
+// The byte before a key rest of n bytes, where one byte says the length and the key is not too long; elsewhere 256, which no byte is.
+fn mark_of(b: Body, n: usize) -> usize
+    requires { ⌜ b .«prefix_len» + n < 18446744073709551616 ⌝ }
+    ensures { λ r. ⌜ Marks b n r ⌝ }
+{
+    if b.kind == Body::HISTORY {
+        return 256;
+    }
+    if 4096 < b.prefix_len + n {
+        return 256;
+    }
+    let m = records::skip_of(b.kind) + n;
+    if 127 < m {
+        return 256;
+    }
+    m
+}
+
+// Where the record of slot i starts, if the byte there is the mark.
+fn marked_at(s: &[u8], b: Body, i: usize, mark: usize) -> SlotRead
+    requires { ⌜ Inside (now s) b ⌝ }
+    requires { ⌜ (i < b .elems) × (mark ≤ 256) ⌝ }
+    ensures { λ r. ⌜ MarkedAt (now (s .entry)) b i mark r ⌝ }
+{
+    let p = b.at + (numbers::read_u32(s, b.at + BaseHeader::HDR_LEN + 4 * i) as usize);
+    if p < b.first {
+        return SlotRead::Bad;
+    }
+    if b.end <= p + mark {
+        return SlotRead::Bad;
+    }
+    if (s[p] as usize) != mark {
+        return SlotRead::Bad;
+    }
+    SlotRead::At(p)
+}
+
+// Turns over keys as long as the probe, in a loop of their own: up to the first key of another length, or one that is the probe.
+// Less or greater is asked last and of one value, so that it is no branch: nobody could foresee it.
+fn narrow(s: &[u8], b: Body, rest: &[u8], mark: usize, from: Stand) -> Stand
+    requires { ⌜ Inside (now s) b ⌝ }
+    requires { ⌜ Marks b (length (now rest)) mark ⌝ }
+    requires { ⌜ (from .hi ≤ b .elems) × (from .hi - from .lo + from .reads ≤ b .elems) ⌝ }
+    ensures { λ r. ⌜ Narrowed (now (s .entry)) b (now (rest .entry)) from r ⌝ }
+{
+    let n = rest.len();
+    let skip = records::skip_of(b.kind);
+    let mut lo = from.lo;
+    let mut hi = from.hi;
+    let mut reads = from.reads;
+    while lo < hi {
+        let mid = lo + (hi - lo) / 2;
+        let SlotRead::At(p) = marked_at(s, b, mid, mark) else {
+            return Stand {
+                lo: lo,
+                hi: hi,
+                reads: reads,
+                met: SlotRead::Bad,
+            };
+        };
+        let q = p + 1 + skip;
+        let e = q + n;
+        let d = apart::pair_of(&s[q..e], rest);
+        if d.x == d.y {
+            if d.whole {
+                return Stand {
+                    lo: lo,
+                    hi: hi,
+                    reads: reads,
+                    met: SlotRead::At(p),
+                };
+            }
+            return Stand {
+                lo: lo,
+                hi: hi,
+                reads: reads,
+                met: SlotRead::Bad,
+            };
+        }
+        reads += 1;
+        if d.x < d.y {
+            lo = mid + 1;
+        } else {
+            hi = mid;
+        }
+    }
+    Stand {
+        lo: lo,
+        hi: hi,
+        reads: reads,
+        met: SlotRead::Bad,
+    }
+}
+
+// A key that is the probe, its version at a place: a lower bound asks for the version, too.
+fn equal_at(s: &[u8], kind: u8, at: usize, w: Want) -> Cmp
+    requires { ⌜ at + skipOf kind ≤ length (now s) ⌝ }
+    ensures { λ r. ⌜ r ≡ equalAt (now (s .entry)) kind at w ⌝ }
+{
+    if w.lower {
+        if newer_at(s, kind, at, w.ver) {
+            return Cmp::Less;
+        }
+        return Cmp::Greater;
+    }
+    Cmp::Equal
+}
+
+// The key of slot i, of any length.
+fn any_at(s: &[u8], b: Body, i: usize, rest: &[u8], w: Want) -> Cmp
+    requires { ⌜ Inside (now s) b ⌝ }
+    ensures { λ r. ⌜ r ≡ keyCmp (now (s .entry)) b (now (rest .entry)) w i ⌝ }
+{
+    let KeyRead::Key {
+        ver_at,
+        rest_at,
+        rest_len,
+    } = records::key_at(s, b, i)
+    else {
+        return Cmp::Refuse;
+    };
+    let e = rest_at + rest_len;
+    match order::compare(&s[rest_at..e], rest) {
+        Order::Less => Cmp::Less,
+        Order::Equal => equal_at(s, b.kind, ver_at, w),
+        Order::Greater => Cmp::Greater,
+    }
+}
+
+// The key of slot i, where the turns above stopped.
+fn met_at(s: &[u8], b: Body, i: usize, rest: &[u8], w: Want, met: SlotRead) -> Cmp
+    requires { ⌜ Inside (now s) b ⌝ }
+    requires { ⌜ IsMet (now s) b (now rest) i met ⌝ }
+    ensures { λ r. ⌜ r ≡ keyCmp (now (s .entry)) b (now (rest .entry)) w i ⌝ }
+{
+    match met {
+        SlotRead::At(p) => equal_at(s, b.kind, p + 1, w),
+        SlotRead::Bad => any_at(s, b, i, rest, w),
+    }
+}
+
+// A page's slots, halved.
 fn halve_keys(s: &[u8], b: Body, rest: &[u8], w: Want) -> Halved
     requires { ⌜ Inside (now s) b ⌝ }
     ensures { λ r. ⌜ r ≡ halve (keyCmp (now (s .entry)) b (now (rest .entry)) w) (b .elems) 0 (b .elems) 0 ⌝ }
 {
+    let mark = mark_of(b, rest.len());
     let mut lo = 0;
     let mut hi = b.elems;
     let mut reads = 0;
     while lo < hi {
-        let mid = lo + (hi - lo) / 2;
-        reads += 1;
-        let KeyRead::Key {
-            ver_at,
-            rest_at,
-            rest_len,
-        } = records::key_at(s, b, mid)
-        else {
-            return Halved::Bad;
-        };
-        let e = rest_at + rest_len;
-        let c = against(&s[rest_at..e], rest);
-        if order::is_equal(c) {
-            if w.lower {
-                if newer_at(s, b.kind, ver_at, w.ver) {
+        let g = narrow(
+            s,
+            b,
+            rest,
+            mark,
+            Stand {
+                lo: lo,
+                hi: hi,
+                reads: reads,
+                met: SlotRead::Bad,
+            },
+        );
+        lo = g.lo;
+        hi = g.hi;
+        reads = g.reads;
+        let met = g.met;
+        if lo < hi {
+            let mid = lo + (hi - lo) / 2;
+            reads += 1;
+            match met_at(s, b, mid, rest, w, met) {
+                Cmp::Less => {
                     lo = mid + 1;
-                } else {
+                }
+                Cmp::Greater => {
                     hi = mid;
                 }
-            } else {
-                return Halved::At(mid, reads);
-            }
-        } else {
-            if is_less(c) {
-                lo = mid + 1;
-            } else {
-                hi = mid;
+                Cmp::Equal => {
+                    return Halved::At(mid, reads);
+                }
+                Cmp::Refuse => {
+                    return Halved::Bad;
+                }
             }
         }
     }
@@ -372,12 +418,21 @@ fn page_in(s: &[u8], b: Body, i: usize, reads: usize) -> Floor
     requires { ⌜ b .kind ≡ 1 ⌝ }
     ensures { λ r. ⌜ r ≡ pageIn (now (s .entry)) b i reads ⌝ }
 {
-    let RecRead::Is(r) = records::rec_at(s, b, i) else {
+    let KeyRead::Key {
+        ver_at: _,
+        rest_at,
+        rest_len,
+    } = records::key_at(s, b, i)
+    else {
         return Floor::Refused(Refusal::BadFrame);
     };
+    let q = rest_at + rest_len;
+    if b.end < q + 8 {
+        return Floor::Refused(Refusal::BadFrame);
+    }
     Floor::Is {
         slot: i,
-        page: PageId(numbers::read_u64(s, r.val_at)),
+        page: PageId(numbers::read_u64(s, q)),
         reads: reads,
     }
 }
@@ -414,8 +469,8 @@ pub fn floor_pid_by_raw(s: &[u8], a: Addr, probe: &[u8]) -> Floor
     }
 }
 
-// The head of slot i.
-fn head_in(s: &[u8], b: Body, i: usize, reads: usize) -> Found
+// The head of slot i, by the decoder of any record.
+fn any_head(s: &[u8], b: Body, i: usize, reads: usize) -> Found
     requires { ⌜ Inside (now s) b ⌝ }
     requires { ⌜ b .kind ≡ 0 ⌝ }
     ensures { λ r. ⌜ r ≡ headIn (now (s .entry)) b i reads ⌝ }
@@ -429,6 +484,44 @@ fn head_in(s: &[u8], b: Body, i: usize, reads: usize) -> Found
         len: r.val_len,
     };
     let h = r.hist;
+    Found::Is {
+        slot: i,
+        ver: v,
+        hist: h,
+        value: p,
+        reads: reads,
+    }
+}
+
+// The head of slot i: a value that stands in its page is read in place.
+fn head_in(s: &[u8], b: Body, i: usize, reads: usize) -> Found
+    requires { ⌜ Inside (now s) b ⌝ }
+    requires { ⌜ b .kind ≡ 0 ⌝ }
+    ensures { λ r. ⌜ r ≡ headIn (now (s .entry)) b i reads ⌝ }
+{
+    let KeyRead::Key {
+        ver_at,
+        rest_at,
+        rest_len,
+    } = records::key_at(s, b, i)
+    else {
+        return Found::Refused(Refusal::BadFrame);
+    };
+    let ValRead::Is {
+        hist,
+        val_at,
+        val_len,
+        ..
+    } = records::quick_value(s, b, rest_at + rest_len)
+    else {
+        return any_head(s, b, i, reads);
+    };
+    let v = records::ver_at(s, ver_at);
+    let p = Place {
+        at: val_at,
+        len: val_len,
+    };
+    let h = hist;
     Found::Is {
         slot: i,
         ver: v,

@@ -103,7 +103,7 @@ pub fn tell_found(out: &mut [u64], x: Found) -> u32
             value,
             reads,
         } => {
-            words::store_five(
+            words::store_nine(
                 out,
                 0,
                 1,
@@ -111,16 +111,12 @@ pub fn tell_found(out: &mut [u64], x: Found) -> u32
                 ver.txid,
                 ver.cmd as u64,
                 value.at as u64,
-            );
-            words::store_five(
-                out,
-                5,
                 value.len as u64,
                 hist.page.0,
                 hist.slot as u64,
                 hist.count as u64,
-                reads as u64,
             );
+            words::store(out, 9, reads as u64);
             0
         }
         Found::Nothing { reads } => {

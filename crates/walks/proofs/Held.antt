@@ -29,6 +29,7 @@ use Rattle.records.specs.declared.Rec.{Rec}
 use Rattle.records.specs.declared.RecRead.{RecRead}
 use Rattle.records.specs.Records as records-specs
 use Rattle.records.specs.Records.{slotAt, keyWhole, keyIn, farOf, valIn, recOf, recVal, recKey, recIn, recSlot, recAt}
+use Rattle.records.proofs.Inside.{val-no}
 use Rattle.records.proofs.Places.{key-no, inline-place, remote-place}
 
 -- ---- the numbers of a value
@@ -98,9 +99,6 @@ val-held s y b at h p n a next e = go (valAt (take (b .end) s) at (eqb (b .kind)
     y′ : Bytes (take (b .end) s)
     y′ = bytes-front s (b .end) y
 
-    no : ValRead.Bad ≡ ValRead.Is h p n a next → ⊥
-    no z = let x : _≡_ {A = ℕ} 0 1 = cc in omega arith
-
     far : (h′ : HistRef) (a′ : Addr) (n′ next′ : ℕ) → n′ ≤ 65536 → (h′ .count < 256 ^ 4) × (a′ .0 < 256 ^ 8) → (r : RemoteRead) → remoteAt s a′ n′ ≡ r → farOf h′ a′ n′ next′ r ≡ ValRead.Is h p n a next → ValHeld s h p n a
     far h′ a′ n′ next′ l k (RemoteRead.At q) w e′ =
         let x1 : h′ ≡ h = cc in
@@ -108,7 +106,7 @@ val-held s y b at h p n a next e = go (valAt (take (b .end) s) at (eqb (b .kind)
         let x3 : n′ ≡ n = cc in
         let x4 : a′ ≡ a = cc in
         rw (← x1, ← x2, ← x3, ← x4) (record { small = l; held = λ z. w; word = k .1; count = k .0 })
-    far h′ a′ n′ next′ l k RemoteRead.Bad w e′ = absurd (no e′)
+    far h′ a′ n′ next′ l k RemoteRead.Bad w e′ = absurd (val-no h p n a next e′)
 
     go : (v : Val) → valAt (take (b .end) s) at (eqb (b .kind) 0) ≡ v → records-specs.valOf s v ≡ ValRead.Is h p n a next → ValHeld s h p n a
     go (Val.Inline h′ p′ n′ next′) q e′ =
@@ -121,7 +119,7 @@ val-held s y b at h p n a next e = go (valAt (take (b .end) s) at (eqb (b .kind)
     go (Val.Remote h′ a′ n′ next′) q e′ =
         let k = remote-place (take (b .end) s) at (eqb (b .kind) 0) h′ a′ n′ next′ q in
         far h′ a′ n′ next′ (k .small) (val-narrow (take (b .end) s) y′ at (eqb (b .kind) 0) (Val.Remote h′ a′ n′ next′) q) (remoteAt s a′ n′) refl e′
-    go Val.Bad q e′ = absurd (no e′)
+    go Val.Bad q e′ = absurd (val-no h p n a next e′)
 
 -- ---- a record of a page
 

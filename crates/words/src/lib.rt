@@ -84,7 +84,29 @@ fn put_three(out: &mut [u64], k: usize, a: u64, b: u64, c: u64)
     out[k + 2] = c;
 }
 
-// Nine words, with one question whether the slice has them: for the loop that tells a record a turn.
+// Nine words that the slice has.
+pub fn put_nine(
+    out: &mut [u64],
+    k: usize,
+    a: u64,
+    b: u64,
+    c: u64,
+    d: u64,
+    e: u64,
+    f: u64,
+    g: u64,
+    h: u64,
+    i: u64,
+)
+    requires { ⌜ k + 9 ≤ length (now out) ⌝ }
+    ensures { λ _. ⌜ now (out .exit) ≡ put (now (out .entry)) k (a ∷ b ∷ c ∷ d ∷ e ∷ f ∷ g ∷ h ∷ i ∷ []) ⌝ }
+{
+    put_three(out, k, a, b, c);
+    put_three(out, k + 3, d, e, f);
+    put_three(out, k + 6, g, h, i);
+}
+
+// Nine words, with one question whether the slice has them.
 pub fn store_nine(
     out: &mut [u64],
     k: usize,
@@ -102,9 +124,7 @@ pub fn store_nine(
     ensures { λ _. ⌜ now (out .exit) ≡ put (now (out .entry)) k (a ∷ b ∷ c ∷ d ∷ e ∷ f ∷ g ∷ h ∷ i ∷ []) ⌝ }
 {
     if spans::room(out.len(), k, 9) {
-        put_three(out, k, a, b, c);
-        put_three(out, k + 3, d, e, f);
-        put_three(out, k + 6, g, h, i);
+        put_nine(out, k, a, b, c, d, e, f, g, h, i);
         return;
     }
     store_each(out, k, a, b, c, d, e, f, g, h, i);

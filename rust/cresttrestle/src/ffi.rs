@@ -490,15 +490,27 @@ pub(crate) fn backward(arena: &[u8], addr: u64, start: i64, end: i64) -> Words<W
     words(|walk, n| unsafe { ct_backward(arena.as_ptr(), arena.len(), addr, start, end, walk, n) })
 }
 
-/// How many records in `out[0]`, then the words of each.
-#[inline]
-pub(crate) fn steps(
+/// The words that `ct_steps` writes: how many records, then the words of each.
+#[derive(Clone, Debug)]
+#[repr(C)]
+pub(crate) struct Steps<const N: usize> {
+    pub(crate) count: u64,
+    pub(crate) records: [[u64; RECORD_WORDS]; N],
+}
+
+impl<const N: usize> Steps<N> {
+    pub(crate) const NONE: Self = Steps { count: 0, records: [[0; RECORD_WORDS]; N] };
+}
+
+pub(crate) fn steps<const N: usize>(
     arena: &[u8],
     walk: &mut [u64; WALK_WORDS],
-    out: &mut [u64],
+    out: &mut Steps<N>,
 ) -> Result<(), Refusal> {
+    out.count = 0;
+    // `Steps` is words one behind the other, so all of it is one slice of them
+    let (words, room) = (core::ptr::from_mut(out).cast(), 1 + N * RECORD_WORDS);
     Refusal::judged(unsafe {
-        let (words, room) = (out.as_mut_ptr(), out.len());
         ct_steps(arena.as_ptr(), arena.len(), walk.as_mut_ptr(), WALK_WORDS, words, room)
     })
 }

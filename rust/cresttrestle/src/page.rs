@@ -10,10 +10,26 @@ use crate::refusal::Refusal;
 use crate::walk::Walk;
 
 /// The part of an arena at a place that the library named.
+#[inline]
 pub(crate) fn part(bytes: &[u8], at: u64, len: u64) -> &[u8] {
-    let end = at.saturating_add(len);
-    bytes.get(at as usize..end as usize).unwrap_or_default()
+    place(bytes, at, len).unwrap_or_default()
 }
+
+/// The same, none where there is no such place.
+#[inline]
+pub(crate) fn place(bytes: &[u8], at: u64, len: u64) -> Option<&[u8]> {
+    // a length too large wraps round to an end below the begin, which is refused too
+    let part = bytes.get(at as usize..at.wrapping_add(len) as usize);
+    if part.is_none() {
+        unlikely();
+    }
+    part
+}
+
+/// Tells the compiler that this way is hardly ever taken: it then judges by jumps, which walks are faster with.
+#[inline]
+#[cold]
+fn unlikely() {}
 
 /// An arena that is read. Nothing is trusted: every call judges the bytes that it needs.
 ///

@@ -3,13 +3,14 @@
 use core::cmp::Ordering;
 use core::fmt;
 use core::iter::FusedIterator;
+use core::marker::PhantomData;
 
 #[cfg(feature = "alloc")]
 use alloc::vec::Vec;
 
-use crate::ffi::{self, RECORD_WORDS, WALK_WORDS};
+use crate::ffi::{self, RECORD_WORDS, Steps, WALK_WORDS};
 use crate::names::{Addr, PageId, Ver};
-use crate::page::part;
+use crate::page::place;
 use crate::refusal::Refusal;
 
 /// A key as a page holds it: the page's prefix, then the rest. It is equal to, and compares with, the whole bytes.
@@ -161,8 +162,10 @@ impl<'a> Record<'a> {
     }
 }
 
-/// How many records a walk reads in one call of the library.
+/// How many records a walk reads in one call of the library. More make walks faster, as a call costs as much as five or six records, and
+/// a walk larger, as they stand in it.
 const AHEAD: usize = 31;
+const _: () = assert!(size_of::<Walk<'_>>() < 4096, "a walk is moved and stands on stacks");
 
 /// A walk: the records of a page in order, until the end or the first that is refused. Made by [`Page::walk`](crate::Page::walk),
 /// [`walk_back`](crate::Page::walk_back) and [`range`](crate::Page::range). It allocates nothing; a copy goes on from where it stands.
@@ -171,51 +174,77 @@ pub struct Walk<'a> {
     bytes: &'a [u8],
     prefix: &'a [u8],
     words: [u64; WALK_WORDS],
-    /// The number of records read ahead, then their words.
-    read: [u64; 1 + AHEAD * RECORD_WORDS],
+    /// The records read ahead, and how many of them are taken.
+    read: Steps<AHEAD>,
     taken: usize,
     ended: bool,
 }
 
 impl<'a> Walk<'a> {
     pub(crate) fn new(bytes: &'a [u8], prefix: &'a [u8], words: [u64; WALK_WORDS]) -> Self {
-        Walk { bytes, prefix, words, read: [0; _], taken: 0, ended: false }
+        Walk { bytes, prefix, words, read: Steps::NONE, taken: 0, ended: false }
     }
 
     /// The rows alone: all records of a leaf, none of an index page.
     pub fn rows(self) -> impl Iterator<Item = Result<Row<'a>, Refusal>> + Clone {
-        self.filter_map(|record| record.map(Record::row).transpose())
+        Only { walk: self, kind: PhantomData }
     }
 
     /// The keys with their pages alone: all records of an index page, none of a leaf.
     pub fn children(self) -> impl Iterator<Item = Result<Child<'a>, Refusal>> + Clone {
-        self.filter_map(|record| record.map(Record::child).transpose())
+        Only { walk: self, kind: PhantomData }
     }
 
     /// Reads the next records; none at the end. A refused step is told behind the records before it.
+    #[cold] // once a batch
     fn refill(&mut self) -> Option<Result<(), Refusal>> {
-        self.taken = 0;
-        self.read[0] = 0;
+        if self.ended {
+            return None;
+        }
         let told = ffi::steps(self.bytes, &mut self.words, &mut self.read);
+        self.taken = 0;
         // a refused step would be refused again for ever
-        self.ended = self.read[0] == 0;
+        self.ended = self.read.count == 0;
         (!self.ended || told.is_err()).then_some(told)
     }
 
+    /// The next record of a kind.
     #[inline]
-    fn record(&self, words: &[u64; RECORD_WORDS]) -> Option<Record<'a>> {
-        let [what, rest, rest_len, first, cmd, value, value_len, remote, entered] = *words;
-        let key = Key { prefix: self.prefix, rest: part(self.bytes, rest, rest_len) };
-        match what {
-            1 => Some(Record::Row(Row {
-                key,
-                ver: Ver::new(first, cmd as u32),
-                value: part(self.bytes, value, value_len),
-                remote: Addr::some(remote),
-                entered: Addr::some(entered),
-            })),
-            2 => Some(Record::Child(Child { key, page: PageId::new(first) })),
-            _ => None,
+    fn next_of<T: Listed<'a>>(&mut self) -> Option<Result<T, Refusal>> {
+        loop {
+            if self.taken as u64 == self.read.count {
+                if let Err(refusal) = self.refill()? {
+                    return Some(Err(refusal));
+                }
+            }
+            let words = self.read.records.get(self.taken)?;
+            self.taken += 1;
+            if let Some(item) = T::made(self.bytes, self.prefix, words) {
+                return Some(Ok(item));
+            }
+        }
+    }
+
+    /// All records of a kind that are still to come. Within a batch the walk itself is left alone, which `next` must move in memory.
+    #[inline]
+    fn fold_of<T: Listed<'a>, B>(
+        &mut self,
+        mut sum: B,
+        mut f: impl FnMut(B, Result<T, Refusal>) -> B,
+    ) -> B {
+        loop {
+            for words in
+                self.read.records.get(self.taken..self.read.count as usize).unwrap_or_default()
+            {
+                if let Some(item) = T::made(self.bytes, self.prefix, words) {
+                    sum = f(sum, Ok(item));
+                }
+            }
+            match self.refill() {
+                None => return sum,
+                Some(Ok(())) => {}
+                Some(Err(refusal)) => sum = f(sum, Err(refusal)),
+            }
         }
     }
 }
@@ -225,18 +254,76 @@ impl<'a> Iterator for Walk<'a> {
 
     #[inline]
     fn next(&mut self) -> Option<Self::Item> {
-        if self.ended {
-            return None;
-        }
-        if self.taken as u64 == self.read[0] {
-            if let Err(refusal) = self.refill()? {
-                return Some(Err(refusal));
-            }
-        }
-        let words = self.read[1..].chunks_exact(RECORD_WORDS).nth(self.taken)?;
-        self.taken += 1;
-        self.record(words.try_into().ok()?).map(Ok)
+        self.next_of()
+    }
+
+    #[inline]
+    fn fold<B, F: FnMut(B, Self::Item) -> B>(mut self, sum: B, f: F) -> B {
+        self.fold_of(sum, f)
     }
 }
 
 impl FusedIterator for Walk<'_> {}
+
+/// The records of one kind, made as such and never as a [`Record`].
+#[derive(Clone)]
+struct Only<'a, T> {
+    walk: Walk<'a>,
+    kind: PhantomData<T>,
+}
+
+impl<'a, T: Listed<'a>> Iterator for Only<'a, T> {
+    type Item = Result<T, Refusal>;
+
+    #[inline]
+    fn next(&mut self) -> Option<Self::Item> {
+        self.walk.next_of()
+    }
+
+    #[inline]
+    fn fold<B, F: FnMut(B, Self::Item) -> B>(mut self, sum: B, f: F) -> B {
+        self.walk.fold_of(sum, f)
+    }
+}
+
+/// What a record's words say; none of a record of another kind, or of a place outside the arena, which the library never names.
+trait Listed<'a>: Sized {
+    fn made(bytes: &'a [u8], prefix: &'a [u8], words: &[u64; RECORD_WORDS]) -> Option<Self>;
+}
+
+impl<'a> Listed<'a> for Row<'a> {
+    #[inline]
+    fn made(bytes: &'a [u8], prefix: &'a [u8], words: &[u64; RECORD_WORDS]) -> Option<Self> {
+        let [1, rest, rest_len, txid, cmd, value, value_len, remote, entered] = *words else {
+            return None;
+        };
+        Some(Row {
+            key: Key { prefix, rest: place(bytes, rest, rest_len)? },
+            ver: Ver::new(txid, cmd as u32),
+            value: place(bytes, value, value_len)?,
+            remote: Addr::some(remote),
+            entered: Addr::some(entered),
+        })
+    }
+}
+
+impl<'a> Listed<'a> for Child<'a> {
+    #[inline]
+    fn made(bytes: &'a [u8], prefix: &'a [u8], words: &[u64; RECORD_WORDS]) -> Option<Self> {
+        let [2, rest, rest_len, page, ..] = *words else {
+            return None;
+        };
+        let key = Key { prefix, rest: place(bytes, rest, rest_len)? };
+        Some(Child { key, page: PageId::new(page) })
+    }
+}
+
+impl<'a> Listed<'a> for Record<'a> {
+    #[inline]
+    fn made(bytes: &'a [u8], prefix: &'a [u8], words: &[u64; RECORD_WORDS]) -> Option<Self> {
+        match words[0] {
+            1 => Row::made(bytes, prefix, words).map(Record::Row),
+            _ => Child::made(bytes, prefix, words).map(Record::Child),
+        }
+    }
+}

@@ -184,6 +184,112 @@ fn positions_outside_and_walks_that_end() {
     assert!(walk.next().is_none());
 }
 
+/// What an iterator lists, by `next`. It must list the same by `fold` from every place on, also behind a copy, and stay at its end.
+fn listed<I: Iterator<Item: PartialEq + std::fmt::Debug> + Clone>(mut walk: I) -> Vec<I::Item> {
+    let (mut by_next, mut by_fold) = (Vec::new(), Vec::new());
+    loop {
+        let mut rest = Vec::new();
+        walk.clone().for_each(|item| {
+            rest.push(item);
+            assert!(rest.len() < 1000, "a walk that does not end");
+        });
+        assert_eq!(walk.clone().count(), rest.len());
+        by_fold.push(rest);
+        let Some(item) = walk.next() else { break };
+        by_next.push(item);
+    }
+    assert!(walk.next().is_none() && walk.count() == 0);
+    for (taken, rest) in by_fold.iter().enumerate() {
+        assert_eq!(*rest, by_next[taken..], "fold behind {taken} records");
+    }
+    by_next
+}
+
+/// A leaf of keys with one to three versions each, and how many rows it has.
+fn leaf_of(keys: usize, bytes: &mut [u8]) -> (Addr, usize) {
+    let (mut buffer, mut count) = (vec![0; 16_384], 0);
+    let mut list = RowList::lent(&mut buffer).unwrap();
+    for i in 0..keys {
+        for older in 0..=i % 3 {
+            let key = (i as u16).to_be_bytes();
+            list.push(&key, Ver::new(9 - older as u64, 0), &[i as u8, older as u8]).unwrap();
+            count += 1;
+        }
+    }
+    let leaf = Arena::new(bytes).new_leaf(list.bytes(), Bounds::default(), Build::default());
+    (leaf.unwrap(), count)
+}
+
+#[test]
+fn walks_by_fold_and_by_next() {
+    // every number of records up to more than two calls of the library read ahead
+    for keys in 0..70 {
+        let mut bytes = vec![0; 16_384];
+        let (leaf, count) = leaf_of(keys, &mut bytes);
+        let page = View::new(&bytes).page(leaf);
+        let records = listed(page.walk(..).unwrap());
+        assert_eq!(records.len(), count);
+        let rows: Vec<_> =
+            records.into_iter().map(|record| record.map(|r| r.row().unwrap())).collect();
+        assert_eq!(listed(page.walk(..).unwrap().rows()), rows);
+        assert_eq!(listed(page.walk(..).unwrap().children()), []);
+        assert_eq!(listed(page.walk_back(keys as i64 - 1, 0).unwrap().rows()).len(), count);
+        let mut again = rows.iter().map(|row| row.unwrap());
+        for i in 0..keys as u16 {
+            for older in 0..=i % 3 {
+                let row = again.next().unwrap();
+                assert!(row.key == i.to_be_bytes()[..] && row.value == [i as u8, older as u8]);
+                assert_eq!(row.ver, Ver::new(9 - u64::from(older), 0));
+            }
+        }
+    }
+}
+
+#[test]
+fn index_walks_by_fold_and_by_next() {
+    let mut buffer = vec![0; 4096];
+    let mut list = IndexList::lent(&mut buffer).unwrap();
+    for i in 0..150u16 {
+        list.push(&i.to_be_bytes(), PageId::new(u64::from(i))).unwrap();
+    }
+    let mut bytes = vec![0; 8192];
+    let mut arena = Arena::new(&mut bytes);
+    let index = arena.new_intl(list.bytes(), Bounds::default(), Build::default()).unwrap();
+    let page = arena.page(index);
+    let children = listed(page.walk(..).unwrap().children());
+    assert_eq!(children.len(), 150);
+    for (i, child) in (0..).zip(&children) {
+        let child = child.unwrap();
+        assert!(child.key == (i as u16).to_be_bytes()[..] && child.page == PageId::new(i));
+    }
+    let records = listed(page.walk(..).unwrap());
+    assert!(records.iter().map(|record| record.map(|r| r.child().unwrap())).eq(children));
+    assert_eq!(listed(page.walk(..).unwrap().rows()), []);
+}
+
+#[test]
+fn refusals_by_fold_and_by_next() {
+    let mut bytes = vec![0; 16_384];
+    let (leaf, count) = leaf_of(70, &mut bytes);
+    let sound = bytes.clone();
+    let rows = listed(View::new(&sound).page(leaf).walk(..).unwrap().rows());
+    for refused in 0..count {
+        // this row's value claims 65,536 bytes more than it has
+        let value = rows[refused].unwrap().value;
+        let at = value.as_ptr() as usize - sound.as_ptr() as usize;
+        bytes.copy_from_slice(&sound);
+        bytes[at - 2] = 1;
+        let page = View::new(&bytes).page(leaf);
+        let told = listed(page.walk(..).unwrap().rows());
+        assert_eq!(told[..refused], rows[..refused]);
+        assert_eq!(told[refused..], [Err(Refusal::BadFrame)]);
+        let records = listed(page.walk(..).unwrap());
+        assert!(records.into_iter().map(|record| record.map(|r| r.row().unwrap())).eq(told));
+        // a refusal is no row and no child, so both tell it
+        assert_eq!(listed(page.walk(..).unwrap().children()), [Err(Refusal::BadFrame)]);
+    }
+}
+
 #[test]
 fn refusals_by_number() {
     for (n, why) in (1..).zip(Refusal::ALL) {

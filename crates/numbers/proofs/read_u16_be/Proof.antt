@@ -1,45 +1,19 @@
+-- `numbers::read_u16_be` meets its contract. Assumes nothing.
 use native.Mathlib.Omega.{arith}
-use Prim.Native.Nat.{_+_}
-use Rattle.numbers.proofs.Numbers.{read2-be}
+use denote.Ref.{now}
+use Rattle.numbers.proofs.Numbers.{turned-le}
 use borrow.Author.Needs.{needs}
 use Rattle.numbers.proofs.read_u16_be.Statement.{statement}
 use Rattle.numbers.proofs.read_u16_be.Tie as tie
-use Rattle.numbers.proofs.read_u16_be.Reads as reads
-use Rattle.numbers.proofs.read_u16_be.Lts as lts
 
-shared-slice-read-a : tie.Need-shared-slice-read-a
-shared-slice-read-a c = search needs
+read-u16-requires : tie.Need-read-u16-requires
+read-u16-requires c κs = search needs
 
-cast-a : tie.Need-cast-a
-cast-a c = omega (arith, c .shared-slice-known .given (c .before .args .at))
-
-add-b : tie.Need-add-b
-add-b c = search needs
-
-shared-slice-read-b : tie.Need-shared-slice-read-b
-shared-slice-read-b c = search needs
-
-cast-b : tie.Need-cast-b
-cast-b c = omega (arith, c .before .shared-slice-known .given (c .before .before .args .at), c .shared-slice-known2 .given (c .before .before .args .at + 1))
-
-mul-result : tie.Need-mul-result
-mul-result c = omega (arith, c .before .shared-slice-known .given (c .before .before .args .at), c .shared-slice-known2 .given (c .before .before .args .at + 1))
-
-add-result : tie.Need-add-result
-add-result c = omega (arith, c .before .shared-slice-known .given (c .before .before .args .at), c .shared-slice-known2 .given (c .before .before .args .at + 1))
+turn-u16-requires : tie.Need-turn-u16-requires
+turn-u16-requires c κs = search needs
 
 returns : tie.Need-returns
-returns c = read2-be (c .before .before .args .s .now) (c .before .before .args .at) (omega arith)
+returns c = cc (turned-le (now (c .before .before .before .args .s)) (c .before .before .before .args .at) 2 (omega arith) (λ k. omega (arith, c .before .before .shared-slice-known .given k)))
 
 pub read-u16-be-spec : {M : Type 1} → statement M
-read-u16-be-spec =
-    tie.close
-    (tie.spec
-    shared-slice-read-a
-    cast-a
-    add-b
-    shared-slice-read-b
-    cast-b
-    mul-result
-    add-result
-    returns)
+read-u16-be-spec = tie.close (tie.spec read-u16-requires turn-u16-requires returns)

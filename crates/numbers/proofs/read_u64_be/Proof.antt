@@ -1,47 +1,19 @@
+-- `numbers::read_u64_be` meets its contract. Assumes nothing.
 use native.Mathlib.Omega.{arith}
-use Rattle.numbers.proofs.Numbers.{read-be}
+use denote.Ref.{now}
+use Rattle.numbers.proofs.Numbers.{turned-le}
 use borrow.Author.Needs.{needs}
 use Rattle.numbers.proofs.read_u64_be.Statement.{statement}
 use Rattle.numbers.proofs.read_u64_be.Tie as tie
-use Rattle.numbers.proofs.read_u64_be.Reads as reads
-use Rattle.numbers.proofs.read_u64_be.Lts as lts
-use Rattle.numbers.proofs.read_u32_be.Reads as read-u32-be-reads
 
-read-u32-be-requires : tie.Need-read-u32-be-requires
-read-u32-be-requires c κs = search needs
+read-u64-requires : tie.Need-read-u64-requires
+read-u64-requires c κs = search needs
 
-cast-a : tie.Need-cast-a
-cast-a c = search needs
-
-add-read-u32-be : tie.Need-add-read-u32-be
-add-read-u32-be c = search needs
-
-read-u32-be-requires-2 : tie.Need-read-u32-be-requires-2
-read-u32-be-requires-2 c κs = search needs
-
-cast-b : tie.Need-cast-b
-cast-b c = search needs
-
-mul-result : tie.Need-mul-result
-mul-result c = search needs
-
-add-result : tie.Need-add-result
-add-result c = search needs
+turn-u64-requires : tie.Need-turn-u64-requires
+turn-u64-requires c κs = search needs
 
 returns : tie.Need-returns
-returns c =
-    let a = c .before .before .before .args in
-    cc (read-be (a .s .now) (a .at) 4 4 (omega arith))
+returns c = cc (turned-le (now (c .before .before .before .args .s)) (c .before .before .before .args .at) 8 (omega arith) (λ k. omega (arith, c .before .before .shared-slice-known .given k)))
 
 pub read-u64-be-spec : {M : Type 1} → statement M
-read-u64-be-spec =
-    tie.close
-    (tie.spec
-    read-u32-be-requires
-    cast-a
-    add-read-u32-be
-    read-u32-be-requires-2
-    cast-b
-    mul-result
-    add-result
-    returns)
+read-u64-be-spec = tie.close (tie.spec read-u64-requires turn-u64-requires returns)

@@ -1,5 +1,6 @@
 -- `runs::fill` meets its contract. Assumes nothing.
 use native.Mathlib.Omega.{arith}
+use borrow.Author.Needs.{needs}
 use Prim.Native.Nat.{_-_}
 use mathlib.Core.Path.{subst}
 use denote.Ref.{now}
@@ -7,15 +8,17 @@ use Rattle.runs.specs.declared.Turn.{Turn}
 use Rattle.runs.specs.Turns.{Filling, Known, Turns}
 use Rattle.runs.proofs.Running.{filling-begin, filling-join, filling-stop, filling-full}
 use Rattle.runs.proofs.Ways.{known-none}
-use borrow.Author.Needs.{needs}
 use Rattle.runs.proofs.fill.Statement.{statement}
 use Rattle.runs.proofs.fill.Tie as tie
 
 abbrev Inv-loop : tie.InvT-loop
-Inv-loop s out₀ first room w₀ known₀ at₀ k₀ out w known at k = Filling s room first w₀ out₀ w at k out × Known s known (w .past)
+Inv-loop s out₀ first room fit w₀ known₀ at₀ k₀ out w known at k = Filling s room first w₀ out₀ w at k out × Known s known (w .past)
 
 abbrev μ-loop : tie.MeasureT-loop
-μ-loop s out₀ first room w₀ known₀ at₀ k₀ out w known at k = room - k
+μ-loop s out₀ first room fit w₀ known₀ at₀ k₀ out w known at k = room - k
+
+whole-in-requires : tie.Need-whole-in-requires Inv-loop μ-loop
+whole-in-requires c κs = search needs
 
 loop-holds : tie.Need-loop-holds Inv-loop μ-loop
 loop-holds c = (filling-begin _ _ _ _ _, known-none _ _)
@@ -23,26 +26,29 @@ loop-holds c = (filling-begin _ _ _ _ _, known-none _ _)
 sub-next : tie.Need-sub-next Inv-loop μ-loop
 sub-next c = search needs
 
+less-requires : tie.Need-less-requires Inv-loop μ-loop
+less-requires c κs = search needs
+
 next-requires : tie.Need-next-requires Inv-loop μ-loop
-next-requires c κs = (c .before .before .loop .inv .1, (omega (arith, c .before .loop-test .taken), omega (arith, c .before .before .loop .inv .0 .place, c .before .before .loop .inv .0 .few, c .before .before .before .before .before .pre)))
+next-requires c κs = (c .before .before .before .loop .inv .1, (omega (arith, c .before .before .loop-test .taken), ((omega (arith, c .less .ensures, c .before .before .before .before .whole-in .ensures .0), omega (arith, c .less .ensures, c .before .before .before .before .whole-in .ensures .1, c .before .before .before .loop .inv .0 .place, c .before .before .before .loop .inv .0 .long)), omega (arith, c .before .before .before .loop .inv .0 .place, c .before .before .before .loop .inv .0 .few, c .before .before .before .before .before .before .before .pre))))
 
 enum-known-n : tie.Need-enum-known-n Inv-loop μ-loop
 enum-known-n c = search needs
 
 mul-at : tie.Need-mul-at Inv-loop μ-loop
-mul-at c = (let q : Turns (now (c .before .before .before .before .before .before .before .before .before .before .before .args .s)) (c .before .before .before .before .before .before .before .before .before .before .before .args .room - c .before .before .before .before .before .before .before .before .loop .k) (c .before .before .before .before .before .before .before .before .loop .at) (c .before .before .before .before .before .before .before .before .loop .w) (c .before .before .before .before .before .before .before .before .loop .out) (Turn.On (c .before .n .given .0 .0) (c .before .n .given .0 .1 .0) (c .before .n .given .0 .1 .1 .0)) (c .before .before .before .before .before .next .last .1 .1 .1 .0) = subst (λ (z : Turn). Turns (now (c .before .before .before .before .before .before .before .before .before .before .before .args .s)) (c .before .before .before .before .before .before .before .before .before .before .before .args .room - c .before .before .before .before .before .before .before .before .loop .k) (c .before .before .before .before .before .before .before .before .loop .at) (c .before .before .before .before .before .before .before .before .loop .w) (c .before .before .before .before .before .before .before .before .loop .out) z (c .before .before .before .before .before .next .last .1 .1 .1 .0)) (c .before .n .given .1) (c .before .before .before .before .before .next .ensures) in omega (arith, q .0 .few, c .before .before .before .before .before .before .before .before .before .before .before .pre))
+mul-at c = (let q : Turns (now (c .before .before .before .before .before .before .before .before .before .before .before .before .before .args .s)) (c .before .before .before .before .before .before .before .before .before .before .before .before .before .args .room - c .before .before .before .before .before .before .before .before .before .loop .k) (c .before .before .before .before .before .before .before .before .before .loop .at) (c .before .before .before .before .before .before .before .before .before .loop .w) (c .before .before .before .before .before .before .before .before .before .loop .out) (Turn.On (c .before .n .given .0 .0) (c .before .n .given .0 .1 .0) (c .before .n .given .0 .1 .1 .0)) (c .before .before .before .before .before .next .last .1 .1 .1 .0) = subst (λ (z : Turn). Turns (now (c .before .before .before .before .before .before .before .before .before .before .before .before .before .args .s)) (c .before .before .before .before .before .before .before .before .before .before .before .before .before .args .room - c .before .before .before .before .before .before .before .before .before .loop .k) (c .before .before .before .before .before .before .before .before .before .loop .at) (c .before .before .before .before .before .before .before .before .before .loop .w) (c .before .before .before .before .before .before .before .before .before .loop .out) z (c .before .before .before .before .before .next .last .1 .1 .1 .0)) (c .before .n .given .1) (c .before .before .before .before .before .next .ensures) in omega (arith, q .0 .few, c .before .before .before .before .before .before .before .before .before .before .before .before .before .pre))
 
 add-at : tie.Need-add-at Inv-loop μ-loop
-add-at c = (let q : Turns (now (c .before .before .before .before .before .before .before .before .before .before .before .args .s)) (c .before .before .before .before .before .before .before .before .before .before .before .args .room - c .before .before .before .before .before .before .before .before .loop .k) (c .before .before .before .before .before .before .before .before .loop .at) (c .before .before .before .before .before .before .before .before .loop .w) (c .before .before .before .before .before .before .before .before .loop .out) (Turn.On (c .before .n .given .0 .0) (c .before .n .given .0 .1 .0) (c .before .n .given .0 .1 .1 .0)) (c .before .before .before .before .before .next .last .1 .1 .1 .0) = subst (λ (z : Turn). Turns (now (c .before .before .before .before .before .before .before .before .before .before .before .args .s)) (c .before .before .before .before .before .before .before .before .before .before .before .args .room - c .before .before .before .before .before .before .before .before .loop .k) (c .before .before .before .before .before .before .before .before .loop .at) (c .before .before .before .before .before .before .before .before .loop .w) (c .before .before .before .before .before .before .before .before .loop .out) z (c .before .before .before .before .before .next .last .1 .1 .1 .0)) (c .before .n .given .1) (c .before .before .before .before .before .next .ensures) in omega (arith, q .0 .few, c .before .before .before .before .before .before .before .before .loop .inv .0 .place, c .before .before .before .before .before .before .before .before .loop .inv .0 .few, c .before .before .before .before .before .before .before .before .before .before .before .pre))
+add-at c = (let q : Turns (now (c .before .before .before .before .before .before .before .before .before .before .before .before .before .args .s)) (c .before .before .before .before .before .before .before .before .before .before .before .before .before .args .room - c .before .before .before .before .before .before .before .before .before .loop .k) (c .before .before .before .before .before .before .before .before .before .loop .at) (c .before .before .before .before .before .before .before .before .before .loop .w) (c .before .before .before .before .before .before .before .before .before .loop .out) (Turn.On (c .before .n .given .0 .0) (c .before .n .given .0 .1 .0) (c .before .n .given .0 .1 .1 .0)) (c .before .before .before .before .before .next .last .1 .1 .1 .0) = subst (λ (z : Turn). Turns (now (c .before .before .before .before .before .before .before .before .before .before .before .before .before .args .s)) (c .before .before .before .before .before .before .before .before .before .before .before .before .before .args .room - c .before .before .before .before .before .before .before .before .before .loop .k) (c .before .before .before .before .before .before .before .before .before .loop .at) (c .before .before .before .before .before .before .before .before .before .loop .w) (c .before .before .before .before .before .before .before .before .before .loop .out) z (c .before .before .before .before .before .next .last .1 .1 .1 .0)) (c .before .n .given .1) (c .before .before .before .before .before .next .ensures) in omega (arith, q .0 .few, c .before .before .before .before .before .before .before .before .before .loop .inv .0 .place, c .before .before .before .before .before .before .before .before .before .loop .inv .0 .few, c .before .before .before .before .before .before .before .before .before .before .before .before .before .pre))
 
 add-k : tie.Need-add-k Inv-loop μ-loop
-add-k c = (let q : Turns (now (c .before .before .before .before .before .before .before .before .before .before .before .args .s)) (c .before .before .before .before .before .before .before .before .before .before .before .args .room - c .before .before .before .before .before .before .before .before .loop .k) (c .before .before .before .before .before .before .before .before .loop .at) (c .before .before .before .before .before .before .before .before .loop .w) (c .before .before .before .before .before .before .before .before .loop .out) (Turn.On (c .before .n .given .0 .0) (c .before .n .given .0 .1 .0) (c .before .n .given .0 .1 .1 .0)) (c .before .before .before .before .before .next .last .1 .1 .1 .0) = subst (λ (z : Turn). Turns (now (c .before .before .before .before .before .before .before .before .before .before .before .args .s)) (c .before .before .before .before .before .before .before .before .before .before .before .args .room - c .before .before .before .before .before .before .before .before .loop .k) (c .before .before .before .before .before .before .before .before .loop .at) (c .before .before .before .before .before .before .before .before .loop .w) (c .before .before .before .before .before .before .before .before .loop .out) z (c .before .before .before .before .before .next .last .1 .1 .1 .0)) (c .before .n .given .1) (c .before .before .before .before .before .next .ensures) in omega (arith, q .0 .few, c .before .before .before .before .before .before .before .before .loop .inv .0 .few, c .before .before .before .before .before .before .before .before .before .before .before .pre))
+add-k c = (let q : Turns (now (c .before .before .before .before .before .before .before .before .before .before .before .before .before .args .s)) (c .before .before .before .before .before .before .before .before .before .before .before .before .before .args .room - c .before .before .before .before .before .before .before .before .before .loop .k) (c .before .before .before .before .before .before .before .before .before .loop .at) (c .before .before .before .before .before .before .before .before .before .loop .w) (c .before .before .before .before .before .before .before .before .before .loop .out) (Turn.On (c .before .n .given .0 .0) (c .before .n .given .0 .1 .0) (c .before .n .given .0 .1 .1 .0)) (c .before .before .before .before .before .next .last .1 .1 .1 .0) = subst (λ (z : Turn). Turns (now (c .before .before .before .before .before .before .before .before .before .before .before .before .before .args .s)) (c .before .before .before .before .before .before .before .before .before .before .before .before .before .args .room - c .before .before .before .before .before .before .before .before .before .loop .k) (c .before .before .before .before .before .before .before .before .before .loop .at) (c .before .before .before .before .before .before .before .before .before .loop .w) (c .before .before .before .before .before .before .before .before .before .loop .out) z (c .before .before .before .before .before .next .last .1 .1 .1 .0)) (c .before .n .given .1) (c .before .before .before .before .before .next .ensures) in omega (arith, q .0 .few, c .before .before .before .before .before .before .before .before .before .loop .inv .0 .few, c .before .before .before .before .before .before .before .before .before .before .before .before .before .pre))
 
 loop-less : tie.Need-loop-less Inv-loop μ-loop
-loop-less c = (let q : Turns (now (c .before .before .before .before .before .before .before .before .before .before .before .args .s)) (c .before .before .before .before .before .before .before .before .before .before .before .args .room - c .before .before .before .before .before .before .before .before .loop .k) (c .before .before .before .before .before .before .before .before .loop .at) (c .before .before .before .before .before .before .before .before .loop .w) (c .before .before .before .before .before .before .before .before .loop .out) (Turn.On (c .before .n .given .0 .0) (c .before .n .given .0 .1 .0) (c .before .n .given .0 .1 .1 .0)) (c .before .before .before .before .before .next .last .1 .1 .1 .0) = subst (λ (z : Turn). Turns (now (c .before .before .before .before .before .before .before .before .before .before .before .args .s)) (c .before .before .before .before .before .before .before .before .before .before .before .args .room - c .before .before .before .before .before .before .before .before .loop .k) (c .before .before .before .before .before .before .before .before .loop .at) (c .before .before .before .before .before .before .before .before .loop .w) (c .before .before .before .before .before .before .before .before .loop .out) z (c .before .before .before .before .before .next .last .1 .1 .1 .0)) (c .before .n .given .1) (c .before .before .before .before .before .next .ensures) in omega (arith, q .1 .1, c .before .before .before .before .before .before .before .loop-test .taken))
+loop-less c = (let q : Turns (now (c .before .before .before .before .before .before .before .before .before .before .before .before .before .args .s)) (c .before .before .before .before .before .before .before .before .before .before .before .before .before .args .room - c .before .before .before .before .before .before .before .before .before .loop .k) (c .before .before .before .before .before .before .before .before .before .loop .at) (c .before .before .before .before .before .before .before .before .before .loop .w) (c .before .before .before .before .before .before .before .before .before .loop .out) (Turn.On (c .before .n .given .0 .0) (c .before .n .given .0 .1 .0) (c .before .n .given .0 .1 .1 .0)) (c .before .before .before .before .before .next .last .1 .1 .1 .0) = subst (λ (z : Turn). Turns (now (c .before .before .before .before .before .before .before .before .before .before .before .before .before .args .s)) (c .before .before .before .before .before .before .before .before .before .before .before .before .before .args .room - c .before .before .before .before .before .before .before .before .before .loop .k) (c .before .before .before .before .before .before .before .before .before .loop .at) (c .before .before .before .before .before .before .before .before .before .loop .w) (c .before .before .before .before .before .before .before .before .before .loop .out) z (c .before .before .before .before .before .next .last .1 .1 .1 .0)) (c .before .n .given .1) (c .before .before .before .before .before .next .ensures) in omega (arith, q .1 .1, c .before .before .before .before .before .before .before .before .loop-test .taken))
 
 loop-again : tie.Need-loop-again Inv-loop μ-loop
-loop-again c = (let q : Turns (now (c .before .before .before .before .before .before .before .before .before .before .before .args .s)) (c .before .before .before .before .before .before .before .before .before .before .before .args .room - c .before .before .before .before .before .before .before .before .loop .k) (c .before .before .before .before .before .before .before .before .loop .at) (c .before .before .before .before .before .before .before .before .loop .w) (c .before .before .before .before .before .before .before .before .loop .out) (Turn.On (c .before .n .given .0 .0) (c .before .n .given .0 .1 .0) (c .before .n .given .0 .1 .1 .0)) (c .before .before .before .before .before .next .last .1 .1 .1 .0) = subst (λ (z : Turn). Turns (now (c .before .before .before .before .before .before .before .before .before .before .before .args .s)) (c .before .before .before .before .before .before .before .before .before .before .before .args .room - c .before .before .before .before .before .before .before .before .loop .k) (c .before .before .before .before .before .before .before .before .loop .at) (c .before .before .before .before .before .before .before .before .loop .w) (c .before .before .before .before .before .before .before .before .loop .out) z (c .before .before .before .before .before .next .last .1 .1 .1 .0)) (c .before .n .given .1) (c .before .before .before .before .before .next .ensures) in (filling-join _ _ _ _ _ _ _ _ _ (c .before .before .before .before .before .before .before .before .loop .inv .0) _ _ _ _ (q .0), q .1 .0))
+loop-again c = (let q : Turns (now (c .before .before .before .before .before .before .before .before .before .before .before .before .before .args .s)) (c .before .before .before .before .before .before .before .before .before .before .before .before .before .args .room - c .before .before .before .before .before .before .before .before .before .loop .k) (c .before .before .before .before .before .before .before .before .before .loop .at) (c .before .before .before .before .before .before .before .before .before .loop .w) (c .before .before .before .before .before .before .before .before .before .loop .out) (Turn.On (c .before .n .given .0 .0) (c .before .n .given .0 .1 .0) (c .before .n .given .0 .1 .1 .0)) (c .before .before .before .before .before .next .last .1 .1 .1 .0) = subst (λ (z : Turn). Turns (now (c .before .before .before .before .before .before .before .before .before .before .before .before .before .args .s)) (c .before .before .before .before .before .before .before .before .before .before .before .before .before .args .room - c .before .before .before .before .before .before .before .before .before .loop .k) (c .before .before .before .before .before .before .before .before .before .loop .at) (c .before .before .before .before .before .before .before .before .before .loop .w) (c .before .before .before .before .before .before .before .before .before .loop .out) z (c .before .before .before .before .before .next .last .1 .1 .1 .0)) (c .before .n .given .1) (c .before .before .before .before .before .next .ensures) in (filling-join _ _ _ _ _ _ _ _ _ (c .before .before .before .before .before .before .before .before .before .loop .inv .0) _ _ _ _ (q .0), q .1 .0))
 
 enum-known-number : tie.Need-enum-known-number Inv-loop μ-loop
 enum-known-number c = search needs
@@ -51,7 +57,7 @@ same-length : tie.Need-same-length Inv-loop μ-loop
 same-length c = search needs
 
 returns : tie.Need-returns Inv-loop μ-loop
-returns c = (let q = subst (λ (z : Turn). Turns (now (c .before .before .before .before .before .before .before .before .before .before .before .args .s)) (c .before .before .before .before .before .before .before .before .before .before .before .args .room - c .before .before .before .before .before .before .before .before .loop .k) (c .before .before .before .before .before .before .before .before .loop .at) (c .before .before .before .before .before .before .before .before .loop .w) (c .before .before .before .before .before .before .before .before .loop .out) z (c .before .before .before .before .before .next .last .1 .1 .1 .0)) (c .before .number .given .1) (c .before .before .before .before .before .next .ensures) in filling-stop _ _ _ _ _ _ _ _ _ (c .before .before .before .before .before .before .before .before .loop .inv .0) _ _ q)
+returns c = (let q = subst (λ (z : Turn). Turns (now (c .before .before .before .before .before .before .before .before .before .before .before .before .before .args .s)) (c .before .before .before .before .before .before .before .before .before .before .before .before .before .args .room - c .before .before .before .before .before .before .before .before .before .loop .k) (c .before .before .before .before .before .before .before .before .before .loop .at) (c .before .before .before .before .before .before .before .before .before .loop .w) (c .before .before .before .before .before .before .before .before .before .loop .out) z (c .before .before .before .before .before .next .last .1 .1 .1 .0)) (c .before .number .given .1) (c .before .before .before .before .before .next .ensures) in filling-stop _ _ _ _ _ _ _ _ _ (c .before .before .before .before .before .before .before .before .before .loop .inv .0) _ _ q)
 
 same-length-2 : tie.Need-same-length-2 Inv-loop μ-loop
 same-length-2 c = search needs
@@ -65,8 +71,10 @@ fill-spec =
     (tie.spec
     Inv-loop
     μ-loop
+    whole-in-requires
     loop-holds
     sub-next
+    less-requires
     next-requires
     enum-known-n
     mul-at

@@ -1,11 +1,11 @@
 -- `runs::next` meets its contract. Assumes nothing.
-use Prim.Native.Nat.{ℕ}
+use Prim.Native.Nat.{ℕ, _-_}
 use mathlib.Core.Path.{subst}
 use mathlib.Core.List.{List}
 use denote.Ref.{now}
-use borrow.Author.Needs.{needs}
 use Rattle.runs.specs.declared.Turn.{Turn}
 use Rattle.runs.specs.Turns.{Quicks, Turns}
+use borrow.Author.Needs.{needs}
 use Rattle.runs.proofs.next.Statement.{statement}
 use Rattle.runs.proofs.next.Tie as tie
 

@@ -1,5 +1,6 @@
 -- `runs::olds` meets its contract. Assumes nothing.
 use native.Mathlib.Omega.{arith}
+use borrow.Author.Needs.{needs}
 use Prim.Native.Nat.{_+_, _-_}
 use mathlib.Core.Path.{sym, ap, _∙_}
 use denote.Ref.{now}
@@ -9,15 +10,14 @@ use Rattle.records.proofs.Quick.{quick-is}
 use Rattle.records.proofs.Inside.{ver-inside}
 use Rattle.walks.proofs.Lying.{body-is, body-inside}
 use Rattle.runs.proofs.Ways.{Olding, olding-begin, olding-next, olds-none, olds-are, rec-none}
-use borrow.Author.Needs.{needs}
 use Rattle.runs.proofs.olds.Statement.{statement}
 use Rattle.runs.proofs.olds.Tie as tie
 
 abbrev Inv-loop : tie.InvT-loop
-Inv-loop s w out₀ first room b most at₀ n₀ out at n = Olding s w out₀ first room b most out at n
+Inv-loop s w out₀ first room fit b most at₀ n₀ out at n = Olding s w out₀ first room b most out at n
 
 abbrev μ-loop : tie.MeasureT-loop
-μ-loop s w out₀ first room b most at₀ n₀ out at n = most - n
+μ-loop s w out₀ first room fit b most at₀ n₀ out at n = most - n
 
 returns : tie.Need-returns Inv-loop μ-loop
 returns c = olds-none _ _ _ _ _
@@ -38,7 +38,7 @@ least-requires : tie.Need-least-requires Inv-loop μ-loop
 least-requires c κs = search needs
 
 loop-holds : tie.Need-loop-holds Inv-loop μ-loop
-loop-holds c = olding-begin (now (c .before .before .before .before .before .before .before .before .before .before .before .args .s)) (c .before .before .before .before .before .before .before .before .before .before .before .args .w) (now (c .before .before .before .before .before .before .before .before .before .before .before .args .out)) (c .before .before .before .before .before .before .before .before .before .before .before .args .first) (c .before .before .before .before .before .before .before .before .before .before .before .args .room) (c .before .before .b .given .0 .0) (c .least .result) (sym (c .before .before .before .before .body-of .ensures) ∙ c .before .before .b .given .1) (c .least .ensures .0) (c .least .ensures .1) (omega (arith, c .before .before .before .before .before .if1 .left))
+loop-holds c = olding-begin (now (c .before .before .before .before .before .before .before .before .before .before .before .args .s)) (c .before .before .before .before .before .before .before .before .before .before .before .args .w) (now (c .before .before .before .before .before .before .before .before .before .before .before .args .out)) (c .before .before .before .before .before .before .before .before .before .before .before .args .first) (c .before .before .before .before .before .before .before .before .before .before .before .args .room) (c .before .before .b .given .0 .0) (c .least .result) (sym (c .before .before .before .before .body-of .ensures) ∙ c .before .before .b .given .1) (omega (arith, c .least .ensures .0, c .before .before .before .before .before .before .before .before .before .before .before .pre .0)) (c .least .ensures .1) (omega (arith, c .before .before .before .before .before .if1 .left))
 
 add-quick-old : tie.Need-add-quick-old Inv-loop μ-loop
 add-quick-old c = omega (arith, c .before .before .loop .inv .below, c .before .before .before .before .before .before .before .before .before .before .before .before .before .before .good)
@@ -59,10 +59,10 @@ returns-3 : tie.Need-returns-3 Inv-loop μ-loop
 returns-3 c = olds-are _ _ _ _ _ _ _ _ _ _ (c .before .before .before .before .before .loop .inv)
 
 tell-rec-requires : tie.Need-tell-rec-requires Inv-loop μ-loop
-tell-rec-requires c κs = (let i = c .before .before .before .before .before .before .before .before .loop .inv in (omega (arith, i .fills .place, i .some, c .before .before .before .before .before .before .before .loop-test .taken, c .before .before .before .before .before .before .before .before .before .before .before .before .before .before .before .before .before .before .before .before .pre), ver-inside (now (c .before .before .before .before .before .before .before .before .before .before .before .before .before .before .before .before .before .before .before .before .args .s)) (c .before .before .before .before .before .before .before .before .before .before .before .b .given .0 .0) (c .before .before .before .before .before .before .before .before .before .before .before .before .before .before .before .before .before .before .before .before .args .w .past .slot + c .before .before .before .before .before .before .before .before .loop .n) (c .before .before .before .r .given .0 .0) (body-inside (now (c .before .before .before .before .before .before .before .before .before .before .before .before .before .before .before .before .before .before .before .before .args .s)) (c .before .before .before .before .before .before .before .before .before .before .before .before .before .before .before .before .before .before .before .before .args .w .past .page) 2 (c .before .before .before .before .before .before .before .before .before .before .before .b .given .0 .0) (sym (c .before .before .before .before .before .before .before .before .before .before .before .before .before .body-of .ensures) ∙ c .before .before .before .before .before .before .before .before .before .before .before .b .given .1)) (λ z. omega (arith, ap (λ (y : Body). y .kind) (sym (body-is (now (c .before .before .before .before .before .before .before .before .before .before .before .before .before .before .before .before .before .before .before .before .args .s)) (c .before .before .before .before .before .before .before .before .before .before .before .before .before .before .before .before .before .before .before .before .args .w .past .page) 2 (c .before .before .before .before .before .before .before .before .before .before .before .b .given .0 .0) (sym (c .before .before .before .before .before .before .before .before .before .before .before .before .before .body-of .ensures) ∙ c .before .before .before .before .before .before .before .before .before .before .before .b .given .1))), z)) (quick-is (RecRead.Is (c .before .before .before .r .given .0 .0)) (c .before .before .before .before .before .quick-old .ensures) (c .before .before .before .r .given .1) (rec-none (c .before .before .before .r .given .0 .0)))))
+tell-rec-requires c κs = (let i = c .before .before .before .before .before .before .before .before .loop .inv in (omega (arith, i .fills .place, i .fills .long, c .before .before .before .before .before .before .before .before .before .least .ensures .0, c .before .before .before .before .before .before .before .loop-test .taken, c .before .before .before .before .before .before .before .before .before .before .before .before .before .before .before .before .before .before .before .before .pre .1), ver-inside (now (c .before .before .before .before .before .before .before .before .before .before .before .before .before .before .before .before .before .before .before .before .args .s)) (c .before .before .before .before .before .before .before .before .before .before .before .b .given .0 .0) (c .before .before .before .before .before .before .before .before .before .before .before .before .before .before .before .before .before .before .before .before .args .w .past .slot + c .before .before .before .before .before .before .before .before .loop .n) (c .before .before .before .r .given .0 .0) (body-inside (now (c .before .before .before .before .before .before .before .before .before .before .before .before .before .before .before .before .before .before .before .before .args .s)) (c .before .before .before .before .before .before .before .before .before .before .before .before .before .before .before .before .before .before .before .before .args .w .past .page) 2 (c .before .before .before .before .before .before .before .before .before .before .before .b .given .0 .0) (sym (c .before .before .before .before .before .before .before .before .before .before .before .before .before .body-of .ensures) ∙ c .before .before .before .before .before .before .before .before .before .before .before .b .given .1)) (λ z. omega (arith, ap (λ (y : Body). y .kind) (sym (body-is (now (c .before .before .before .before .before .before .before .before .before .before .before .before .before .before .before .before .before .before .before .before .args .s)) (c .before .before .before .before .before .before .before .before .before .before .before .before .before .before .before .before .before .before .before .before .args .w .past .page) 2 (c .before .before .before .before .before .before .before .before .before .before .before .b .given .0 .0) (sym (c .before .before .before .before .before .before .before .before .before .before .before .before .before .body-of .ensures) ∙ c .before .before .before .before .before .before .before .before .before .before .before .b .given .1))), z)) (quick-is (RecRead.Is (c .before .before .before .r .given .0 .0)) (c .before .before .before .before .before .quick-old .ensures) (c .before .before .before .r .given .1) (rec-none (c .before .before .before .r .given .0 .0)))))
 
 add-at : tie.Need-add-at Inv-loop μ-loop
-add-at c = omega (arith, c .before .before .before .before .before .before .before .before .before .before .before .loop .inv .fills .place, c .before .before .before .before .before .before .before .before .before .before .before .loop .inv .some, c .before .before .before .before .before .before .before .before .before .before .loop-test .taken, c .before .before .before .before .before .before .before .before .before .before .before .before .before .before .before .before .before .before .before .before .before .before .before .pre)
+add-at c = omega (arith, c .before .before .before .before .before .before .before .before .before .before .before .loop .inv .fills .place, c .before .before .before .before .before .before .before .before .before .before .before .before .least .ensures .0, c .before .before .before .before .before .before .before .before .before .before .loop-test .taken, c .before .before .before .before .before .before .before .before .before .before .before .before .before .before .before .before .before .before .before .before .before .before .before .pre .1, c .before .before .before .before .before .before .before .before .before .before .before .before .before .before .before .before .before .before .before .before .before .before .before .good)
 
 add-n : tie.Need-add-n Inv-loop μ-loop
 add-n c = search needs

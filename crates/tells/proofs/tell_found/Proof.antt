@@ -12,29 +12,29 @@ use Rattle.tells.proofs.tell_found.Tie as tie
 enum-known-x : tie.Need-enum-known-x
 enum-known-x c = search needs
 
-cast-store-five : tie.Need-cast-store-five
-cast-store-five c = search needs
+cast-store-nine : tie.Need-cast-store-nine
+cast-store-nine c = search needs
 
-store-five-requires : tie.Need-store-five-requires
-store-five-requires c κs = search needs
+cast-store-nine-2 : tie.Need-cast-store-nine-2
+cast-store-nine-2 c = search needs
 
-cast-store-five-2 : tie.Need-cast-store-five-2
-cast-store-five-2 c = search needs
+cast-store-nine-3 : tie.Need-cast-store-nine-3
+cast-store-nine-3 c = search needs
 
-cast-store-five-3 : tie.Need-cast-store-five-3
-cast-store-five-3 c = search needs
+store-nine-requires : tie.Need-store-nine-requires
+store-nine-requires c κs = search needs
 
-store-five-requires-2 : tie.Need-store-five-requires-2
-store-five-requires-2 c κs = search needs
+store-requires : tie.Need-store-requires
+store-requires c κs = search needs
 
 enum-known-x-2 : tie.Need-enum-known-x-2
 enum-known-x-2 c = search needs
 
-store-five-requires-3 : tie.Need-store-five-requires-3
-store-five-requires-3 c κs = search needs
+store-five-requires : tie.Need-store-five-requires
+store-five-requires c κs = search needs
 
-store-five-requires-4 : tie.Need-store-five-requires-4
-store-five-requires-4 c κs = search needs
+store-five-requires-2 : tie.Need-store-five-requires-2
+store-five-requires-2 c κs = search needs
 
 enum-known-x-3 : tie.Need-enum-known-x-3
 enum-known-x-3 c = search needs
@@ -47,14 +47,14 @@ same-length c = search needs
 
 returns : tie.Need-returns
 unfolding written
-returns c = told foundNumber foundWords _ (sym (c .before .before .before .before .before .before .before .before .before .before .before .before .x .given .1)) (refl, put-chain _ 0 _ _ (c .before .before .before .before .before .before .before .before .store-five .ensures) (c .before .before .store-five2 .ensures) refl)
+returns c = told foundNumber foundWords _ (sym (c .before .before .before .before .before .before .before .before .before .before .before .before .x .given .1)) (refl, put-chain _ 0 _ _ (c .before .before .before .before .before .before .store-nine .ensures) (c .before .before .store .ensures) refl)
 
 same-length-2 : tie.Need-same-length-2
 same-length-2 c = search needs
 
 returns-2 : tie.Need-returns-2
 unfolding written
-returns-2 c = told foundNumber foundWords _ (sym (c .before .before .before .before .before .before .before .before .before .x2 .given .1)) (refl, put-chain _ 0 _ _ (c .before .before .before .before .before .before .store-five3 .ensures) (c .before .before .store-five4 .ensures) refl)
+returns-2 c = told foundNumber foundWords _ (sym (c .before .before .before .before .before .before .before .before .before .x2 .given .1)) (refl, put-chain _ 0 _ _ (c .before .before .before .before .before .before .store-five .ensures) (c .before .before .store-five2 .ensures) refl)
 
 returns-3 : tie.Need-returns-3
 returns-3 c = told foundNumber foundWords _ (sym (c .before .before .x3 .given .1)) (c .no .ensures, sym (written-none _))
@@ -64,14 +64,14 @@ tell-found-spec =
     tie.close
     (tie.spec
     enum-known-x
-    cast-store-five
-    store-five-requires
-    cast-store-five-2
-    cast-store-five-3
-    store-five-requires-2
+    cast-store-nine
+    cast-store-nine-2
+    cast-store-nine-3
+    store-nine-requires
+    store-requires
     enum-known-x-2
-    store-five-requires-3
-    store-five-requires-4
+    store-five-requires
+    store-five-requires-2
     enum-known-x-3
     no-requires
     same-length

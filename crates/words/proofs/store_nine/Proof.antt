@@ -1,38 +1,30 @@
 -- `words::store_nine` meets its contract. Assumes nothing.
+use mathlib.Core.Path.{sym, _∙_}
 use native.Mathlib.Omega.{arith}
 use Prim.Native.Nat.{_+_}
-use mathlib.Core.Path.{refl, sym, _∙_}
 use denote.Ref.{now}
 use lib.ListN.{length}
 use borrow.Author.Tests.{leb-true}
-use Rattle.spans.proofs.Put.{put-chain}
 use borrow.Author.Needs.{needs}
 use Rattle.words.proofs.store_nine.Statement.{statement}
 use Rattle.words.proofs.store_nine.Tie as tie
+use Rattle.words.proofs.store_nine.Reads as reads
+use Rattle.words.proofs.store_nine.Lts as lts
+use Rattle.spans.proofs.room.Reads as room-reads
+use Rattle.words.proofs.put_nine.Reads as put-nine-reads
+use Rattle.words.proofs.store_each.Reads as store-each-reads
 
 room-requires : tie.Need-room-requires
 room-requires c κs = search needs
 
-put-three-requires : tie.Need-put-three-requires
-put-three-requires c κs = omega (arith, leb-true (c .before .before .before .before .args .k + 9) (length (now (c .before .before .before .before .args .out))) (sym (c .before .before .room .ensures) ∙ c .before .if1 .taken))
-
-add-put-three : tie.Need-add-put-three
-add-put-three c = search needs
-
-put-three-requires-2 : tie.Need-put-three-requires-2
-put-three-requires-2 c κs = omega (arith, leb-true (c .before .before .before .before .before .before .before .before .args .k + 9) (length (now (c .before .before .before .before .before .before .before .before .args .out))) (sym (c .before .before .before .before .before .before .room .ensures) ∙ c .before .before .before .before .before .if1 .taken))
-
-add-put-three-2 : tie.Need-add-put-three-2
-add-put-three-2 c = search needs
-
-put-three-requires-3 : tie.Need-put-three-requires-3
-put-three-requires-3 c κs = omega (arith, leb-true (c .before .before .before .before .before .before .before .before .before .before .before .before .args .k + 9) (length (now (c .before .before .before .before .before .before .before .before .before .before .before .before .args .out))) (sym (c .before .before .before .before .before .before .before .before .before .before .room .ensures) ∙ c .before .before .before .before .before .before .before .before .before .if1 .taken))
+put-nine-requires : tie.Need-put-nine-requires
+put-nine-requires c κs = omega (arith, leb-true (c .before .before .before .before .args .k + 9) (length (now (c .before .before .before .before .args .out))) (sym (c .before .before .room .ensures) ∙ c .before .if1 .taken))
 
 same-length : tie.Need-same-length
 same-length c = search needs
 
 returns : tie.Need-returns
-returns c = put-chain _ (c .before .before .before .before .before .before .before .before .before .before .before .before .before .before .before .args .k) _ _ (put-chain _ (c .before .before .before .before .before .before .before .before .before .before .before .before .before .before .before .args .k) _ _ (c .before .before .before .before .before .before .before .before .before .before .put-three .ensures) (c .before .before .before .before .before .before .put-three2 .ensures) refl) (c .before .before .put-three3 .ensures) refl
+returns c = search needs
 
 store-each-requires : tie.Need-store-each-requires
 store-each-requires c κs = search needs
@@ -48,11 +40,7 @@ store-nine-spec =
     tie.close
     (tie.spec
     room-requires
-    put-three-requires
-    add-put-three
-    put-three-requires-2
-    add-put-three-2
-    put-three-requires-3
+    put-nine-requires
     same-length
     returns
     store-each-requires
