@@ -47,6 +47,9 @@ pub record Known (s : List ℕ) (a : ℕ) (p : Past) : Type 0 where
 abbrev pub aged : Walk → ℕ → Walk
 aged w n = walkOf (w .page) (w .way) (w .pos) (w .heads) (w .key) (pastOf (w .past .page) (w .past .link) (w .past .slot + n) (w .past .left - n))
 
+abbrev pub plainOf : ℕ → ℕ → Place → RecRead → Plain
+plainOf n p key r = record { count = n; pos = p; key = key; next = r }
+
 -- the walk behind n heads without history, the last one's key, and where the next head stands
 abbrev pub onTo : Walk → ℕ → ℕ → Place → Walk
 onTo w n p key = walkOf (w .page) (w .way) p (w .heads - n) key (w .past)

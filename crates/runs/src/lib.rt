@@ -10,7 +10,8 @@ ghost use Rattle.records.specs.declared.RecRead.{RecRead};
 ghost use Rattle.walks.specs.Walk.{itemOf, movedOf};
 ghost use Rattle.words.specs.Words.{written, itemWords};
 ghost use Rattle.runs.specs.Steps.{runOf, runWords, roomIn, runNumber, runWalk, runEnd, runSays};
-ghost use Rattle.runs.specs.Turns.{Filling, Known, Reaches, Ahead, Plains, Heads, Quicks, Turns, aged, headedBy, samePage};
+ghost use Rattle.runs.specs.Turns.{Filling, Known, Reaches, Ahead, Plains, Heads, Quicks, Turns, aged, plainOf, headedBy, samePage};
+ghost use Rattle.pages.specs.Edges.{place};
 use frames::Addr;
 use frames::Body;
 use frames::Opened;
@@ -185,6 +186,18 @@ fn moved(way: usize, pos: usize) -> usize
     if pos == 0 { 0 } else { pos - 1 }
 }
 
+// What the heads below come to.
+fn heads_read(count: usize, pos: usize, at: usize, len: usize, next: RecRead) -> Plain
+    ensures { λ x. ⌜ x ≡ plainOf count pos (place at len) next ⌝ }
+{
+    Plain {
+        count: count,
+        pos: pos,
+        key: Place { at: at, len: len },
+        next: next,
+    }
+}
+
 // Heads at the walk, as long as they are in the common form and without history, and fit into the slice.
 fn plains(s: &[u8], w: Walk, out: &mut [u64], first: usize, room: usize, fit: usize) -> Plain
     requires { ⌜ (fit ≤ room) × (9 * fit ≤ length (now out) - first) ⌝ }
@@ -193,22 +206,11 @@ fn plains(s: &[u8], w: Walk, out: &mut [u64], first: usize, room: usize, fit: us
     ensures { λ x. ⌜ ((r : Rec) → x .next ≡ RecRead.Is r → x .count < fit) ⌝ }
 {
     let page = w.page;
-    let key = w.key;
     if w.way == Walk::INDEX {
-        return Plain {
-            count: 0,
-            pos: w.pos,
-            key: key,
-            next: RecRead::Bad,
-        };
+        return heads_read(0, w.pos, w.key.at, w.key.len, RecRead::Bad);
     }
     let Opened::Is(b) = walks::body_of(s, page, Body::LEAF) else {
-        return Plain {
-            count: 0,
-            pos: w.pos,
-            key: key,
-            next: RecRead::Bad,
-        };
+        return heads_read(0, w.pos, w.key.at, w.key.len, RecRead::Bad);
     };
     let most = least(fit, w.heads);
     let mut at: usize = first;
@@ -218,26 +220,10 @@ fn plains(s: &[u8], w: Walk, out: &mut [u64], first: usize, room: usize, fit: us
     let mut n: usize = 0;
     while n < most {
         let RecRead::Is(r) = records::quick_head(s, b, pos) else {
-            return Plain {
-                count: n,
-                pos: pos,
-                key: Place {
-                    at: key_at,
-                    len: key_len,
-                },
-                next: RecRead::Bad,
-            };
+            return heads_read(n, pos, key_at, key_len, RecRead::Bad);
         };
         if r.hist.count != 0 {
-            return Plain {
-                count: n,
-                pos: pos,
-                key: Place {
-                    at: key_at,
-                    len: key_len,
-                },
-                next: RecRead::Is(r),
-            };
+            return heads_read(n, pos, key_at, key_len, RecRead::Is(r));
         }
         key_at = r.rest_at;
         key_len = r.rest_len;
@@ -256,15 +242,7 @@ fn plains(s: &[u8], w: Walk, out: &mut [u64], first: usize, room: usize, fit: us
         at += 9;
         n += 1;
     }
-    Plain {
-        count: n,
-        pos: pos,
-        key: Place {
-            at: key_at,
-            len: key_len,
-        },
-        next: RecRead::Bad,
-    }
+    heads_read(n, pos, key_at, key_len, RecRead::Bad)
 }
 
 // The walk behind heads without history.

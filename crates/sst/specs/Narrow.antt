@@ -19,7 +19,8 @@ use Rattle.sst.specs.declared.Stand.{Stand}
 use Rattle.sst.specs.Halve.{lowered, mid, halve}
 use Rattle.sst.specs.Search.{newerAt, keyCmp}
 
--- a number that, where it is a byte, says the length of a key rest of n bytes: "length of version and rest", "whole key at most 4,096"
+-- a number that, where it is a byte, is the one that stands before a key rest of n bytes ("LEB128 length of the rest, version, key without the page's
+-- prefix"; an index key has no version), "whole key at most 4,096"
 pub record Marks (b : Body) (n mark : ℕ) : Type 0 where
   pub small : mark ≤ 256
   pub short : mark < 256 → mark < 128

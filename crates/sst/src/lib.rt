@@ -1,6 +1,6 @@
 // The three searches of sst.rs: lower bound, floor and search. Each is one halving of a page's slots over a comparison that may refuse.
 ghost use mathlib.Core.Path.{_≡_};
-ghost use Prim.Native.Nat.{_+_, _-_, _≤_, _<_};
+ghost use Prim.Native.Nat.{_+_, _-_, _≤_, _<_, _^_};
 ghost use lib.ListN.{length};
 ghost use Rattle.frames.specs.Layout.{Inside};
 ghost use Rattle.values.specs.Keys.{skipOf};
@@ -126,7 +126,7 @@ pub struct Stand {
 
 // The byte before a key rest of n bytes, where one byte says the length and the key is not too long; elsewhere 256, which no byte is.
 fn mark_of(b: Body, n: usize) -> usize
-    requires { ⌜ b .«prefix_len» + n < 18446744073709551616 ⌝ }
+    requires { ⌜ b .«prefix_len» + n < 2 ^ 64 ⌝ }
     ensures { λ r. ⌜ Marks b n r ⌝ }
 {
     if b.kind == Body::HISTORY {
@@ -162,7 +162,7 @@ fn marked_at(s: &[u8], b: Body, i: usize, mark: usize) -> SlotRead
 }
 
 // Turns over keys as long as the probe, in a loop of their own: up to the first key of another length, or one that is the probe.
-// Less or greater is asked last and of one value, so that it is no branch: nobody could foresee it.
+// Less or greater is asked last and of one value, so that it need be no branch: nobody could foresee it.
 fn narrow(s: &[u8], b: Body, rest: &[u8], mark: usize, from: Stand) -> Stand
     requires { ⌜ Inside (now s) b ⌝ }
     requires { ⌜ Marks b (length (now rest)) mark ⌝ }
