@@ -16,8 +16,8 @@ use Rattle.values.specs.Vals.{valAt}
 use Rattle.records.specs.declared.RecRead.{RecRead}
 use Rattle.records.specs.Records.{recAt}
 use Rattle.pages.specs.Edges.{place}
-use Rattle.found.specs.declared.Head.{Head}
-use Rattle.found.specs.Head.{headAt}
+use Rattle.search_head.specs.declared.Head.{Head}
+use Rattle.search_head.specs.Head.{headAt}
 use Rattle.walks.specs.declared.Past.{Past}
 use Rattle.walks.specs.declared.Entered.{Entered}
 use Rattle.walks.specs.declared.Aged.{Aged}

@@ -21,7 +21,7 @@ use Rattle.pages.specs.Sound.{historyAt}
 use Rattle.sst.specs.Halve.{halve}
 use Rattle.sst.specs.Search.{newerAt, keyCmp, rightKind, fitsPrefix, readyAt, halved, outcomeAt}
 use Rattle.sst.specs.Cases.{p13}
-use Rattle.found.specs.Head.{headSlot, headAt}
+use Rattle.search_head.specs.Head.{headSlot, headAt}
 use Rattle.walks.specs.Walk.{fitsIn, readAt, enterAt}
 use Rattle.walks.specs.Turned.{turnedAt}
 use Rattle.walks.specs.Aged.{keyOld, agedIn, agedAt}

@@ -3,13 +3,13 @@ ghost use mathlib.Core.Path.{_≡_};
 ghost use Prim.Native.Nat.{_≤_};
 ghost use Rattle.frames.specs.Layout.{Inside};
 ghost use Rattle.asof.specs.AsOf.{handedOf, noPast, oldAsOf, oldEnter, pastAsOf, asOfAt};
-use found::Head;
 use frames::Addr;
 use frames::Body;
 use frames::Refusal;
 use order::Ver;
 use pages::Place;
 use records::RecRead;
+use search_head::Head;
 use values::HistRef;
 use values::Val;
 use walks::Aged;
@@ -129,7 +129,7 @@ fn past_as_of(s: &[u8], b: Body, at: usize, v: Ver, slot: usize, reads: usize) -
 pub fn as_of(s: &[u8], a: Addr, probe: &[u8], v: Ver) -> AsOf
     ensures { λ r. ⌜ r ≡ asOfAt (now (s .entry)) a (now (probe .entry)) v ⌝ }
 {
-    match found::head_at(s, a, probe) {
+    match search_head::head_at(s, a, probe) {
         Head::Refused(r) => AsOf::Refused(r),
         Head::Nothing { reads } => AsOf::Nothing { reads: reads },
         Head::Is {

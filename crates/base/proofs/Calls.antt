@@ -15,27 +15,27 @@ use Rattle.frames.specs.declared.Refusal.{Refusal}
 use Rattle.frames.specs.declared.Refusal.the-variants.{BadLimit, BadArena, BadList}
 use Rattle.frames.specs.Layout.{addr}
 use Rattle.frames.proofs.Frames.{and-l, and-r}
-use Rattle.sources.specs.declared.Cursor.{Cursor}
-use Rattle.sources.specs.declared.Begun.{Begun}
-use Rattle.sources.specs.declared.Begun.the-variants.{From, Bad}
-use Rattle.sources.specs.Lists.{begunOf, firstOf}
-use Rattle.sources.specs.Source.{Entry, entries, wellFormed}
-use Rattle.image.specs.declared.Call.{Call}
-use Rattle.image.specs.Prefix.{common}
-use Rattle.image.specs.Image.{Bounds, leafImage, indexImage}
-use Rattle.edges.specs.declared.Edge.{Edge}
-use Rattle.edges.specs.declared.Edges.{Edges}
-use Rattle.edges.specs.Edges.{Within, Inside, edgeBytes, edgeOf, boundsOf}
-use Rattle.edges.proofs.Laws.{edge-whole, edge-within}
-use Rattle.image.specs.declared.Built.{Built}
-use Rattle.image.specs.declared.Built.the-variants.{At, Refused}
-use Rattle.history.specs.Runs.{Sane}
-use Rattle.totals.specs.Totals.{leafAt}
-use Rattle.image.specs.Call.{limitOk, budgetOk, limitsOk, nextOk}
-use Rattle.image.proofs.Asked.{limit-true, budget-true, next-true}
-use Rattle.build.specs.Table.{Row, row, judged, boundsOk, leafLimits, isOpen, listOk}
-use Rattle.build.specs.Leaf.{leafEnd, leafAnswer, leafArena, leafRows}
-use Rattle.build.specs.Index.{Held, indexEnd, indexAnswer, indexArena, indexRows}
+use Rattle.build_sources.specs.declared.Cursor.{Cursor}
+use Rattle.build_sources.specs.declared.Begun.{Begun}
+use Rattle.build_sources.specs.declared.Begun.the-variants.{From, Bad}
+use Rattle.build_sources.specs.Lists.{begunOf, firstOf}
+use Rattle.build_sources.specs.Source.{Entry, entries, wellFormed}
+use Rattle.build_image.specs.declared.Call.{Call}
+use Rattle.build_image.specs.Prefix.{common}
+use Rattle.build_image.specs.Image.{Bounds, leafImage, indexImage}
+use Rattle.build_bounds.specs.declared.Edge.{Edge}
+use Rattle.build_bounds.specs.declared.Edges.{Edges}
+use Rattle.build_bounds.specs.Edges.{Within, Inside, edgeBytes, edgeOf, boundsOf}
+use Rattle.build_bounds.proofs.Laws.{edge-whole, edge-within}
+use Rattle.build_image.specs.declared.Built.{Built}
+use Rattle.build_image.specs.declared.Built.the-variants.{At, Refused}
+use Rattle.build_history.specs.Runs.{Sane}
+use Rattle.build_totals.specs.Totals.{leafAt}
+use Rattle.build_image.specs.Call.{limitOk, budgetOk, limitsOk, nextOk}
+use Rattle.build_image.proofs.Asked.{limit-true, budget-true, next-true}
+use Rattle.build_table.specs.Table.{Row, row, judged, boundsOk, leafLimits, isOpen, listOk}
+use Rattle.build_table.specs.Leaf.{leafEnd, leafAnswer, leafArena, leafRows}
+use Rattle.build_table.specs.Index.{Held, indexEnd, indexAnswer, indexArena, indexRows}
 use Rattle.frames.specs.declared.PageId.{PageId}
 use Rattle.base.specs.Calls.{boundsFrom, listed, listRows, intlRows, intlAnswer, intlArena, newRows, newAnswer, newArena}
 

@@ -15,20 +15,20 @@ use Rattle.frames.specs.Stored.{boxBytes, baseFront, baseBack, baseBytes}
 use Rattle.frames.specs.Cases.{p7}
 use Rattle.values.specs.Keys.{verBytes, leafFront, leafKey}
 use Rattle.values.specs.Vals.{flagOf, histBytes, frontBytes, inlineBytes, remoteBytes, sizeOf}
-use Rattle.paging.specs.Cuts.{fits, cutsFrom, total}
-use Rattle.sources.specs.Keys.{keyBytes}
-use Rattle.sources.specs.Lists.{begunOf, sameKey, recordAt, indexAt, spotAt}
-use Rattle.sources.specs.Source.{after, listF, wellF, stepOf, listNext, nextOf, leftOf, entryOf, entries, wellFormed, only}
-use Rattle.sources.specs.Judged.{above, risingFrom, rising, prefixed}
-use Rattle.sources.proofs.Cases.{p7List, p11List}
-use Rattle.image.specs.declared.Call.{Call}
-use Rattle.image.specs.Prefix.{common}
-use Rattle.image.specs.Sizes.{pad, farLen, cost, costsOf, fars, keyLen, oldRun, sums, counted, roomOf}
-use Rattle.image.specs.Image.{Bounds, farAddr, valBytes, remoteFrame, farFrame, farFrames, farAddrs, oldRec, oldRecs, oldSlots, histHead, histSize, histPage, pageEnd, history, historyEnd, starts, histAddrs, placesIn, places, headRec, headRecs, headSlots, les, hints, leafSize, leafRoom, leafFrame, leafImage}
-use Rattle.totals.specs.Totals.{leafAt}
-use Rattle.image.specs.declared.Built.the-variants.{At, Refused}
-use Rattle.build.specs.Leaf.{leafEnd}
-use Rattle.image.specs.Call.{larger, callOf}
+use Rattle.build_paging.specs.Cuts.{fits, cutsFrom, total}
+use Rattle.build_sources.specs.Keys.{keyBytes}
+use Rattle.build_sources.specs.Lists.{begunOf, sameKey, recordAt, indexAt, spotAt}
+use Rattle.build_sources.specs.Source.{after, listF, wellF, stepOf, listNext, nextOf, leftOf, entryOf, entries, wellFormed, only}
+use Rattle.build_sources.specs.Judged.{above, risingFrom, rising, prefixed}
+use Rattle.build_sources.proofs.Cases.{p7List, p11List}
+use Rattle.build_image.specs.declared.Call.{Call}
+use Rattle.build_image.specs.Prefix.{common}
+use Rattle.build_image.specs.Sizes.{pad, farLen, cost, costsOf, fars, keyLen, oldRun, sums, counted, roomOf}
+use Rattle.build_image.specs.Image.{Bounds, farAddr, valBytes, remoteFrame, farFrame, farFrames, farAddrs, oldRec, oldRecs, oldSlots, histHead, histSize, histPage, pageEnd, history, historyEnd, starts, histAddrs, placesIn, places, headRec, headRecs, headSlots, les, hints, leafSize, leafRoom, leafFrame, leafImage}
+use Rattle.build_totals.specs.Totals.{leafAt}
+use Rattle.build_image.specs.declared.Built.the-variants.{At, Refused}
+use Rattle.build_table.specs.Leaf.{leafEnd}
+use Rattle.build_image.specs.Call.{larger, callOf}
 use Rattle.base.specs.Calls.{boundsFrom, newAnswer, newArena}
 
 -- "a", version (5,0), "xy"

@@ -10,7 +10,7 @@ use lib.ListN.{length, getD, drop, drop-of-length-le}
 use lib.Seq.{drop-cons}
 use lib.Dec.{eqb}
 use borrow.Author.Tests.{eq-eqb, ne-eqb}
-use Rattle.image.specs.Prefix.{common}
+use Rattle.build_image.specs.Prefix.{common}
 
 pub common-nil : (a : List ℕ) → common a [] ≡ 0
 unfolding common

@@ -7,9 +7,9 @@ use contract.Lifetimes.{Lfts}
 use denote.Ref.{RefT, now}
 use denote.Triple.Clauses.{AtExit}
 use Rattle.spans.specs.Only.{Decides, decides}
-use Rattle.image.specs.Prefix.{common}
+use Rattle.build_image.specs.Prefix.{common}
 use Rattle.frames.specs.declared.PageId.{PageId}
-use Rattle.image.specs.declared.Built.{Built}
+use Rattle.build_image.specs.declared.Built.{Built}
 use Rattle.base.proofs.calc_prefix as calc-fn
 use Rattle.base.proofs.calc_prefix.Reads as calc
 use Rattle.base.proofs.new_intl as intl-fn

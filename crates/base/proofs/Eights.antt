@@ -9,15 +9,15 @@ use native.Mathlib.Omega.{arith}
 use lib.Dec.{ltb, eqb}
 use lib.ListN.{length, take, drop}
 use Rattle.frames.specs.Layout.{frameLen}
-use Rattle.sources.specs.Source.{Entry, olds, heads}
-use Rattle.image.specs.declared.Call.{Call}
-use Rattle.image.specs.Sizes.{farLen, fars}
-use Rattle.image.specs.Image.{Bounds, cutsOf, histSize, pageEnd, historyEnd, starts, leafSize, leafRoom, indexSize}
-use Rattle.image.proofs.Leaf.{length-leaf-image}
-use Rattle.image.proofs.Index.{length-index}
-use Rattle.totals.specs.Totals.{leafAt}
-use Rattle.build.specs.Leaf.{leafEnd}
-use Rattle.build.specs.Index.{indexEnd}
+use Rattle.build_sources.specs.Source.{Entry, olds, heads}
+use Rattle.build_image.specs.declared.Call.{Call}
+use Rattle.build_image.specs.Sizes.{farLen, fars}
+use Rattle.build_image.specs.Image.{Bounds, cutsOf, histSize, pageEnd, historyEnd, starts, leafSize, leafRoom, indexSize}
+use Rattle.build_image.proofs.Leaf.{length-leaf-image}
+use Rattle.build_image.proofs.Index.{length-index}
+use Rattle.build_totals.specs.Totals.{leafAt}
+use Rattle.build_table.specs.Leaf.{leafEnd}
+use Rattle.build_table.specs.Index.{indexEnd}
 
 frame-eight : (n : ℕ) → frameLen n % 8 ≡ 0
 frame-eight n = omega arith

@@ -12,19 +12,19 @@ use Rattle.frames.specs.declared.Refusal.{Refusal}
 use Rattle.frames.specs.declared.Refusal.the-variants.{BadLimit, BadArena, BadList, OutOfOrder, WrongPrefix, TooBig, NoRoom}
 use Rattle.frames.specs.Refusals.{numberOf}
 use Rattle.frames.specs.Layout.{addr}
-use Rattle.sources.specs.Source.{Entry}
-use Rattle.sources.specs.Judged.{rising, prefixed}
-use Rattle.image.specs.declared.Call.{Call}
-use Rattle.image.specs.Image.{Bounds, leafSize, leafRoom, leafImage, indexSize, indexImage}
-use Rattle.totals.specs.Totals.{leafAt}
-use Rattle.image.specs.declared.Built.{Built}
-use Rattle.image.specs.declared.Built.the-variants.{At, Refused}
-use Rattle.image.specs.Call.{nextOk, builtNumber}
-use Rattle.build.specs.Table.{Row, row, judged, boundsOk, leafLimits, listOk, entryRows}
-use Rattle.build.specs.Index.{indexEnd, indexRows}
-use Rattle.build.specs.Leaf.{leafEnd, leafRows}
-use Rattle.build.proofs.Tables.{All}
-use Rattle.build.proofs.Exactly.{Exactly, exactly, accepted, stays}
+use Rattle.build_sources.specs.Source.{Entry}
+use Rattle.build_sources.specs.Judged.{rising, prefixed}
+use Rattle.build_image.specs.declared.Call.{Call}
+use Rattle.build_image.specs.Image.{Bounds, leafSize, leafRoom, leafImage, indexSize, indexImage}
+use Rattle.build_totals.specs.Totals.{leafAt}
+use Rattle.build_image.specs.declared.Built.{Built}
+use Rattle.build_image.specs.declared.Built.the-variants.{At, Refused}
+use Rattle.build_image.specs.Call.{nextOk, builtNumber}
+use Rattle.build_table.specs.Table.{Row, row, judged, boundsOk, leafLimits, listOk, entryRows}
+use Rattle.build_table.specs.Index.{indexEnd, indexRows}
+use Rattle.build_table.specs.Leaf.{leafEnd, leafRows}
+use Rattle.build_table.proofs.Tables.{All}
+use Rattle.build_table.proofs.Exactly.{Exactly, exactly, accepted, stays}
 use Rattle.base.specs.Calls.{listed, listRows, intlRows, intlAnswer, intlArena, newRows, newAnswer, newArena}
 
 -- an answer's number is the table's

@@ -9,19 +9,19 @@ use Rattle.spans.specs.Span.{put}
 use Rattle.frames.specs.declared.Refusal.{Refusal}
 use Rattle.frames.specs.declared.Refusal.the-variants.{BadLimit, BadArena, BadList}
 use Rattle.frames.specs.Layout.{addr}
-use Rattle.sources.specs.Lists.{begunOf, firstOf}
-use Rattle.sources.specs.Source.{Entry, entries, wellFormed}
-use Rattle.sources.specs.Judged.{rising, prefixed}
-use Rattle.image.specs.declared.Call.{Call}
-use Rattle.image.specs.Prefix.{common}
-use Rattle.image.specs.Image.{Bounds, leafSize, leafRoom, leafImage, indexSize, indexImage}
-use Rattle.totals.specs.Totals.{leafAt}
-use Rattle.image.specs.declared.Built.{Built}
-use Rattle.image.specs.declared.Built.the-variants.{At, Refused}
-use Rattle.image.specs.Call.{nextOk}
-use Rattle.build.specs.Table.{Row, row, judged, boundsOk, leafLimits, listOk, entryRows}
-use Rattle.build.specs.Index.{indexEnd, indexRows}
-use Rattle.build.specs.Leaf.{leafEnd, leafRows}
+use Rattle.build_sources.specs.Lists.{begunOf, firstOf}
+use Rattle.build_sources.specs.Source.{Entry, entries, wellFormed}
+use Rattle.build_sources.specs.Judged.{rising, prefixed}
+use Rattle.build_image.specs.declared.Call.{Call}
+use Rattle.build_image.specs.Prefix.{common}
+use Rattle.build_image.specs.Image.{Bounds, leafSize, leafRoom, leafImage, indexSize, indexImage}
+use Rattle.build_totals.specs.Totals.{leafAt}
+use Rattle.build_image.specs.declared.Built.{Built}
+use Rattle.build_image.specs.declared.Built.the-variants.{At, Refused}
+use Rattle.build_image.specs.Call.{nextOk}
+use Rattle.build_table.specs.Table.{Row, row, judged, boundsOk, leafLimits, listOk, entryRows}
+use Rattle.build_table.specs.Index.{indexEnd, indexRows}
+use Rattle.build_table.specs.Leaf.{leafEnd, leafRows}
 
 -- "Prefix length: count of equal leading bytes of lo and hi"
 abbrev pub boundsFrom : List ℕ → List ℕ → ℕ → Bounds

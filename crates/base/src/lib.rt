@@ -1,13 +1,13 @@
 // Building: a leaf or index page from a source of entries, judged on its whole input and then written strictly upward from the next free
 // address.
-use edges::Edges;
+use build_bounds::Edges;
+use build_image::Built;
+use build_sources::Begun;
 use frames::PageId;
 use frames::Refusal;
-use image::Built;
-use sources::Begun;
 ghost use mathlib.Core.Path.{_≡_};
-ghost use Rattle.image.specs.Prefix.{common};
-ghost use Rattle.image.specs.Call.{callOf};
+ghost use Rattle.build_image.specs.Prefix.{common};
+ghost use Rattle.build_image.specs.Call.{callOf};
 ghost use Rattle.base.specs.Calls.{boundsFrom, intlAnswer, intlArena, newAnswer, newArena};
 
 // The count of equal leading bytes of the boundaries; an empty hi is none.
@@ -47,23 +47,23 @@ pub fn new_intl(
     ensures { λ r. ⌜ r ≡ intlAnswer (now (a .entry)) next (now (list .entry)) (callOf 0 0 group txid lsn checkpoint) (boundsFrom (now (lo .entry)) (now (hi .entry)) (sibling .0)) ⌝ }
     ensures { λ _. ⌜ now (a .exit) ≡ intlArena (now (a .entry)) next (now (list .entry)) (callOf 0 0 group txid lsn checkpoint) (boundsFrom (now (lo .entry)) (now (hi .entry)) (sibling .0)) ⌝ }
 {
-    if !build::bounds_ok(lo, hi) {
+    if !build_table::bounds_ok(lo, hi) {
         return Built::Refused(Refusal::BadLimit);
     }
     let len = a.len();
-    if !image::next_ok(len, next) {
+    if !build_image::next_ok(len, next) {
         return Built::Refused(Refusal::BadArena);
     }
-    let b = sources::open_index(list);
+    let b = build_sources::open_index(list);
     let Begun::From(c) = b else {
         return Built::Refused(Refusal::BadList);
     };
-    if !sources::well(list, &a[..next], c) {
+    if !build_sources::well(list, &a[..next], c) {
         return Built::Refused(Refusal::BadList);
     }
-    let m = image::call_of(0, 0, group, txid, lsn, checkpoint);
-    let x = edges::edge_of(lo);
-    let y = edges::edge_of(hi);
+    let m = build_image::call_of(0, 0, group, txid, lsn, checkpoint);
+    let x = build_bounds::edge_of(lo);
+    let y = build_bounds::edge_of(hi);
     let p = calc_prefix(lo, hi);
     let e = Edges {
         lo: x,
@@ -71,7 +71,7 @@ pub fn new_intl(
         prefix: p,
         sibling: sibling,
     };
-    build::build_index(a, next, list, c, m, lo, hi, e)
+    build_table::build_index(a, next, list, c, m, lo, hi, e)
 }
 
 // Builds a leaf of a record list, its history pages before it and its remote frames behind it: its address and the new next free
@@ -93,23 +93,23 @@ pub fn new_leaf(
     ensures { λ r. ⌜ r ≡ newAnswer (now (a .entry)) next (now (list .entry)) (callOf limit budget group txid lsn checkpoint) (boundsFrom (now (lo .entry)) (now (hi .entry)) (sibling .0)) ⌝ }
     ensures { λ _. ⌜ now (a .exit) ≡ newArena (now (a .entry)) next (now (list .entry)) (callOf limit budget group txid lsn checkpoint) (boundsFrom (now (lo .entry)) (now (hi .entry)) (sibling .0)) ⌝ }
 {
-    if !build::limits_ok(limit, budget, lo, hi) {
+    if !build_table::limits_ok(limit, budget, lo, hi) {
         return Built::Refused(Refusal::BadLimit);
     }
     let len = a.len();
-    if !image::next_ok(len, next) {
+    if !build_image::next_ok(len, next) {
         return Built::Refused(Refusal::BadArena);
     }
-    let b = sources::open_records(list);
+    let b = build_sources::open_records(list);
     let Begun::From(c) = b else {
         return Built::Refused(Refusal::BadList);
     };
-    if !sources::well(list, &a[..next], c) {
+    if !build_sources::well(list, &a[..next], c) {
         return Built::Refused(Refusal::BadList);
     }
-    let m = image::call_of(limit, budget, group, txid, lsn, checkpoint);
-    let x = edges::edge_of(lo);
-    let y = edges::edge_of(hi);
+    let m = build_image::call_of(limit, budget, group, txid, lsn, checkpoint);
+    let x = build_bounds::edge_of(lo);
+    let y = build_bounds::edge_of(hi);
     let p = calc_prefix(lo, hi);
     let e = Edges {
         lo: x,
@@ -117,5 +117,5 @@ pub fn new_leaf(
         prefix: p,
         sibling: sibling,
     };
-    build::build_leaf(a, next, list, c, m, lo, hi, e)
+    build_table::build_leaf(a, next, list, c, m, lo, hi, e)
 }

@@ -17,14 +17,14 @@ use Rattle.walks.specs.declared.Step.{Step}
 use Rattle.walks.specs.Walk.{stepAt}
 use Rattle.walks.specs.Listed.{Entry, entryOf, WalksTo, Lists, leadOf, LeadsTo, Leads}
 use Rattle.walks.specs.Refused.{begunNumber}
-use Rattle.runs.specs.declared.Run.{Run}
-use Rattle.words.specs.Words.{written, walkIn, walkWords, itemWords, branchWords}
-use Rattle.tells.specs.Answers.{begunWords}
-use Rattle.runs.specs.Steps.{run, runBy, runOf, wordsBy, runWords, roomIn, runNumber, runWalk, runSays, stepsAt, stepsWords}
+use Rattle.c_steps.specs.declared.Run.{Run}
+use Rattle.c_words.specs.Words.{written, walkIn, walkWords, itemWords, branchWords}
+use Rattle.c_answers.specs.Answers.{begunWords}
+use Rattle.c_steps.specs.Steps.{run, runBy, runOf, wordsBy, runWords, roomIn, runNumber, runWalk, runSays, stepsAt, stepsWords}
 use Rattle.capi.specs.Loop.{Row, Branch, Tells, Batch, CallsRead}
-use Rattle.words.proofs.Laws.{written-none, written-length, written-whole, walk-kept}
+use Rattle.c_words.proofs.Laws.{written-none, written-length, written-whole, walk-kept}
 use Rattle.capi.proofs.Looping.{begun-in}
-use Rattle.runs.proofs.Running.{none, stay, room-within}
+use Rattle.c_steps.proofs.Running.{none, stay, room-within}
 
 -- T w es: the walk w lists es; Says: words say a record
 module _ {A : Type 0} (Says : ℕ → List ℕ → A → Type 0) (T : Walk → List A → Type 0) (s : List ℕ) where

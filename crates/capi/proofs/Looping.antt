@@ -15,10 +15,10 @@ use Rattle.walks.specs.declared.Step.{Step}
 use Rattle.walks.specs.Walk.{stepAt}
 use Rattle.walks.specs.Listed.{Entry, entryOf, WalksTo, Lists, leadOf, LeadsTo, Leads}
 use Rattle.walks.specs.Refused.{begunNumber, stepNumber}
-use Rattle.words.specs.Words.{written, walkIn, stepWords, movedWords}
-use Rattle.tells.specs.Answers.{begunWords}
+use Rattle.c_words.specs.Words.{written, walkIn, stepWords, movedWords}
+use Rattle.c_answers.specs.Answers.{begunWords}
 use Rattle.capi.specs.Loop.{Ended, LoopReads, LoopLists, LoopLeads}
-use Rattle.words.proofs.Laws.{written-whole, written-length, walk-kept}
+use Rattle.c_words.proofs.Laws.{written-whole, written-length, walk-kept}
 
 -- one call of the loop: the walk w in the words, and the step that it takes
 module _ (s : List ℕ) (w : Walk) (walk out : List ℕ) (hw : 18 ≤ length walk) (ho : 9 ≤ length out) (ew : walkIn walk ≡ w) where

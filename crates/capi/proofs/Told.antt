@@ -10,13 +10,13 @@ use Rattle.frames.specs.declared.Opened.{Opened}
 use Rattle.frames.specs.Layout.{openAt}
 use Rattle.pages.specs.Edges.{boundsRead, boundsAt}
 use Rattle.pages.specs.Refused.{boundsNumber}
-use Rattle.image.specs.declared.Built.{Built}
-use Rattle.image.specs.Call.{callOf, builtNumber}
+use Rattle.build_image.specs.declared.Built.{Built}
+use Rattle.build_image.specs.Call.{callOf, builtNumber}
 use Rattle.delta.specs.Built.{leafBuilt, afterwards}
 use Rattle.delta.specs.Deltas.{leafDelta}
-use Rattle.words.specs.Words.{written}
-use Rattle.tells.specs.Answers.{pageWords, builtWords}
-use Rattle.words.proofs.Laws.{written-none, told}
+use Rattle.c_words.specs.Words.{written}
+use Rattle.c_answers.specs.Answers.{pageWords, builtWords}
+use Rattle.c_words.proofs.Laws.{written-none, told}
 
 -- no page at an address
 pub page-bad : (s : List ℕ) (a : Addr) (out : List ℕ) {r : ℕ} → openAt s a ≡ Opened.Bad → r ≡ 4

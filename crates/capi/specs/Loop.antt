@@ -11,8 +11,8 @@ use Rattle.walks.specs.Walk.{stepAt}
 use Rattle.pages.specs.Meaning.{Child}
 use Rattle.walks.specs.Listed.{Entry}
 use Rattle.walks.specs.Refused.{stepNumber}
-use Rattle.words.specs.Words.{written, walkIn, stepWords, movedWords}
-use Rattle.runs.specs.Steps.{roomIn, runNumber, runWalk, stepsAt, stepsWords}
+use Rattle.c_words.specs.Words.{written, walkIn, stepWords, movedWords}
+use Rattle.c_steps.specs.Steps.{roomIn, runNumber, runWalk, stepsAt, stepsWords}
 
 -- the number n and the words out say this record
 pub record Row (s prefix : List ℕ) (n : ℕ) (out : List ℕ) (e : Entry) : Type 0 where

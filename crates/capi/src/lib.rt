@@ -18,18 +18,19 @@ ghost use Rattle.asof.specs.AsOf.{asOfAt};
 ghost use Rattle.asof.specs.Refused.{asOfNumber};
 ghost use Rattle.walks.specs.Walk.{forwardAt, backwardAt, stepAt};
 ghost use Rattle.walks.specs.Refused.{begunNumber, stepNumber};
-ghost use Rattle.image.specs.Prefix.{common};
-ghost use Rattle.image.specs.Call as call;
+ghost use Rattle.build_image.specs.Prefix.{common};
+ghost use Rattle.build_image.specs.Call as call;
 ghost use Rattle.base.specs.Calls as calls;
-ghost use Rattle.merging.specs.Answer.{mergeAnswer, mergeArena};
+ghost use Rattle.merge.specs.Answer.{mergeAnswer, mergeArena};
 ghost use Rattle.delta.specs.Built.{leafBuilt, indexBuilt, afterwards};
 ghost use Rattle.delta.specs.Deltas as deltas;
 ghost use Rattle.delta.specs.Read.{leafKeyAt, indexKeyAt, valueAt, childAt};
 ghost use Rattle.delta.specs.Refused as refused;
 ghost use Rattle.overlay.specs.Overlay.{laidAt, laidNumber};
-ghost use Rattle.runs.specs.Steps.{runOf, runWords, roomIn, runNumber, runWalk, runEnd, runSays, stepsAt, stepsWords};
-ghost use Rattle.words.specs.Words.{written, sheetIn, pastIn, walkIn, sheetWords, walkWords, itemWords, branchWords, endWords, stepWords, movedWords};
-ghost use Rattle.tells.specs.Answers.{prefixWords, builtWords, boundsWords, pageWords, hintsWords, hintsFrom, hintWords, foundWords, asOfWords, boundWords, floorWords, begunWords, leafKeyWords, indexKeyWords, valueWords, childWords, laidWords};
+ghost use Rattle.c_steps.specs.Steps.{runOf, runWords, roomIn, runNumber, runWalk, runEnd, runSays, stepsAt, stepsWords};
+ghost use Rattle.c_words.specs.Words.{written, sheetIn, pastIn, walkIn, sheetWords, walkWords, itemWords, branchWords, endWords, stepWords, movedWords};
+ghost use Rattle.c_answers.specs.Answers.{prefixWords, builtWords, boundsWords, pageWords, hintsWords, hintsFrom, hintWords, foundWords, asOfWords, boundWords, floorWords, begunWords, leafKeyWords, indexKeyWords, valueWords, childWords, laidWords};
+use build_image::Built;
 use delta::Child;
 use delta::IndexKey;
 use delta::LeafKey;
@@ -38,7 +39,6 @@ use frames::Addr;
 use frames::Opened;
 use frames::PageId;
 use frames::Refusal;
-use image::Built;
 use order::Ver;
 use overlay::Laid;
 use pages::BoundsRead;
@@ -66,7 +66,7 @@ pub extern "C" fn ct_calc_prefix(lo: &[u8], hi: &[u8], out: &mut [u64]) -> u32
     ensures { λ _. ⌜ now (out .exit) ≡ written (prefixWords (common (now (lo .entry)) (now (hi .entry)))) (now (out .entry)) ⌝ }
 {
     let n = base::calc_prefix(lo, hi);
-    words::store(out, 0, n as u64);
+    c_words::store(out, 0, n as u64);
     0
 }
 
@@ -104,7 +104,7 @@ pub extern "C" fn ct_new_leaf(
         lsn,
         checkpoint,
     );
-    tells::tell_built(out, x)
+    c_answers::tell_built(out, x)
 }
 
 #[no_mangle]
@@ -137,7 +137,7 @@ pub extern "C" fn ct_new_intl(
         lsn,
         checkpoint,
     );
-    tells::tell_built(out, x)
+    c_answers::tell_built(out, x)
 }
 
 #[no_mangle]
@@ -158,7 +158,7 @@ pub extern "C" fn ct_merge(
     ensures { λ _. ⌜ now (arena .exit) ≡ mergeArena (now (arena .entry)) next (call.callOf limit budget group txid lsn checkpoint) (addr left) (addr right) ⌝ }
     ensures { λ _. ⌜ now (out .exit) ≡ written (builtWords (mergeAnswer (now (arena .entry)) next (call.callOf limit budget group txid lsn checkpoint) (addr left) (addr right))) (now (out .entry)) ⌝ }
 {
-    let x = merging::merge(
+    let x = merge::merge(
         arena,
         next,
         Addr(left),
@@ -170,7 +170,7 @@ pub extern "C" fn ct_merge(
         lsn,
         checkpoint,
     );
-    tells::tell_built(out, x)
+    c_answers::tell_built(out, x)
 }
 
 #[no_mangle]
@@ -202,7 +202,7 @@ pub extern "C" fn ct_delta_leaf(
         key,
         value,
     );
-    tells::tell_built(out, x)
+    c_answers::tell_built(out, x)
 }
 
 #[no_mangle]
@@ -222,7 +222,7 @@ pub extern "C" fn ct_delta_index(
     ensures { λ _. ⌜ now (out .exit) ≡ written (builtWords (indexBuilt (length (now (arena .entry))) next (length (now (key .entry))))) (now (out .entry)) ⌝ }
 {
     let x = delta::from_key_index(arena, next, txid, group, lsn, checkpoint, key, PageId(page));
-    tells::tell_built(out, x)
+    c_answers::tell_built(out, x)
 }
 
 // ---- reading a page
@@ -233,7 +233,7 @@ pub extern "C" fn ct_check(arena: &[u8], at: u64) -> u32
 {
     match pages::check(arena, Addr(at)) {
         Checked::Sound => 0,
-        Checked::Refused(r) => words::no(r),
+        Checked::Refused(r) => c_words::no(r),
     }
 }
 
@@ -243,10 +243,10 @@ pub extern "C" fn ct_page(arena: &[u8], at: u64, out: &mut [u64]) -> u32
     ensures { λ _. ⌜ now (out .exit) ≡ written (pageWords (openAt (now (arena .entry)) (addr at)) (boundsAt (now (arena .entry)) (addr at))) (now (out .entry)) ⌝ }
 {
     let Opened::Is(b) = frames::open_at(arena, Addr(at)) else {
-        return words::no(Refusal::BadFrame);
+        return c_words::no(Refusal::BadFrame);
     };
     let x = pages::bounds_at(arena, Addr(at));
-    tells::tell_page(out, b.kind, b.elems, x)
+    c_answers::tell_page(out, b.kind, b.elems, x)
 }
 
 #[no_mangle]
@@ -255,7 +255,7 @@ pub extern "C" fn ct_history_hints(arena: &[u8], at: u64, out: &mut [u64]) -> u3
     ensures { λ _. ⌜ now (out .exit) ≡ written (hintsWords (historyHintsAt (now (arena .entry)) (addr at))) (now (out .entry)) ⌝ }
 {
     let x = pages::history_hints(arena, Addr(at));
-    tells::tell_hints(out, x)
+    c_answers::tell_hints(out, x)
 }
 
 #[no_mangle]
@@ -264,7 +264,7 @@ pub extern "C" fn ct_remote_hints(arena: &[u8], at: u64, out: &mut [u64]) -> u32
     ensures { λ _. ⌜ now (out .exit) ≡ written (hintsWords (remoteHintsAt (now (arena .entry)) (addr at))) (now (out .entry)) ⌝ }
 {
     let x = pages::remote_hints(arena, Addr(at));
-    tells::tell_hints(out, x)
+    c_answers::tell_hints(out, x)
 }
 
 #[no_mangle]
@@ -277,7 +277,7 @@ pub extern "C" fn ct_hint(arena: &[u8], at: usize, count: usize, k: usize, out: 
         count: count,
     };
     let x = pages::hint_at(arena, h, k);
-    tells::tell_hint(out, x)
+    c_answers::tell_hint(out, x)
 }
 
 // ---- searching
@@ -288,7 +288,7 @@ pub extern "C" fn ct_search(arena: &[u8], at: u64, key: &[u8], out: &mut [u64]) 
     ensures { λ _. ⌜ now (out .exit) ≡ written (foundWords (searchAt (now (arena .entry)) (addr at) (now (key .entry)))) (now (out .entry)) ⌝ }
 {
     let x = sst::search_ver_val_by_raw(arena, Addr(at), key);
-    tells::tell_found(out, x)
+    c_answers::tell_found(out, x)
 }
 
 #[no_mangle]
@@ -304,7 +304,7 @@ pub extern "C" fn ct_as_of(
     ensures { λ _. ⌜ now (out .exit) ≡ written (asOfWords (asOfAt (now (arena .entry)) (addr at) (now (key .entry)) (verOf txid cmd))) (now (out .entry)) ⌝ }
 {
     let x = asof::as_of(arena, Addr(at), key, Ver::new(txid, cmd));
-    tells::tell_as_of(out, x)
+    c_answers::tell_as_of(out, x)
 }
 
 #[no_mangle]
@@ -320,7 +320,7 @@ pub extern "C" fn ct_lower_bound(
     ensures { λ _. ⌜ now (out .exit) ≡ written (boundWords (lowerAt (now (arena .entry)) (addr at) (now (key .entry)) (verOf txid cmd))) (now (out .entry)) ⌝ }
 {
     let x = sst::lower_bound(arena, Addr(at), key, Ver::new(txid, cmd));
-    tells::tell_bound(out, x)
+    c_answers::tell_bound(out, x)
 }
 
 #[no_mangle]
@@ -329,7 +329,7 @@ pub extern "C" fn ct_floor(arena: &[u8], at: u64, key: &[u8], out: &mut [u64]) -
     ensures { λ _. ⌜ now (out .exit) ≡ written (floorWords (floorAt (now (arena .entry)) (addr at) (now (key .entry)))) (now (out .entry)) ⌝ }
 {
     let x = sst::floor_pid_by_raw(arena, Addr(at), key);
-    tells::tell_floor(out, x)
+    c_answers::tell_floor(out, x)
 }
 
 // ---- walking
@@ -346,7 +346,7 @@ pub extern "C" fn ct_forward(
     ensures { λ _. ⌜ now (walk .exit) ≡ written (begunWords (forwardAt (now (arena .entry)) (addr at) begin end)) (now (walk .entry)) ⌝ }
 {
     let x = walks::forward(arena, Addr(at), begin, end);
-    tells::tell_begun(walk, x)
+    c_answers::tell_begun(walk, x)
 }
 
 #[no_mangle]
@@ -355,7 +355,7 @@ pub extern "C" fn ct_backward(arena: &[u8], at: u64, start: i64, end: i64, walk:
     ensures { λ _. ⌜ now (walk .exit) ≡ written (begunWords (backwardAt (now (arena .entry)) (addr at) start end)) (now (walk .entry)) ⌝ }
 {
     let x = walks::backward(arena, Addr(at), start, end);
-    tells::tell_begun(walk, x)
+    c_answers::tell_begun(walk, x)
 }
 
 #[no_mangle]
@@ -364,9 +364,9 @@ pub extern "C" fn ct_step(arena: &[u8], walk: &mut [u64], out: &mut [u64]) -> u3
     ensures { λ _. ⌜ now (walk .exit) ≡ written (movedWords (stepAt (now (arena .entry)) (walkIn (now (walk .entry))))) (now (walk .entry)) ⌝ }
     ensures { λ _. ⌜ now (out .exit) ≡ written (stepWords (stepAt (now (arena .entry)) (walkIn (now (walk .entry))))) (now (out .entry)) ⌝ }
 {
-    let w = words::walk_in(&walk[..]);
-    let x = runs::fill(arena, w, out, 0, 1);
-    runs::tell_step(walk, out, x)
+    let w = c_words::walk_in(&walk[..]);
+    let x = c_steps::fill(arena, w, out, 0, 1);
+    c_steps::tell_step(walk, out, x)
 }
 
 #[no_mangle]
@@ -375,10 +375,10 @@ pub extern "C" fn ct_steps(arena: &[u8], walk: &mut [u64], out: &mut [u64]) -> u
     ensures { λ _. ⌜ now (walk .exit) ≡ written (runWalk (stepsAt (now (arena .entry)) (now (walk .entry)) (length (now (out .entry))))) (now (walk .entry)) ⌝ }
     ensures { λ _. ⌜ now (out .exit) ≡ written (stepsWords (now (arena .entry)) (now (walk .entry)) (length (now (out .entry)))) (now (out .entry)) ⌝ }
 {
-    let room = runs::room_in(out.len());
-    let w = words::walk_in(&walk[..]);
-    let x = runs::fill(arena, w, out, 1, room);
-    runs::tell_run(walk, out, x)
+    let room = c_steps::room_in(out.len());
+    let w = c_words::walk_in(&walk[..]);
+    let x = c_steps::fill(arena, w, out, 1, room);
+    c_steps::tell_run(walk, out, x)
 }
 
 // ---- deltas
@@ -389,7 +389,7 @@ pub extern "C" fn ct_delta_key(arena: &[u8], at: u64, out: &mut [u64]) -> u32
     ensures { λ _. ⌜ now (out .exit) ≡ written (leafKeyWords (leafKeyAt (now (arena .entry)) (addr at))) (now (out .entry)) ⌝ }
 {
     let x = delta::key(arena, Addr(at));
-    tells::tell_leaf_key(out, x)
+    c_answers::tell_leaf_key(out, x)
 }
 
 #[no_mangle]
@@ -398,7 +398,7 @@ pub extern "C" fn ct_delta_val(arena: &[u8], at: u64, out: &mut [u64]) -> u32
     ensures { λ _. ⌜ now (out .exit) ≡ written (valueWords (valueAt (now (arena .entry)) (addr at))) (now (out .entry)) ⌝ }
 {
     let x = delta::val(arena, Addr(at));
-    tells::tell_value(out, x)
+    c_answers::tell_value(out, x)
 }
 
 #[no_mangle]
@@ -407,7 +407,7 @@ pub extern "C" fn ct_delta_index_key(arena: &[u8], at: u64, out: &mut [u64]) -> 
     ensures { λ _. ⌜ now (out .exit) ≡ written (indexKeyWords (indexKeyAt (now (arena .entry)) (addr at))) (now (out .entry)) ⌝ }
 {
     let x = delta::index_key(arena, Addr(at));
-    tells::tell_index_key(out, x)
+    c_answers::tell_index_key(out, x)
 }
 
 #[no_mangle]
@@ -416,7 +416,7 @@ pub extern "C" fn ct_delta_child(arena: &[u8], at: u64, out: &mut [u64]) -> u32
     ensures { λ _. ⌜ now (out .exit) ≡ written (childWords (childAt (now (arena .entry)) (addr at))) (now (out .entry)) ⌝ }
 {
     let x = delta::index(arena, Addr(at));
-    tells::tell_child(out, x)
+    c_answers::tell_child(out, x)
 }
 
 #[no_mangle]
@@ -432,5 +432,5 @@ pub extern "C" fn ct_overlay(
     ensures { λ _. ⌜ now (out .exit) ≡ written (laidWords (laidAt (now (arena .entry)) (addr at) (now (buffer .entry)) (addr delta) (now (key .entry)))) (now (out .entry)) ⌝ }
 {
     let x = overlay::answer(arena, Addr(at), buffer, Addr(delta), key);
-    tells::tell_laid(out, x)
+    c_answers::tell_laid(out, x)
 }

@@ -35,9 +35,9 @@ use Rattle.values.proofs.KeysBack.{SmallVer, leaf-rest, leaf-version, leaf-back
 use Rattle.values.proofs.ValsBack.{SmallHist, inline-bytes, inline-back, remote-back}
 use Rattle.records.specs.Records.{verIn}
 use Rattle.pages.specs.Edges.{place}
-use Rattle.image.specs.declared.Call.{Call}
-use Rattle.image.specs.Sizes.{pad}
-use Rattle.image.specs.Image.{boxOf, remoteFrame}
+use Rattle.build_image.specs.declared.Call.{Call}
+use Rattle.build_image.specs.Sizes.{pad}
+use Rattle.build_image.specs.Image.{boxOf, remoteFrame}
 use Rattle.delta.specs.declared.LeafKey.{LeafKey}
 use Rattle.delta.specs.declared.IndexKey.{IndexKey}
 use Rattle.delta.specs.declared.Value.{Value}

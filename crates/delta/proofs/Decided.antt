@@ -10,12 +10,12 @@ use Rattle.spans.specs.Only.{Decides, decides}
 use Rattle.order.specs.declared.Ver.{Ver}
 use Rattle.frames.specs.declared.Addr.{Addr}
 use Rattle.frames.specs.declared.PageId.{PageId}
-use Rattle.image.specs.declared.Built.{Built}
+use Rattle.build_image.specs.declared.Built.{Built}
 use Rattle.delta.specs.declared.LeafKey.{LeafKey}
 use Rattle.delta.specs.declared.IndexKey.{IndexKey}
 use Rattle.delta.specs.declared.Value.{Value}
 use Rattle.delta.specs.declared.Child.{Child}
-use Rattle.image.specs.Call.{callOf}
+use Rattle.build_image.specs.Call.{callOf}
 use Rattle.delta.specs.Deltas.{indexFrame, leafDelta}
 use Rattle.delta.specs.Built.{afterwards}
 use Rattle.delta.specs.Read.{leafKeyAt, indexKeyAt, valueAt, childAt}

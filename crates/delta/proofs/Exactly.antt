@@ -7,11 +7,11 @@ use native.Mathlib.Omega.{arith}
 use lib.Dec.{leb}
 use Rattle.frames.specs.declared.Refusal.{Refusal}
 use Rattle.frames.specs.Layout.{addr}
-use Rattle.image.specs.declared.Call.{Call}
-use Rattle.image.specs.Sizes.{farLen}
-use Rattle.image.specs.declared.Built.{Built}
+use Rattle.build_image.specs.declared.Call.{Call}
+use Rattle.build_image.specs.Sizes.{farLen}
+use Rattle.build_image.specs.declared.Built.{Built}
 use Rattle.delta.specs.Deltas.{leafLen, indexLen}
-use Rattle.image.specs.Call.{limitOk, nextOk, builtNumber}
+use Rattle.build_image.specs.Call.{limitOk, nextOk, builtNumber}
 use Rattle.delta.specs.Built.{lengthsOk, judged, leafBuilt, indexBuilt}
 
 -- what a judgement says: which test failed first, or that all passed

@@ -17,10 +17,10 @@ use Rattle.frames.specs.Stored.{boxBytes}
 use Rattle.values.specs.Keys.{leafKey, indexKey}
 use Rattle.values.specs.Vals.{noHist, inlineBytes, remoteBytes, frontSize, sizeOf}
 use Rattle.values.proofs.Laws.{length-leafKey, length-indexKey, length-inline, length-remote}
-use Rattle.image.specs.declared.Call.{Call}
-use Rattle.image.specs.Sizes.{pad, farLen}
-use Rattle.image.specs.Image.{remoteFrame}
-use Rattle.image.proofs.Lengths.{length-pad, length-remote-frame, size-some}
+use Rattle.build_image.specs.declared.Call.{Call}
+use Rattle.build_image.specs.Sizes.{pad, farLen}
+use Rattle.build_image.specs.Image.{remoteFrame}
+use Rattle.build_image.proofs.Lengths.{length-pad, length-remote-frame, size-some}
 use Rattle.delta.specs.Deltas.{valueOf, farOf, deltaHead, deltaFrame, leafFrame, indexFrame, leafDelta, leafKeyLen, indexKeyLen, leafLen, indexLen}
 
 value-by : (b : Bool) (v : List ℕ) (far : ℕ) → length (cond b (inlineBytes noHist v) (remoteBytes noHist (length v) far)) ≡ 0 + cond b (5 + length v) 13

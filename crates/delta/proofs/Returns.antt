@@ -22,18 +22,18 @@ use Rattle.frames.specs.Layout.{addr, frameLen}
 use Rattle.values.specs.Keys.{leafKey, indexKey}
 use Rattle.values.specs.Vals.{noHist, inlineBytes, remoteBytes}
 use Rattle.values.proofs.KeysBack.{SmallVer}
-use Rattle.image.specs.declared.Call.{Call}
-use Rattle.image.specs.Sizes.{farLen}
-use Rattle.image.specs.Image.{remoteFrame}
-use Rattle.image.proofs.Lengths.{size-some}
-use Rattle.image.specs.declared.Built.{Built}
+use Rattle.build_image.specs.declared.Call.{Call}
+use Rattle.build_image.specs.Sizes.{farLen}
+use Rattle.build_image.specs.Image.{remoteFrame}
+use Rattle.build_image.proofs.Lengths.{size-some}
+use Rattle.build_image.specs.declared.Built.{Built}
 use Rattle.delta.specs.declared.Child.{Child}
 use Rattle.delta.specs.Deltas.{valueOf, farOf, deltaFrame, leafFrame, indexFrame, leafDelta, leafLen, indexLen}
-use Rattle.image.specs.Call.{limitOk, nextOk, builtNumber}
+use Rattle.build_image.specs.Call.{limitOk, nextOk, builtNumber}
 use Rattle.delta.specs.Built.{lengthsOk, leafBuilt, indexBuilt}
 use Rattle.delta.specs.Read.{childAt}
 use Rattle.delta.proofs.Lengths.{length-value, length-far, length-frame, length-leaf-key, length-index-key, leaf-key-most, index-key-most, length-leaf-frame, length-index-frame, length-leaf-delta}
-use Rattle.image.proofs.Asked.{limit-true, next-true}
+use Rattle.build_image.proofs.Asked.{limit-true, next-true}
 use Rattle.delta.proofs.Verdict.{lengths-true, leaf-on, index-is, judged-at}
 use Rattle.delta.proofs.Exactly.{leaf-exactly, index-exactly}
 use Rattle.delta.proofs.Back.{Small, ReadsKey, ReadsIndexKey, ReadsValue, key-back, index-key-back, child-back, inline-value-back, remote-value-back}

@@ -15,9 +15,9 @@ use Rattle.numbers.proofs.Numbers.{length-le}
 use Rattle.frames.specs.Layout.{boxLen, frameLen}
 use Rattle.frames.specs.Stored.{boxBytes}
 use Rattle.frames.proofs.Stores.{length-box}
-use Rattle.image.specs.declared.Call.{Call}
-use Rattle.image.specs.Sizes.{pad}
-use Rattle.image.specs.Image.{boxOf, remoteFrame}
+use Rattle.build_image.specs.declared.Call.{Call}
+use Rattle.build_image.specs.Sizes.{pad}
+use Rattle.build_image.specs.Image.{boxOf, remoteFrame}
 use Rattle.delta.specs.Deltas.{farOf, deltaHead, deltaFrame}
 use Rattle.delta.proofs.Lengths.{length-head}
 

@@ -21,11 +21,11 @@ use Rattle.frames.specs.Clerks.{gives, takenOf}
 use Rattle.frames.specs.Layout.{addr}
 use Rattle.frames.proofs.Frames.{and-l, and-r}
 use Rattle.frames.proofs.Clerks.{take-room, take-none}
-use Rattle.image.specs.declared.Call.{Call}
-use Rattle.image.specs.Sizes.{farLen}
-use Rattle.image.specs.declared.Built.{Built}
+use Rattle.build_image.specs.declared.Call.{Call}
+use Rattle.build_image.specs.Sizes.{farLen}
+use Rattle.build_image.specs.declared.Built.{Built}
 use Rattle.delta.specs.Deltas.{farOf, leafFrame, indexFrame, leafDelta, leafLen, indexLen}
-use Rattle.image.specs.Call.{limitOk, nextOk}
+use Rattle.build_image.specs.Call.{limitOk, nextOk}
 use Rattle.delta.specs.Built.{lengthsOk, judged, leafBuilt, indexBuilt, addressOr}
 use Rattle.delta.proofs.Lengths.{length-far, length-leaf-frame, length-index-frame}
 

@@ -7,10 +7,10 @@ use lib.Dec.{leb}
 use Rattle.spans.specs.Span.{put}
 use Rattle.frames.specs.declared.Refusal.{Refusal}
 use Rattle.frames.specs.Layout.{addr}
-use Rattle.image.specs.declared.Call.{Call}
-use Rattle.image.specs.Sizes.{farLen}
-use Rattle.image.specs.declared.Built.{Built}
-use Rattle.image.specs.Call.{limitOk, nextOk}
+use Rattle.build_image.specs.declared.Call.{Call}
+use Rattle.build_image.specs.Sizes.{farLen}
+use Rattle.build_image.specs.declared.Built.{Built}
+use Rattle.build_image.specs.Call.{limitOk, nextOk}
 use Rattle.delta.specs.Deltas.{leafLen, indexLen}
 
 -- 3 "A delta's key and value over their limits are 3": "key over 4,096, value over 65,536"

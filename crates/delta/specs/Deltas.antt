@@ -13,9 +13,9 @@ use Rattle.frames.specs.Layout.{frameLen}
 use Rattle.frames.specs.Stored.{boxBytes}
 use Rattle.values.specs.Keys.{leafKey, indexKey}
 use Rattle.values.specs.Vals.{noHist, inlineBytes, remoteBytes, sizeOf}
-use Rattle.image.specs.declared.Call.{Call}
-use Rattle.image.specs.Sizes.{pad}
-use Rattle.image.specs.Image.{boxOf, remoteFrame}
+use Rattle.build_image.specs.declared.Call.{Call}
+use Rattle.build_image.specs.Sizes.{pad}
+use Rattle.build_image.specs.Image.{boxOf, remoteFrame}
 
 -- "Inline exactly when size is below the inline limit"; a delta's value has no history
 unfoldable pub valueOf : ℕ → ℕ → List ℕ → List ℕ

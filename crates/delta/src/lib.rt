@@ -1,5 +1,7 @@
 // Deltas: one change of a page as a frame of its own. A leaf delta holds a key with its version and a value, an index delta a key and a
 // page id. A call judges its input, then stores all its frames, the remote frame first; readers take any buffer and any address.
+use build_image::Built;
+use build_image::Call;
 use frames::Addr;
 use frames::BoxHeader;
 use frames::Delta;
@@ -7,8 +9,6 @@ use frames::DeltaRead;
 use frames::PageId;
 use frames::Refusal;
 use frames::RemoteRead;
-use image::Built;
-use image::Call;
 use order::Ver;
 use pages::Place;
 use values::HistRef;
@@ -18,7 +18,7 @@ ghost use mathlib.Core.Path.{_≡_};
 ghost use Prim.Native.Nat.{_+_, _≤_};
 ghost use lib.ListN.{length};
 ghost use Rattle.spans.specs.Span.{put};
-ghost use Rattle.image.specs.Call.{callOf};
+ghost use Rattle.build_image.specs.Call.{callOf};
 ghost use Rattle.delta.specs.Deltas.{valueOf, farOf, deltaHead, leafFrame, indexFrame, leafDelta, leafKeyLen, indexKeyLen, leafLen, indexLen};
 ghost use Rattle.delta.specs.Built.{lengthsOk, addressOr, leafBuilt, indexBuilt, afterwards};
 ghost use Rattle.delta.specs.Read.{deltaIs, keyIn, leafKeyAt, indexKeyAt, valueTo, valIn, valueAt, childAt};
@@ -94,7 +94,7 @@ fn put_far(a: &mut [u8], at: usize, m: Call, v: &[u8])
     if n < m.limit {
         return;
     }
-    history::remote_frame(a, 0, v, false, 0, n, at, m);
+    build_history::remote_frame(a, 0, v, false, 0, n, at, m);
 }
 
 // A value: its bytes, or the address of its remote frame.
@@ -190,22 +190,22 @@ pub fn from_key_val(
     ensures { λ r. ⌜ r ≡ leafBuilt (callOf limit 0 group (ver .txid) lsn ckpt) (length (now (a .entry))) next (length (now (key .entry))) (length (now (value .entry))) ⌝ }
     ensures { λ r. ⌜ now (a .exit) ≡ afterwards r (now (a .entry)) next (leafDelta (callOf limit 0 group (ver .txid) lsn ckpt) next ver (now (key .entry)) (now (value .entry))) ⌝ }
 {
-    if !image::limit_ok(limit) {
+    if !build_image::limit_ok(limit) {
         return Built::Refused(Refusal::BadLimit);
     }
-    if !image::next_ok(a.len(), next) {
+    if !build_image::next_ok(a.len(), next) {
         return Built::Refused(Refusal::BadArena);
     }
     if !lengths_ok(key.len(), value.len()) {
         return Built::Refused(Refusal::BadList);
     }
-    let far = image::far_len(limit, value.len(), Addr(0));
+    let far = build_image::far_len(limit, value.len(), Addr(0));
     let len = leaf_len(limit, key.len(), value.len());
     let at = placed(next, a.len(), far, len);
     if at == 0 {
         return Built::Refused(Refusal::NoRoom);
     }
-    let m = image::call_of(limit, 0, group, ver.txid, lsn, ckpt);
+    let m = build_image::call_of(limit, 0, group, ver.txid, lsn, ckpt);
     put_far(a, next, m, value);
     put_leaf(a, at, m, next, ver, key, value);
     Built::At(Addr(at as u64), at + len)
@@ -225,7 +225,7 @@ pub fn from_key_index(
     ensures { λ r. ⌜ r ≡ indexBuilt (length (now (a .entry))) next (length (now (key .entry))) ⌝ }
     ensures { λ r. ⌜ now (a .exit) ≡ afterwards r (now (a .entry)) next (indexFrame (callOf 0 0 group txid lsn ckpt) (now (key .entry)) page) ⌝ }
 {
-    if !image::next_ok(a.len(), next) {
+    if !build_image::next_ok(a.len(), next) {
         return Built::Refused(Refusal::BadArena);
     }
     if !lengths_ok(key.len(), 0) {
@@ -236,7 +236,7 @@ pub fn from_key_index(
     if at == 0 {
         return Built::Refused(Refusal::NoRoom);
     }
-    let m = image::call_of(0, 0, group, txid, lsn, ckpt);
+    let m = build_image::call_of(0, 0, group, txid, lsn, ckpt);
     put_index(a, at, m, key, page);
     Built::At(Addr(at as u64), at + len)
 }

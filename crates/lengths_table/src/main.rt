@@ -1,7 +1,7 @@
 // Encodes each number of standard input, one a line, as a length; reads it back; and prints the bytes, which the file `stdout` holds as
 // GNU as wrote them. Then forms that are no shortest form of a u32, each of which the reader must refuse.
 use lengths::Length;
-use text::Number;
+use replay_text::Number;
 ghost use Prim.Native.Nat.{_≤_};
 
 const OUT: i32 = 1;
@@ -34,7 +34,7 @@ fn line(x: u32) {
     let n = lengths::write(&mut bytes, 1, x);
     io::print_decimal(OUT, x as u64);
     io::write_all(OUT, b" ");
-    text::print_bytes(OUT, spans::part_of(&bytes, 1, n));
+    replay_text::print_bytes(OUT, spans::part_of(&bytes, 1, n));
     if reads_back(&bytes, x, n) {
         io::write_all(OUT, b"\n");
     } else {
@@ -45,7 +45,7 @@ fn line(x: u32) {
 fn lines(s: &[u8]) {
     let mut at = 0;
     while at < s.len() {
-        let Number::Is(v, next) = text::number_at(s, at) else {
+        let Number::Is(v, next) = replay_text::number_at(s, at) else {
             io::write_all(OUT, b"no number\n");
             return;
         };

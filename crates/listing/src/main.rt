@@ -1,10 +1,10 @@
 // Reads a record list of at most 16,384 bytes from standard input, builds a leaf of it at limit 64, budget 256, without boundaries, in
 // an arena of 49,152 bytes from 8 on, and lists what the page says by walking it; or prints the number of the refusal.
+use build_image::Built;
 use frames::Addr;
 use frames::Opened;
 use frames::PageId;
 use frames::Refusal;
-use image::Built;
 use walks::Begun;
 use walks::Item;
 use walks::Step;
@@ -47,13 +47,13 @@ fn count(s: &[u8], from: Walk) -> usize {
 // KEYHEX TXID CMD VALUEHEX
 fn line(s: &[u8], x: Item) {
     let v = x.ver;
-    text::print_bytes(OUT, walks::rest_of(s, x));
+    replay_text::print_bytes(OUT, walks::rest_of(s, x));
     io::write_all(OUT, b" ");
     io::print_decimal(OUT, v.txid);
     io::write_all(OUT, b" ");
     io::print_decimal(OUT, v.cmd as u64);
     io::write_all(OUT, b" ");
-    text::print_bytes(OUT, walks::value_of(s, x));
+    replay_text::print_bytes(OUT, walks::value_of(s, x));
     io::write_all(OUT, b"\n");
 }
 

@@ -24,9 +24,9 @@ use Rattle.sst.specs.declared.Outcome.{Outcome}
 use Rattle.sst.specs.Search.{leaves, outcomeAt, foundRec, headIn, searchOf, searchAt}
 use Rattle.delta.specs.declared.LeafKey.{LeafKey}
 use Rattle.delta.specs.Read.{leafKeyAt}
-use Rattle.found.specs.declared.Head.{Head}
-use Rattle.found.specs.Head.{headOf, headAt}
-use Rattle.found.proofs.Heads.{head-from}
+use Rattle.search_head.specs.declared.Head.{Head}
+use Rattle.search_head.specs.Head.{headOf, headAt}
+use Rattle.search_head.proofs.Heads.{head-from}
 use Rattle.overlay.specs.declared.Laid.{Laid}
 use Rattle.overlay.specs.Overlay.{pageRec, pageValue, isProbe, deltaValue, laidBy, laidAt}
 

@@ -23,7 +23,7 @@ use Rattle.sst.specs.Search.{leaves, outcomeAt, foundRec, headIn, searchOf, sea
 use Rattle.sst.specs.Says.{FoundSays}
 use Rattle.sst.proofs.Opens.{outcome-ready}
 use Rattle.sst.proofs.Answers.{search-says, search-not-four}
-use Rattle.found.specs.Head.{headOf, headSlot, headAt}
+use Rattle.search_head.specs.Head.{headOf, headSlot, headAt}
 use Rattle.delta.specs.declared.LeafKey.{LeafKey}
 use Rattle.delta.specs.Read.{leafKeyAt}
 use Rattle.overlay.specs.declared.Laid.{Laid}

@@ -14,8 +14,8 @@ use Rattle.records.specs.declared.RecRead.{RecRead}
 use Rattle.records.specs.Records.{recAt}
 use Rattle.pages.specs.declared.Place.{Place}
 use Rattle.pages.specs.Edges.{place, partIn}
-use Rattle.found.specs.declared.Head.{Head}
-use Rattle.found.specs.Head.{headAt}
+use Rattle.search_head.specs.declared.Head.{Head}
+use Rattle.search_head.specs.Head.{headAt}
 use Rattle.delta.specs.declared.LeafKey.{LeafKey}
 use Rattle.delta.specs.declared.Value.{Value}
 use Rattle.delta.specs.Read.{leafKeyAt, valueAt}

@@ -2,7 +2,6 @@
 // a place; then that part is lent on from the buffer that holds it.
 use delta::LeafKey;
 use delta::Value;
-use found::Head;
 use frames::Addr;
 use frames::Body;
 use frames::Refusal;
@@ -10,9 +9,10 @@ use order::Order;
 use order::Ver;
 use pages::Place;
 use records::RecRead;
+use search_head::Head;
 ghost use mathlib.Core.Path.{_≡_};
 ghost use Rattle.frames.specs.Layout.{Inside};
-ghost use Rattle.found.specs.Head.{headAt};
+ghost use Rattle.search_head.specs.Head.{headAt};
 ghost use Rattle.overlay.specs.Overlay.{isProbe, pageValue, deltaValue, laidBy, laidAt};
 ghost use Rattle.overlay.specs.Lent.{PartIs, LentIs};
 
@@ -67,7 +67,7 @@ fn delta_value(t: &[u8], d: Addr) -> Laid
 fn laid_by(s: &[u8], a: Addr, t: &[u8], d: Addr, probe: &[u8], mine: bool, ver: Ver) -> Laid
     ensures { λ r. ⌜ r ≡ laidBy (now (s .entry)) (now (t .entry)) d mine ver (headAt (now (s .entry)) a (now (probe .entry))) ⌝ }
 {
-    match found::head_at(s, a, probe) {
+    match search_head::head_at(s, a, probe) {
         Head::Refused(r) => Laid::Refused(r),
         Head::Nothing { reads: _ } => {
             if mine {

@@ -27,27 +27,27 @@ fn fill(arena: &mut [u8], byte: u8) {
 
 // arena SIZE FILL: a new arena at the front of the room; its length.
 fn begun(l: &[u8], room: &mut [u8]) -> usize {
-    let n = at_most(script::number(l, 1), room.len());
-    fill(&mut room[..n], script::byte(l, 2));
+    let n = at_most(replay_script::number(l, 1), room.len());
+    fill(&mut room[..n], replay_script::byte(l, 2));
     n
 }
 
 // put AT BYTES
 fn store(l: &[u8], arena: &mut [u8]) {
-    let at = at_most(script::number(l, 1), arena.len());
-    text::bytes_at(l, script::place(l, 2), &mut arena[at..]);
+    let at = at_most(replay_script::number(l, 1), arena.len());
+    replay_text::bytes_at(l, replay_script::place(l, 2), &mut arena[at..]);
 }
 
 // Carries out a command on an arena and a second buffer, and prints its answer.
 fn answered(l: &[u8], arena: &mut [u8], second: &[u8]) {
-    if text::says(l, 0, b"put ") {
+    if replay_text::says(l, 0, b"put ") {
         store(l, arena);
         return;
     }
-    if writers::carried_out(l, arena) {
+    if replay_writers::carried_out(l, arena) {
         return;
     }
-    readers::answer(l, arena, second);
+    replay_readers::answer(l, arena, second);
 }
 
 // The same on the rooms that the two lie in.
@@ -59,21 +59,21 @@ fn in_rooms(l: &[u8], arena: &mut [u8], second: &mut [u8], st: State) {
 
 // One line: left out where it is an answer, else printed again and carried out. buffer BYTES is the second buffer from here on.
 fn turn(l: &[u8], arena: &mut [u8], second: &mut [u8], st: State) -> State {
-    if script::is_answer(l) {
+    if replay_script::is_answer(l) {
         return st;
     }
-    script::say(l);
-    script::end_line();
-    if text::says(l, 0, b"arena ") {
+    replay_script::say(l);
+    replay_script::end_line();
+    if replay_text::says(l, 0, b"arena ") {
         return State {
             arena: begun(l, arena),
             second: st.second,
         };
     }
-    if text::says(l, 0, b"buffer ") {
+    if replay_text::says(l, 0, b"buffer ") {
         return State {
             arena: st.arena,
-            second: text::bytes_at(l, script::place(l, 1), second),
+            second: replay_text::bytes_at(l, replay_script::place(l, 1), second),
         };
     }
     in_rooms(l, arena, second, st);
@@ -93,7 +93,7 @@ fn lines(t: &[u8], arena: &mut [u8], second: &mut [u8], st: State) -> Done
     let mut at = 0;
     let mut now = st;
     while at < t.len() {
-        let e = text::find(t, at, b'\n');
+        let e = replay_text::find(t, at, b'\n');
         if t.len() <= e {
             return Done { upto: at, st: now };
         }

@@ -12,8 +12,8 @@ use lib.Dec.{eqb}
 use Rattle.spans.specs.Span.{part}
 use Rattle.order.specs.declared.Order.{Order}
 use Rattle.order.specs.Order.{cmpBytes}
-use Rattle.apart.specs.declared.Pair.{Pair}
-use Rattle.apart.specs.Apart.{Decides}
+use Rattle.order_pair.specs.declared.Pair.{Pair}
+use Rattle.order_pair.specs.Apart.{Decides}
 use Rattle.frames.specs.declared.Body.{Body}
 use Rattle.frames.specs.Layout.{Inside}
 use Rattle.values.specs.declared.KeyRead.{KeyRead}

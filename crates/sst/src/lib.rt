@@ -186,7 +186,7 @@ fn narrow(s: &[u8], b: Body, rest: &[u8], mark: usize, from: Stand) -> Stand
         };
         let q = p + 1 + skip;
         let e = q + n;
-        let d = apart::pair_of(&s[q..e], rest);
+        let d = order_pair::pair_of(&s[q..e], rest);
         if d.x == d.y {
             if d.whole {
                 return Stand {

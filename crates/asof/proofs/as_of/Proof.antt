@@ -2,7 +2,7 @@
 use mathlib.Core.Path.{sym, ap, _∙_}
 use denote.Ref.{now}
 use Rattle.asof.specs.AsOf.{handedOf, asOfAt}
-use Rattle.found.proofs.Heads.{head-inside}
+use Rattle.search_head.proofs.Heads.{head-inside}
 use Rattle.asof.specs.AsOf.{headPick, asOfHead}
 use borrow.Author.Needs.{needs}
 use Rattle.asof.proofs.as_of.Statement.{statement}

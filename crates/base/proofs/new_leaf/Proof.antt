@@ -4,7 +4,7 @@ use borrow.Author.Tests.{not-true, not-false}
 use Prim.Native.Nat.{ℕ}
 use denote.Ref.{now}
 use lib.Seq.{length-take-le}
-use Rattle.image.specs.Call.{callOf}
+use Rattle.build_image.specs.Call.{callOf}
 use Rattle.base.specs.Calls.{boundsFrom}
 use Rattle.base.proofs.Calls.{next-low, held, inside, bounds-are, list-bad, at-first, list-is, bounds-ok, sane, new-one, new-two, new-three, new-on}
 use borrow.Author.Needs.{needs}
@@ -13,13 +13,13 @@ use Rattle.base.proofs.new_leaf.Tie as tie
 use Rattle.base.proofs.new_leaf.Reads as reads
 use Rattle.base.proofs.new_leaf.Lts as lts
 use Rattle.base.proofs.calc_prefix.Reads as calc-prefix-reads
-use Rattle.image.proofs.call_of.Reads as call-of-reads
-use Rattle.build.proofs.build_leaf.Reads as build-leaf-reads
-use Rattle.build.proofs.limits_ok.Reads as limits-ok-reads
-use Rattle.image.proofs.next_ok.Reads as next-ok-reads
-use Rattle.edges.proofs.edge_of.Reads as edge-of-reads
-use Rattle.sources.proofs.open_records.Reads as open-records-reads
-use Rattle.sources.proofs.well.Reads as well-reads
+use Rattle.build_image.proofs.call_of.Reads as call-of-reads
+use Rattle.build_table.proofs.build_leaf.Reads as build-leaf-reads
+use Rattle.build_table.proofs.limits_ok.Reads as limits-ok-reads
+use Rattle.build_image.proofs.next_ok.Reads as next-ok-reads
+use Rattle.build_bounds.proofs.edge_of.Reads as edge-of-reads
+use Rattle.build_sources.proofs.open_records.Reads as open-records-reads
+use Rattle.build_sources.proofs.well.Reads as well-reads
 
 limits-ok-requires : tie.Need-limits-ok-requires
 limits-ok-requires c κs = search needs

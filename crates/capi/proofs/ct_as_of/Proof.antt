@@ -5,8 +5,8 @@ use Rattle.order.specs.declared.Ver.{Ver}
 use Rattle.frames.specs.Layout.{addr}
 use Rattle.asof.specs.AsOf.{asOfAt}
 use Rattle.asof.specs.Refused.{asOfNumber}
-use Rattle.tells.specs.Answers.{asOfWords}
-use Rattle.words.proofs.Laws.{told}
+use Rattle.c_answers.specs.Answers.{asOfWords}
+use Rattle.c_words.proofs.Laws.{told}
 use borrow.Author.Needs.{needs}
 use Rattle.capi.proofs.ct_as_of.Statement.{statement}
 use Rattle.capi.proofs.ct_as_of.Tie as tie

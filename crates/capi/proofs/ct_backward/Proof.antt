@@ -8,8 +8,8 @@ use mir.ValLaws.{toZ-ofZ}
 use Rattle.frames.specs.Layout.{addr}
 use Rattle.walks.specs.Walk.{backwardAt}
 use Rattle.walks.specs.Refused.{begunNumber}
-use Rattle.tells.specs.Answers.{begunWords}
-use Rattle.words.proofs.Laws.{told}
+use Rattle.c_answers.specs.Answers.{begunWords}
+use Rattle.c_words.proofs.Laws.{told}
 use borrow.Author.Needs.{needs}
 use Rattle.capi.proofs.ct_backward.Statement.{statement}
 use Rattle.capi.proofs.ct_backward.Tie as tie

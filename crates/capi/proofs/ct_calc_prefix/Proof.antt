@@ -4,7 +4,7 @@ use mathlib.Core.Path.{refl, ap, _∙_}
 use mathlib.Core.List.{[], _∷_}
 use denote.Ref.{now}
 use Rattle.spans.specs.Span.{put}
-use Rattle.words.specs.Words.{written}
+use Rattle.c_words.specs.Words.{written}
 use borrow.Author.Needs.{needs}
 use Rattle.capi.proofs.ct_calc_prefix.Statement.{statement}
 use Rattle.capi.proofs.ct_calc_prefix.Tie as tie

@@ -1,7 +1,7 @@
 -- `capi::ct_delta_child` meets its contract. Assumes nothing.
 use Rattle.delta.specs.Refused as refused
-use Rattle.tells.specs.Answers.{childWords}
-use Rattle.words.proofs.Laws.{told}
+use Rattle.c_answers.specs.Answers.{childWords}
+use Rattle.c_words.proofs.Laws.{told}
 use borrow.Author.Needs.{needs}
 use Rattle.capi.proofs.ct_delta_child.Statement.{statement}
 use Rattle.capi.proofs.ct_delta_child.Tie as tie

@@ -2,12 +2,12 @@
 use mathlib.Core.Path.{ap, _∙_}
 use denote.Ref.{now}
 use Rattle.frames.specs.Layout.{pageId}
-use Rattle.image.specs.declared.Built.{Built}
+use Rattle.build_image.specs.declared.Built.{Built}
 use Rattle.delta.specs.Built.{afterwards}
 use Rattle.delta.specs.Deltas as deltas
-use Rattle.image.specs.Call as call
-use Rattle.tells.specs.Answers.{builtWords}
-use Rattle.words.proofs.Laws.{told}
+use Rattle.build_image.specs.Call as call
+use Rattle.c_answers.specs.Answers.{builtWords}
+use Rattle.c_words.proofs.Laws.{told}
 use borrow.Author.Needs.{needs}
 use Rattle.capi.proofs.ct_delta_index.Statement.{statement}
 use Rattle.capi.proofs.ct_delta_index.Tie as tie

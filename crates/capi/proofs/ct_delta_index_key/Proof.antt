@@ -1,7 +1,7 @@
 -- `capi::ct_delta_index_key` meets its contract. Assumes nothing.
 use Rattle.delta.specs.Refused as refused
-use Rattle.tells.specs.Answers.{indexKeyWords}
-use Rattle.words.proofs.Laws.{told}
+use Rattle.c_answers.specs.Answers.{indexKeyWords}
+use Rattle.c_words.proofs.Laws.{told}
 use borrow.Author.Needs.{needs}
 use Rattle.capi.proofs.ct_delta_index_key.Statement.{statement}
 use Rattle.capi.proofs.ct_delta_index_key.Tie as tie

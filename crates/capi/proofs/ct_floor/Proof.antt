@@ -1,7 +1,7 @@
 -- `capi::ct_floor` meets its contract. Assumes nothing.
 use Rattle.sst.specs.Refused.{floorNumber}
-use Rattle.tells.specs.Answers.{floorWords}
-use Rattle.words.proofs.Laws.{told}
+use Rattle.c_answers.specs.Answers.{floorWords}
+use Rattle.c_words.proofs.Laws.{told}
 use borrow.Author.Needs.{needs}
 use Rattle.capi.proofs.ct_floor.Statement.{statement}
 use Rattle.capi.proofs.ct_floor.Tie as tie

@@ -1,7 +1,7 @@
 -- `capi::ct_forward` meets its contract. Assumes nothing.
 use Rattle.walks.specs.Refused.{begunNumber}
-use Rattle.tells.specs.Answers.{begunWords}
-use Rattle.words.proofs.Laws.{told}
+use Rattle.c_answers.specs.Answers.{begunWords}
+use Rattle.c_words.proofs.Laws.{told}
 use borrow.Author.Needs.{needs}
 use Rattle.capi.proofs.ct_forward.Statement.{statement}
 use Rattle.capi.proofs.ct_forward.Tie as tie

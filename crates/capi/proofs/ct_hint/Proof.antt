@@ -1,7 +1,7 @@
 -- `capi::ct_hint` meets its contract. Assumes nothing.
 use Rattle.pages.specs.declared.Hint.{Hint}
-use Rattle.tells.specs.Answers.{hintWords}
-use Rattle.words.proofs.Laws.{told}
+use Rattle.c_answers.specs.Answers.{hintWords}
+use Rattle.c_words.proofs.Laws.{told}
 use borrow.Author.Needs.{needs}
 use Rattle.capi.proofs.ct_hint.Statement.{statement}
 use Rattle.capi.proofs.ct_hint.Tie as tie

@@ -5,8 +5,8 @@ use Rattle.order.specs.declared.Ver.{Ver}
 use Rattle.frames.specs.Layout.{addr}
 use Rattle.sst.specs.Refused.{boundNumber}
 use Rattle.sst.specs.Search.{lowerAt}
-use Rattle.tells.specs.Answers.{boundWords}
-use Rattle.words.proofs.Laws.{told}
+use Rattle.c_answers.specs.Answers.{boundWords}
+use Rattle.c_words.proofs.Laws.{told}
 use borrow.Author.Needs.{needs}
 use Rattle.capi.proofs.ct_lower_bound.Statement.{statement}
 use Rattle.capi.proofs.ct_lower_bound.Tie as tie

@@ -1,8 +1,8 @@
 -- `capi::ct_new_intl` meets its contract. Assumes nothing.
 use denote.Ref.{now}
-use Rattle.image.specs.Call as call
-use Rattle.tells.specs.Answers.{builtWords}
-use Rattle.words.proofs.Laws.{told}
+use Rattle.build_image.specs.Call as call
+use Rattle.c_answers.specs.Answers.{builtWords}
+use Rattle.c_words.proofs.Laws.{told}
 use borrow.Author.Needs.{needs}
 use Rattle.capi.proofs.ct_new_intl.Statement.{statement}
 use Rattle.capi.proofs.ct_new_intl.Tie as tie

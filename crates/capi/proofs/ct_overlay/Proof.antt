@@ -1,7 +1,7 @@
 -- `capi::ct_overlay` meets its contract. Assumes nothing.
 use Rattle.overlay.specs.Overlay.{laidNumber}
-use Rattle.tells.specs.Answers.{laidWords}
-use Rattle.words.proofs.Laws.{told}
+use Rattle.c_answers.specs.Answers.{laidWords}
+use Rattle.c_words.proofs.Laws.{told}
 use borrow.Author.Needs.{needs}
 use Rattle.capi.proofs.ct_overlay.Statement.{statement}
 use Rattle.capi.proofs.ct_overlay.Tie as tie

@@ -5,9 +5,9 @@ use Rattle.frames.specs.declared.Opened.{Opened}
 use Rattle.frames.specs.Layout.{addr, openAt}
 use Rattle.pages.specs.Edges.{boundsAt}
 use Rattle.pages.specs.Refused.{boundsNumber}
-use Rattle.words.specs.Words.{written}
-use Rattle.tells.specs.Answers.{boundsWords, pageWords}
-use Rattle.words.proofs.Laws.{told}
+use Rattle.c_words.specs.Words.{written}
+use Rattle.c_answers.specs.Answers.{boundsWords, pageWords}
+use Rattle.c_words.proofs.Laws.{told}
 use Rattle.capi.proofs.Told.{page-bad}
 use borrow.Author.Needs.{needs}
 use Rattle.capi.proofs.ct_page.Statement.{statement}

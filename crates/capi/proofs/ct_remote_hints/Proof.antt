@@ -1,7 +1,7 @@
 -- `capi::ct_remote_hints` meets its contract. Assumes nothing.
 use Rattle.pages.specs.Refused.{hintsNumber}
-use Rattle.tells.specs.Answers.{hintsWords}
-use Rattle.words.proofs.Laws.{told}
+use Rattle.c_answers.specs.Answers.{hintsWords}
+use Rattle.c_words.proofs.Laws.{told}
 use borrow.Author.Needs.{needs}
 use Rattle.capi.proofs.ct_remote_hints.Statement.{statement}
 use Rattle.capi.proofs.ct_remote_hints.Tie as tie

@@ -1,7 +1,7 @@
 -- `capi::ct_search` meets its contract. Assumes nothing.
 use Rattle.sst.specs.Refused.{foundNumber}
-use Rattle.tells.specs.Answers.{foundWords}
-use Rattle.words.proofs.Laws.{told}
+use Rattle.c_answers.specs.Answers.{foundWords}
+use Rattle.c_words.proofs.Laws.{told}
 use borrow.Author.Needs.{needs}
 use Rattle.capi.proofs.ct_search.Statement.{statement}
 use Rattle.capi.proofs.ct_search.Tie as tie

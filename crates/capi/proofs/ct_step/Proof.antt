@@ -1,6 +1,6 @@
 -- `capi::ct_step` meets its contract. Assumes nothing.
 use denote.Ref.{now}
-use Rattle.runs.proofs.Running.{told-step}
+use Rattle.c_steps.proofs.Running.{told-step}
 use borrow.Author.Needs.{needs}
 use Rattle.capi.proofs.ct_step.Statement.{statement}
 use Rattle.capi.proofs.ct_step.Tie as tie

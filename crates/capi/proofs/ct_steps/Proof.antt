@@ -1,6 +1,6 @@
 -- `capi::ct_steps` meets its contract. Assumes nothing.
 use denote.Ref.{now}
-use Rattle.runs.proofs.Running.{told-steps}
+use Rattle.c_steps.proofs.Running.{told-steps}
 use borrow.Author.Needs.{needs}
 use Rattle.capi.proofs.ct_steps.Statement.{statement}
 use Rattle.capi.proofs.ct_steps.Tie as tie

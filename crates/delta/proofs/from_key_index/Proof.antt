@@ -6,14 +6,14 @@ use denote.Ref.{now}
 use lib.ListN.{length}
 use Rattle.spans.specs.Span.{put}
 use Rattle.delta.specs.Deltas.{indexFrame, indexLen}
-use Rattle.image.specs.Call.{callOf}
-use Rattle.image.proofs.Asked.{next-true}
+use Rattle.build_image.specs.Call.{callOf}
+use Rattle.build_image.proofs.Asked.{next-true}
 use Rattle.delta.proofs.Lengths.{index-most}
 use Rattle.delta.proofs.Verdict.{lengths-true, address-some, address-zero, judged-2, judged-3, judged-9, judged-at, index-is, index-frame-room}
 use borrow.Author.Tests.{not-true, not-false}
 use mathlib.Core.Path.{ap₂}
 use Rattle.frames.specs.Layout.{addr}
-use Rattle.image.specs.declared.Built.{Built}
+use Rattle.build_image.specs.declared.Built.{Built}
 use borrow.Author.Needs.{needs}
 use Rattle.delta.proofs.from_key_index.Statement.{statement}
 use Rattle.delta.proofs.from_key_index.Tie as tie

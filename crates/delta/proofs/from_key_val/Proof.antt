@@ -4,17 +4,17 @@ use Prim.Native.Nat.{ℕ, _+_, _≤_}
 use mathlib.Core.Path.{_≡_, refl, sym, ap, _∙_}
 use denote.Ref.{now}
 use lib.ListN.{length}
-use Rattle.image.specs.Sizes.{farLen}
-use Rattle.image.proofs.Lengths.{far-most}
+use Rattle.build_image.specs.Sizes.{farLen}
+use Rattle.build_image.proofs.Lengths.{far-most}
 use Rattle.delta.specs.Deltas.{leafLen}
-use Rattle.image.specs.Call.{callOf}
-use Rattle.image.proofs.Asked.{limit-true, next-true}
+use Rattle.build_image.specs.Call.{callOf}
+use Rattle.build_image.proofs.Asked.{limit-true, next-true}
 use Rattle.delta.proofs.Lengths.{leaf-most}
 use Rattle.delta.proofs.Verdict.{lengths-true, address-some, address-zero, judged-2, judged-3, judged-9, judged-at, leaf-1, leaf-on, leaf-far-room, leaf-frame-room, leaf-stored}
 use borrow.Author.Tests.{not-true, not-false}
 use mathlib.Core.Path.{ap₂}
 use Rattle.frames.specs.Layout.{addr}
-use Rattle.image.specs.declared.Built.{Built}
+use Rattle.build_image.specs.declared.Built.{Built}
 use borrow.Author.Needs.{needs}
 use Rattle.delta.proofs.from_key_val.Statement.{statement}
 use Rattle.delta.proofs.from_key_val.Tie as tie

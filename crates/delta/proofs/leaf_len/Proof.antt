@@ -1,6 +1,6 @@
 -- `delta::leaf_len` meets its contract. Assumes nothing.
 use native.Mathlib.Omega.{arith}
-use Rattle.image.proofs.Lengths.{size-some}
+use Rattle.build_image.proofs.Lengths.{size-some}
 use Rattle.delta.specs.Deltas.{leafLen}
 use Rattle.delta.proofs.Lengths.{leaf-key-most}
 use borrow.Author.Needs.{needs}

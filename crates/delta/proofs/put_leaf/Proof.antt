@@ -6,7 +6,7 @@ use lib.ListN.{length}
 use borrow.Author.Tests.{le-leb}
 use Rattle.spans.proofs.Put.{stored-bytes}
 use Rattle.values.specs.Keys.{leafKey}
-use Rattle.image.proofs.Lengths.{size-some}
+use Rattle.build_image.proofs.Lengths.{size-some}
 use Rattle.delta.specs.Deltas.{valueOf, leafFrame}
 use Rattle.delta.proofs.Lengths.{length-value, length-leaf-key, leaf-key-most}
 use Rattle.delta.proofs.Straight.{frame-head-room, frame-key-room, frame-val-room, frame-fits, frame-zeros-room, frame-end}

@@ -2,8 +2,8 @@ use Prim.Native.Nat.{ℕ, _+_, _-_, _≤_, _<_}
 use mathlib.Core.Path.{_≡_, subst}
 use native.Mathlib.Omega.{arith}
 use lib.ListN.{length}
-use Rattle.text.specs.declared.Number.{Number}
-use Rattle.text.specs.Ends.{Ends}
+use Rattle.replay_text.specs.declared.Number.{Number}
+use Rattle.replay_text.specs.Ends.{Ends}
 use borrow.Author.Needs.{needs}
 use Rattle.lengths_table.proofs.lines.Statement.{statement}
 use Rattle.lengths_table.proofs.lines.Tie as tie
@@ -11,7 +11,7 @@ use Rattle.lengths_table.proofs.lines.Reads as reads
 use Rattle.lengths_table.proofs.lines.Lts as lts
 use Rattle.io.proofs.write_all.Reads as write-all-reads
 use Rattle.lengths_table.proofs.line.Reads as line-reads
-use Rattle.text.proofs.number_at.Reads as number-at-reads
+use Rattle.replay_text.proofs.number_at.Reads as number-at-reads
 
 abbrev Inv-loop : tie.InvT-loop
 Inv-loop s at₀ t5 t6 at = at ≤ length s

@@ -2,7 +2,7 @@
 use mathlib.Core.Path.{sym, _∙_}
 use denote.Ref.{now}
 use Rattle.overlay.specs.Overlay.{laidBy}
-use Rattle.found.proofs.Heads.{head-inside}
+use Rattle.search_head.proofs.Heads.{head-inside}
 use borrow.Author.Needs.{needs}
 use Rattle.overlay.proofs.laid_by.Statement.{statement}
 use Rattle.overlay.proofs.laid_by.Tie as tie

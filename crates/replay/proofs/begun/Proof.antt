@@ -8,8 +8,8 @@ use Rattle.replay.proofs.begun.Reads as reads
 use Rattle.replay.proofs.begun.Lts as lts
 use Rattle.replay.proofs.at_most.Reads as at-most-reads
 use Rattle.replay.proofs.fill.Reads as fill-reads
-use Rattle.script.proofs.byte.Reads as byte-reads
-use Rattle.script.proofs.number.Reads as number-reads
+use Rattle.replay_script.proofs.byte.Reads as byte-reads
+use Rattle.replay_script.proofs.number.Reads as number-reads
 
 number-requires : tie.Need-number-requires
 number-requires c κs = search needs

@@ -8,7 +8,7 @@ use Rattle.replay.proofs.lines.Tie as tie
 use Rattle.replay.proofs.lines.Reads as reads
 use Rattle.replay.proofs.lines.Lts as lts
 use Rattle.replay.proofs.turn.Reads as turn-reads
-use Rattle.text.proofs.find.Reads as find-reads
+use Rattle.replay_text.proofs.find.Reads as find-reads
 
 abbrev Inv-loop : tie.InvT-loop
 Inv-loop t arena₀ second₀ at₀ now₀ arena second at now = (at ≤ length t) × (length arena ≡ length arena₀) × (length second ≡ length second₀)

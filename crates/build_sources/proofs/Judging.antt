@@ -1,0 +1,141 @@
+-- Judging a whole source: finishing from here gives the answer. Each law speaks of `Found`, or of an end.
+-- Assumes nothing.
+use mathlib.Core.Path.{_≡_, refl, sym, ap, _∙_}
+use mathlib.Core.List.{List, [], _∷_}
+use mathlib.Core.Bool.{Bool, true, false, cond}
+use Prim.Native.Nat.{ℕ, suc, _+_, _-_, _≤_, _<_}
+use native.Mathlib.Omega.{arith}
+use lib.ListN.{length}
+use lib.Dec.{eqb}
+use Rattle.order.specs.declared.Order.{Order}
+use Rattle.order.specs.declared.Order.the-variants.{Less, Equal, Greater}
+use Rattle.order.specs.Order.{cmpBytes, startsWith}
+use Rattle.order.specs.Version.{newerThan}
+use Rattle.build_sources.specs.declared.Cursor.{Cursor}
+use Rattle.build_sources.specs.declared.Item.{Item}
+use Rattle.build_sources.specs.Keys.{keyBytes, srcOf}
+use Rattle.build_sources.specs.Source.{Entry, entryOf, entries, leftOf}
+use Rattle.build_sources.specs.declared.Risen.{Risen}
+use Rattle.build_sources.specs.declared.Risen.the-variants.{Up, Not}
+use Rattle.build_sources.specs.Judged.{above, risingFrom, rising, risenOf, prefixed}
+use Rattle.build_sources.specs.Pages.{pagesLeft}
+use Rattle.build_sources.proofs.Paged.{left-small}
+use Rattle.build_sources.proofs.Sourced.{Found}
+
+-- the key of an entry, by where it lies
+pub key-of : (l w : List ℕ) (i : Item) (b : Bool) → i .low ≡ b → keyBytes (srcOf l w b) (i .key) ≡ entryOf l w i .key
+unfolding entryOf
+key-of l w i b e = rw e refl
+
+pub by-keys : (l w : List ℕ) (a b : Item) (x y : Bool) (o : Order) → a .low ≡ x → b .low ≡ y
+    → o ≡ cmpBytes (keyBytes (srcOf l w x) (a .key)) (keyBytes (srcOf l w y) (b .key)) → o ≡ cmpBytes (entryOf l w a .key) (entryOf l w b .key)
+by-keys l w a b x y o p q h = h ∙ rw (key-of l w a x p, key-of l w b y q) refl
+
+-- one entry against the one before
+module _ (l w : List ℕ) (a b : Item) (o : Order) (e : o ≡ cmpBytes (entryOf l w a .key) (entryOf l w b .key)) where
+  pub above-less : o ≡ Less → true ≡ above (entryOf l w a) (entryOf l w b)
+  unfolding above
+  above-less h = rw (sym e ∙ h) refl
+
+  pub above-equal : o ≡ Equal → (r : Bool) → r ≡ newerThan (a .ver) (b .ver) → r ≡ above (entryOf l w a) (entryOf l w b)
+  unfolding above entryOf
+  above-equal h r q = rw (sym e ∙ h) q
+
+  pub above-greater : o ≡ Greater → false ≡ above (entryOf l w a) (entryOf l w b)
+  unfolding above
+  above-greater h = rw (sym e ∙ h) refl
+
+module _ (l w : List ℕ) (x : Entry) (c : Cursor) where
+  rising-end : entries l w c ≡ [] → true ≡ risingFrom x (entries l w c)
+  unfolding risingFrom
+  rising-end e = rw e refl
+
+  module _ (i : Item) (d : Cursor) (f : Found l w c i d) where
+    rising-not : above x (entryOf l w i) ≡ false → false ≡ risingFrom x (entries l w c)
+    unfolding risingFrom
+    rising-not h = rw (f .list, h) refl
+
+    rising-on : above x (entryOf l w i) ≡ true → risingFrom (entryOf l w i) (entries l w d) ≡ risingFrom x (entries l w c)
+    unfolding risingFrom
+    rising-on h = rw (f .list, h) refl
+
+module _ (l w : List ℕ) (c : Cursor) where
+  pub rises-end : entries l w c ≡ [] → Up 0 ≡ risenOf (entries l w c)
+  unfolding rising risenOf
+  rises-end e = rw e refl
+
+  pub prefixed-end : (p : List ℕ) → entries l w c ≡ [] → true ≡ prefixed p (entries l w c)
+  unfolding prefixed
+  prefixed-end p e = rw e refl
+
+  module _ (i : Item) (d : Cursor) (f : Found l w c i d) where
+    pub rises-on : (r : Risen) → r ≡ risenOf (entryOf l w i ∷ entries l w d) → r ≡ risenOf (entries l w c)
+    rises-on r h = rw (f .list) h
+
+    pub prefixed-not : (p : List ℕ) → startsWith p (entryOf l w i .key) ≡ false → false ≡ prefixed p (entries l w c)
+    unfolding prefixed
+    prefixed-not p h = rw (f .list, h) refl
+
+    pub prefixed-on : (p : List ℕ) → startsWith p (entryOf l w i .key) ≡ true → prefixed p (entries l w d) ≡ prefixed p (entries l w c)
+    unfolding prefixed
+    prefixed-on p h = rw (f .list, h) refl
+
+-- ---- rising and counted
+
+pub risen-up : (es : List Entry) (n : ℕ) → Up n ≡ risenOf es → (rising es ≡ true) × (n ≡ length es)
+unfolding risenOf
+risen-up es n e = go (rising es) e
+  where
+    go : (b : Bool) → Up n ≡ cond b (Up (length es)) Not → (b ≡ true) × (n ≡ length es)
+    go true e = (refl, cc)
+    go false e = absurd (let z : _≡_ {A = ℕ} 0 1 = cc in omega arith)
+
+pub risen-not : (es : List Entry) → Not ≡ risenOf es → rising es ≡ false
+unfolding risenOf
+risen-not es e = go (rising es) e
+  where
+    go : (b : Bool) → Not ≡ cond b (Up (length es)) Not → b ≡ false
+    go true e = absurd (let z : _≡_ {A = ℕ} 0 1 = cc in omega arith)
+    go false e = refl
+
+is-up : (es : List Entry) (n : ℕ) → true ≡ rising es → n ≡ length es → Up n ≡ risenOf es
+unfolding risenOf
+is-up es n e q = rw (← e, q) refl
+
+is-not : (es : List Entry) → false ≡ rising es → Not ≡ risenOf es
+unfolding risenOf
+is-not es e = rw (← e) refl
+
+-- what is counted and what is to come; it cannot pass what the source holds
+pub record Rising (l w : List ℕ) (x₀ : Entry) (c₀ : Cursor) (x : Entry) (c : Cursor) (n : ℕ) : Type 0 where
+  pub goes : risingFrom x (entries l w c) ≡ risingFrom x₀ (entries l w c₀)
+  pub all : n + length (entries l w c) ≡ suc (length (entries l w c₀))
+  pub left : n + leftOf l w c ≤ suc (leftOf l w c₀)
+
+pub rising-begin : (l w : List ℕ) (x : Entry) (c : Cursor) → Rising l w x c x c 1
+rising-begin l w x c = record { goes = refl; all = omega arith; left = omega arith }
+
+module _ (l w : List ℕ) (x₀ : Entry) (c₀ : Cursor) (x : Entry) (c : Cursor) (n : ℕ) (h : Rising l w x₀ c₀ x c n) where
+  rising-all : {b : Bool} → b ≡ risingFrom x (entries l w c) → b ≡ rising (x₀ ∷ entries l w c₀)
+  unfolding rising
+  rising-all e = e ∙ h .goes
+
+  pub risen-end : entries l w c ≡ [] → Up n ≡ risenOf (x₀ ∷ entries l w c₀)
+  risen-end e = is-up (x₀ ∷ entries l w c₀) n (rising-all (rising-end l w x c e)) (omega (arith, h .all, ap length e))
+
+  module _ (i : Item) (d : Cursor) (f : Found l w c i d) where
+    pub risen-stop : above x (entryOf l w i) ≡ false → Not ≡ risenOf (x₀ ∷ entries l w c₀)
+    risen-stop e = is-not (x₀ ∷ entries l w c₀) (rising-all (rising-not l w x c i d f e))
+
+    pub risen-turn : above x (entryOf l w i) ≡ true → Rising l w x₀ c₀ (entryOf l w i) d (n + 1)
+    risen-turn e =
+        record { goes = rising-on l w x c i d f e ∙ h .goes; all = omega (arith, h .all, ap length (f .list)); left = omega (arith, h .left, f .falls) }
+
+-- the count stays a number that a usize holds
+pub left-long : (l w : List ℕ) (c : Cursor) → leftOf l w c ≤ length l + 562949953421312
+unfolding leftOf
+left-long l w c = go (eqb (c .kind) 2)
+  where
+    go : (t : Bool) → cond t (pagesLeft c) (length l - c .at) ≤ length l + 562949953421312
+    go true = omega (arith, left-small c)
+    go false = omega arith

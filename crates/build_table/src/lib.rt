@@ -1,0 +1,222 @@
+// Building from any source: the whole input is judged without writing, then written strictly upward from the next free address. The
+// numbers 6 to 9 are judged on the entries, whatever holds them; 1 to 3 are the calls' own (crate base).
+use build_bounds::Edge;
+use build_bounds::Edges;
+use build_image::Built;
+use build_image::Call;
+use build_sources::Cursor;
+use build_sources::Risen;
+use build_totals::Totals;
+use frames::Addr;
+use frames::Refusal;
+ghost use mathlib.Core.Path.{_≡_};
+ghost use Prim.Native.Nat.{_+_, _≤_};
+ghost use lib.ListN.{length, take};
+ghost use Rattle.frames.specs.Layout.{frameLen};
+ghost use Rattle.build_sources.specs.Source.{entries};
+ghost use Rattle.build_sources.specs.Judged.{prefixed};
+ghost use Rattle.build_bounds.specs.Edges.{Within, Inside, edgeBytes, boundsOf};
+ghost use Rattle.build_table.specs.Table.{boundsOk, leafLimits};
+ghost use Rattle.build_table.specs.Index.{Held, indexVerdict, indexAnswer, indexArena};
+ghost use Rattle.build_table.specs.Leaf.{leafVerdict, leafAnswer, leafArena};
+ghost use Rattle.build_history.specs.Runs.{Sane};
+
+// What the judge of an index page finds: the count of its entries and its size.
+pub enum IndexVerdict {
+    Fits(usize, usize),
+    No(Refusal),
+}
+
+// What the judge of a leaf finds: what it is going to write.
+pub enum LeafVerdict {
+    Fits(Totals),
+    No(Refusal),
+}
+
+// ---- 1
+
+// "lo or hi over 4,096" is BAD LIMIT.
+pub fn bounds_ok(lo: &[u8], hi: &[u8]) -> bool
+    ensures { λ r. ⌜ r ≡ boundsOk (now (lo .entry)) (now (hi .entry)) ⌝ }
+{
+    (lo.len() <= 4096) & (hi.len() <= 4096)
+}
+
+// "inline limit not 1..65,536; budget not 256..131,072; lo or hi over 4,096" is BAD LIMIT.
+pub fn limits_ok(limit: usize, budget: usize, lo: &[u8], hi: &[u8]) -> bool
+    ensures { λ r. ⌜ r ≡ leafLimits limit budget (now (lo .entry)) (now (hi .entry)) ⌝ }
+{
+    let inline = build_image::limits_ok(limit, budget);
+    let bounds = bounds_ok(lo, hi);
+    inline & bounds
+}
+
+// ---- 7
+
+// Whether each key begins with the first p bytes of a boundary.
+pub fn begins_with(list: &[u8], low: &[u8], from: Cursor, lo: &[u8], e: Edge, p: usize) -> bool
+    requires { ⌜ Within (now lo) (now low) e ⌝ }
+    requires { ⌜ p ≤ e .len ⌝ }
+    ensures { λ r. ⌜ r ≡ prefixed (take p (edgeBytes (now (lo .entry)) (now (low .entry)) e)) (entries (now (list .entry)) (now (low .entry)) from) ⌝ }
+{
+    if p == 0 {
+        return true;
+    }
+    if e.low {
+        return build_sources::begins(list, low, from, spans::part_of(low, e.at, p));
+    }
+    build_sources::begins(list, low, from, spans::part_of(lo, e.at, p))
+}
+
+// ---- index pages
+
+// Judges the entries of an index page: 6, 7, 8, 9. It writes nothing.
+pub fn judge_index(
+    list: &[u8],
+    low: &[u8],
+    from: Cursor,
+    len: usize,
+    next: usize,
+    lo: &[u8],
+    e: Edges,
+) -> IndexVerdict
+    requires { ⌜ Held (now lo) (now low) e ⌝ }
+    requires { ⌜ next ≤ len ⌝ }
+    ensures { λ r. ⌜ r ≡ indexVerdict len next (take (e .prefix) (edgeBytes (now (lo .entry)) (now (low .entry)) (e .lo))) e (entries (now (list .entry)) (now (low .entry)) from) ⌝ }
+{
+    let x = e.lo;
+    let y = e.hi;
+    let p = e.prefix;
+    let Risen::Up(n) = build_sources::rises(list, low, from) else {
+        return IndexVerdict::No(Refusal::OutOfOrder);
+    };
+    if !begins_with(list, low, from, lo, x, p) {
+        return IndexVerdict::No(Refusal::WrongPrefix);
+    }
+    if 65535 < n {
+        return IndexVerdict::No(Refusal::TooBig);
+    }
+    let size = 40 + 4 * n + x.len + y.len + build_index::index_sums(list, low, from, p);
+    if 16777216 < size {
+        return IndexVerdict::No(Refusal::TooBig);
+    }
+    if !spans::room(len, next, frames::frame_len(size as u32)) {
+        return IndexVerdict::No(Refusal::NoRoom);
+    }
+    IndexVerdict::Fits(n, size)
+}
+
+// Builds an index page of the entries from a cursor on.
+pub fn build_index(
+    a: &mut [u8],
+    next: usize,
+    list: &[u8],
+    from: Cursor,
+    m: Call,
+    lo: &[u8],
+    hi: &[u8],
+    e: Edges,
+) -> Built
+    requires { ⌜ next ≤ length (now a) ⌝ }
+    requires { ⌜ Held (now lo) (take next (now a)) e ⌝ }
+    requires { ⌜ Inside (now lo) (now hi) (take next (now a)) e ⌝ }
+    ensures { λ r. ⌜ r ≡ indexAnswer (now (a .entry)) next m (boundsOf (now (lo .entry)) (now (hi .entry)) (take next (now (a .entry))) e) (entries (now (list .entry)) (take next (now (a .entry))) from) ⌝ }
+    ensures { λ _. ⌜ now (a .exit) ≡ indexArena (now (a .entry)) next m (boundsOf (now (lo .entry)) (now (hi .entry)) (take next (now (a .entry))) e) (entries (now (list .entry)) (take next (now (a .entry))) from) ⌝ }
+{
+    let len = a.len();
+    let v = judge_index(list, &a[..next], from, len, next, lo, e);
+    match v {
+        IndexVerdict::No(r) => Built::Refused(r),
+        IndexVerdict::Fits(n, size) => {
+            build_index::write_index(a, next, list, from, next, m, n, size, lo, hi, e);
+            Built::At(Addr(next as u64), next + frames::frame_len(size as u32))
+        }
+    }
+}
+
+// ---- leaves
+
+// Judges the entries of a leaf: 6, 7, 8, 9. It writes nothing.
+pub fn judge_leaf(
+    list: &[u8],
+    low: &[u8],
+    from: Cursor,
+    len: usize,
+    next: usize,
+    m: Call,
+    lo: &[u8],
+    hi: &[u8],
+    e: Edges,
+) -> LeafVerdict
+    requires { ⌜ Held (now lo) (now low) e ⌝ }
+    requires { ⌜ Inside (now lo) (now hi) (now low) e ⌝ }
+    requires { ⌜ Sane m ⌝ }
+    requires { ⌜ (next ≤ len) × (len ≤ 9223372036854775807) ⌝ }
+    ensures { λ r. ⌜ r ≡ leafVerdict len next m (boundsOf (now (lo .entry)) (now (hi .entry)) (now (low .entry)) e) (entries (now (list .entry)) (now (low .entry)) from) ⌝ }
+{
+    let x = e.lo;
+    let y = e.hi;
+    let p = e.prefix;
+    let Risen::Up(n) = build_sources::rises(list, low, from) else {
+        return LeafVerdict::No(Refusal::OutOfOrder);
+    };
+    if !begins_with(list, low, from, lo, x, p) {
+        return LeafVerdict::No(Refusal::WrongPrefix);
+    }
+    if 65535 < n {
+        return LeafVerdict::No(Refusal::TooBig);
+    }
+    let t = build_totals::tally_up(list, low, from, p, m.limit);
+    let g = build_totals::count_pages(list, low, from, next, m.limit, m.budget);
+    let pages = g.count;
+    let leaf = g.end;
+    let size = 40 + 4 * t.heads + x.len + y.len + t.sums;
+    let room = build_totals::room_of(pages, t.counted);
+    if 16777216 < size + room {
+        return LeafVerdict::No(Refusal::TooBig);
+    }
+    let end = leaf + frames::frame_len((size + room) as u32) + t.far;
+    if len < end {
+        return LeafVerdict::No(Refusal::NoRoom);
+    }
+    LeafVerdict::Fits(Totals {
+        heads: t.heads,
+        olds: t.olds,
+        pages: pages,
+        remotes: t.remotes,
+        size: size,
+        room: room,
+        leaf: leaf,
+        end: end,
+    })
+}
+
+// Builds a leaf of the entries from a cursor on.
+pub fn build_leaf(
+    a: &mut [u8],
+    next: usize,
+    list: &[u8],
+    from: Cursor,
+    m: Call,
+    lo: &[u8],
+    hi: &[u8],
+    e: Edges,
+) -> Built
+    requires { ⌜ next ≤ length (now a) ⌝ }
+    requires { ⌜ Held (now lo) (take next (now a)) e ⌝ }
+    requires { ⌜ Inside (now lo) (now hi) (take next (now a)) e ⌝ }
+    requires { ⌜ Sane m ⌝ }
+    ensures { λ r. ⌜ r ≡ leafAnswer (now (a .entry)) next m (boundsOf (now (lo .entry)) (now (hi .entry)) (take next (now (a .entry))) e) (entries (now (list .entry)) (take next (now (a .entry))) from) ⌝ }
+    ensures { λ _. ⌜ now (a .exit) ≡ leafArena (now (a .entry)) next m (boundsOf (now (lo .entry)) (now (hi .entry)) (take next (now (a .entry))) e) (entries (now (list .entry)) (take next (now (a .entry))) from) ⌝ }
+{
+    let len = a.len();
+    let v = judge_leaf(list, &a[..next], from, len, next, m, lo, hi, e);
+    match v {
+        LeafVerdict::No(r) => Built::Refused(r),
+        LeafVerdict::Fits(t) => {
+            let end = t.end;
+            let leaf = build_leaf::write_leaf(a, next, list, from, next, m, t, lo, hi, e);
+            Built::At(Addr(leaf as u64), end)
+        }
+    }
+}

@@ -1,0 +1,220 @@
+-- The tally: one entry, all entries, and that it is what the image's definitions say.
+-- Assumes nothing.
+use mathlib.Core.Path.{_≡_, refl, sym, ap, _∙_, subst}
+use mathlib.Core.List.{List, [], _∷_}
+use mathlib.Core.Bool.{Bool, true, false, not, cond}
+use Prim.Native.Nat.{ℕ, zero, suc, _+_, _-_, _*_, _≤_, _<_}
+use native.Mathlib.Omega.{arith}
+use lib.Dec.{ltb, eqb}
+use lib.ListN.{length}
+use Rattle.values.specs.Vals.{sizeOf}
+use Rattle.build_sources.specs.declared.Cursor.{Cursor}
+use Rattle.build_sources.specs.declared.Item.{Item}
+use Rattle.build_sources.specs.Source.{Entry, entryOf, entries, only, olds, heads}
+use Rattle.build_sources.proofs.Sourced.{Found}
+use Rattle.build_image.specs.Sizes.{farLen, valLen, fars, keyLen, sums, counted}
+use Rattle.build_image.proofs.Lengths.{far-most}
+use Rattle.build_image.proofs.Leaf.{remotes}
+use Rattle.build_heads.specs.Steps.{Long}
+use Rattle.build_heads.proofs.Slots.{key-most, size-most}
+use Rattle.build_totals.specs.declared.Tally.{Tally}
+use Rattle.build_totals.specs.Tally.{nothing, withOld, withHead, withOne, tallyOf}
+use Rattle.build_totals.specs.Bounds.{Bounded}
+
+-- ---- one entry
+
+pub one-most : (b c : Bool) → cond b (cond c 0 1) 1 ≤ 1
+one-most true true = omega arith
+one-most true false = omega arith
+one-most false c = omega arith
+
+pub far-one-most : (b : Bool) → cond b 0 1 ≤ 1
+far-one-most true = omega arith
+far-one-most false = omega arith
+
+pub second-most : (b : Bool) (limit n : ℕ) → n ≤ 65536 → cond b (sizeOf true limit n) 0 ≤ 65600
+second-most true limit n h = size-most true limit n h
+second-most false limit n h = omega arith
+
+pub old-is : (limit : ℕ) (t : Tally) (n kept x y z : ℕ) → x ≡ cond (t .after) (sizeOf true limit n) 0 → y ≡ cond (ltb n limit) (cond (eqb kept 0) 0 1) 1 → z ≡ cond (ltb n limit) 0 1
+    → record { heads = t .heads; olds = t .olds + 1; sums = t .sums + x; counted = t .counted + y; remotes = t .remotes + z; far = t .far; after = false } ≡ withOld limit t n kept
+old-is limit t n kept x y z ex ey ez = rw (ex, ey, ez) refl
+
+pub head-is : (limit p : ℕ) (t : Tally) (k n kept u v y z f : ℕ) → u ≡ keyLen p k → v ≡ sizeOf false limit n → y ≡ cond (ltb n limit) (cond (eqb kept 0) 0 1) 1 → z ≡ cond (ltb n limit) 0 1
+    → f ≡ farLen limit n kept
+    → record { heads = t .heads + 1; olds = t .olds; sums = t .sums + (u + v); counted = t .counted + y; remotes = t .remotes + z; far = t .far + f; after = true } ≡ withHead limit p t k n kept
+head-is limit p t k n kept u v y z f eu ev ey ez ef = rw (eu, ev, ey, ez, ef) refl
+
+module _ (limit p : ℕ) (t : Tally) (k n kept : ℕ) where
+  pub with-old : (b : Bool) → b ≡ true → withOld limit t n kept ≡ withOne limit p t b k n kept
+  unfolding withOne
+  with-old b e = rw e refl
+
+  pub with-head : (b : Bool) → b ≡ false → withHead limit p t k n kept ≡ withOne limit p t b k n kept
+  unfolding withOne
+  with-head b e = rw e refl
+
+pub up : (t : Tally) (j k : ℕ) → j ≤ k → Bounded t j → Bounded t k
+up t j k h b =
+    record {
+      heads = omega (arith, b .heads);
+      olds = omega (arith, b .olds);
+      sums = omega (arith, b .sums);
+      counted = omega (arith, b .counted);
+      remotes = omega (arith, b .remotes);
+      far = omega (arith, b .far);
+    }
+
+one-bounded : (limit p : ℕ) (t : Tally) (old : Bool) (k n kept j : ℕ) → Bounded t j → k ≤ 4096 → n ≤ 65536 → Bounded (withOne limit p t old k n kept) (j + 1)
+unfolding withOne
+one-bounded limit p t true k n kept j b hk hn =
+    record {
+      heads = omega (arith, b .heads);
+      olds = omega (arith, b .olds);
+      sums = omega (arith, b .sums, second-most (t .after) limit n hn);
+      counted = omega (arith, b .counted, one-most (ltb n limit) (eqb kept 0));
+      remotes = omega (arith, b .remotes, far-one-most (ltb n limit));
+      far = omega (arith, b .far);
+    }
+one-bounded limit p t false k n kept j b hk hn =
+    record {
+      heads = omega (arith, b .heads);
+      olds = omega (arith, b .olds);
+      sums = omega (arith, b .sums, key-most p k, size-most false limit n hn);
+      counted = omega (arith, b .counted, one-most (ltb n limit) (eqb kept 0));
+      remotes = omega (arith, b .remotes, far-one-most (ltb n limit));
+      far = omega (arith, b .far, far-most limit n kept);
+    }
+
+-- ---- all entries
+
+pub record Tallying (l w : List ℕ) (limit p : ℕ) (c₀ c : Cursor) (t : Tally) : Type 0 where
+  pub goes : tallyOf limit p t (entries l w c) ≡ tallyOf limit p nothing (entries l w c₀)
+  pub long : Long p (entries l w c)
+  pub few : length (entries l w c) ≤ 65535
+  pub bounded : Bounded t (65535 - length (entries l w c))
+
+pub tally-begin : (l w : List ℕ) (limit p : ℕ) (c : Cursor) → Long p (entries l w c) → length (entries l w c) ≤ 65535 → Tallying l w limit p c c nothing
+tally-begin l w limit p c h k =
+    record {
+      goes = refl;
+      long = h;
+      few = k;
+      bounded = record { heads = omega arith; olds = omega arith; sums = omega arith; counted = omega arith; remotes = omega arith; far = omega arith };
+    }
+
+same-old : (l w : List ℕ) (i : Item) → entryOf l w i .old ≡ i .old
+unfolding entryOf
+same-old l w i = refl
+
+same-kept : (l w : List ℕ) (i : Item) → entryOf l w i .kept ≡ i .kept .0
+unfolding entryOf
+same-kept l w i = refl
+
+tally-nil : (limit p : ℕ) (t : Tally) (es : List Entry) → es ≡ [] → tallyOf limit p t es ≡ t
+unfolding tallyOf
+tally-nil limit p t es e = rw e refl
+
+module _ (l w : List ℕ) (limit p : ℕ) (c₀ c : Cursor) (t : Tally) (h : Tallying l w limit p c₀ c t) where
+  pub tally-end : entries l w c ≡ [] → (t ≡ tallyOf limit p nothing (entries l w c₀)) × Bounded t 65535
+  tally-end e = (sym (tally-nil limit p t (entries l w c) e) ∙ h .goes, up t (65535 - length (entries l w c)) 65535 (omega arith) (h .bounded))
+
+  module _ (i : Item) (d : Cursor) (f : Found l w c i d) where
+    longs : Long p (entryOf l w i ∷ entries l w d)
+    longs = subst (λ (es : List Entry). Long p es) (f .list) (h .long)
+
+    pub tally-asks : (i .vlen ≤ 65536) × (((i .key .plen + i .key .klen ≤ 4096) × (p ≤ i .key .plen + i .key .klen)) × Bounded t 65535)
+    tally-asks =
+        let q = longs .0 in
+        (f .placed .vsmall, ((f .placed .ksmall, omega (arith, q, f .klen)), up t (65535 - length (entries l w c)) 65535 (omega arith) (h .bounded)))
+
+    opened : tallyOf limit p t (entries l w c) ≡ tallyOf limit p (withOne limit p t (i .old) (i .key .plen + i .key .klen) (i .vlen) (i .kept .0)) (entries l w d)
+    unfolding tallyOf
+    opened =
+        ap (tallyOf limit p t) (f .list)
+        ∙ ap (λ (b : Bool). tallyOf limit p (withOne limit p t b (length (entryOf l w i .key)) (length (entryOf l w i .val)) (entryOf l w i .kept)) (entries l w d)) (same-old l w i)
+        ∙ ap (λ (x : ℕ). tallyOf limit p (withOne limit p t (i .old) x (length (entryOf l w i .val)) (entryOf l w i .kept)) (entries l w d)) (f .klen)
+        ∙ ap (λ (x : ℕ). tallyOf limit p (withOne limit p t (i .old) (i .key .plen + i .key .klen) x (entryOf l w i .kept)) (entries l w d)) (f .vlen)
+        ∙ ap (λ (x : ℕ). tallyOf limit p (withOne limit p t (i .old) (i .key .plen + i .key .klen) (i .vlen) x) (entries l w d)) (same-kept l w i)
+
+    pub tally-turn : (r : Tally) → r ≡ withOne limit p t (i .old) (i .key .plen + i .key .klen) (i .vlen) (i .kept .0) → Tallying l w limit p c₀ d r
+    tally-turn r e =
+        let n : length (entries l w c) ≡ suc (length (entries l w d)) = ap length (f .list) in
+        rw e
+        (record {
+          goes = sym opened ∙ h .goes;
+          long = longs .1;
+          few = omega (arith, n, h .few);
+          bounded =
+              up _ (65535 - length (entries l w c) + 1) (65535 - length (entries l w d)) (omega (arith, n, h .few))
+              (one-bounded limit p t (i .old) (i .key .plen + i .key .klen) (i .vlen) (i .kept .0) (65535 - length (entries l w c)) (h .bounded) (f .placed .ksmall) (f .placed .vsmall));
+        })
+
+-- ---- what it is
+
+module _ (limit p : ℕ) where
+  heads-by : (t : Tally) (e : Entry) (hs : List Entry) (b : Bool) (k n kept : ℕ)
+      → withOne limit p t b k n kept .heads + length hs ≡ t .heads + length (cond (not b) (e ∷ hs) hs)
+  unfolding withOne
+  heads-by t e hs true k n kept = refl
+  heads-by t e hs false k n kept = omega arith
+
+  pub heads-are : (t : Tally) (es : List Entry) → tallyOf limit p t es .heads ≡ t .heads + length (heads es)
+  unfolding tallyOf only
+  heads-are t [] = omega arith
+  heads-are t (e ∷ es) = heads-are _ es ∙ heads-by t e (heads es) (e .old) (length (e .key)) (length (e .val)) (e .kept)
+
+  olds-by : (t : Tally) (e : Entry) (os : List Entry) (b : Bool) (k n kept : ℕ)
+      → withOne limit p t b k n kept .olds + length os ≡ t .olds + length (cond b (e ∷ os) os)
+  unfolding withOne
+  olds-by t e os true k n kept = omega arith
+  olds-by t e os false k n kept = refl
+
+  pub olds-are : (t : Tally) (es : List Entry) → tallyOf limit p t es .olds ≡ t .olds + length (olds es)
+  unfolding tallyOf only
+  olds-are t [] = omega arith
+  olds-are t (e ∷ es) = olds-are _ es ∙ olds-by t e (olds es) (e .old) (length (e .key)) (length (e .val)) (e .kept)
+
+  sums-by : (t : Tally) (b : Bool) (k n kept : ℕ) (es : List Entry)
+      → withOne limit p t b k n kept .sums + sums limit p (withOne limit p t b k n kept .after) es
+      ≡ t .sums + cond b (cond (t .after) (sizeOf true limit n) 0 + sums limit p false es) (keyLen p k + sizeOf false limit n + sums limit p true es)
+  unfolding withOne
+  sums-by t true k n kept es = omega arith
+  sums-by t false k n kept es = omega arith
+
+  pub sums-are : (t : Tally) (es : List Entry) → tallyOf limit p t es .sums ≡ t .sums + sums limit p (t .after) es
+  unfolding tallyOf sums
+  sums-are t [] = omega arith
+  sums-are t (e ∷ es) = sums-are _ es ∙ sums-by t (e .old) (length (e .key)) (length (e .val)) (e .kept) es
+
+  counted-by : (t : Tally) (b : Bool) (k n kept x : ℕ)
+      → withOne limit p t b k n kept .counted + x ≡ t .counted + (cond (ltb n limit) (cond (eqb kept 0) 0 1) 1 + x)
+  unfolding withOne
+  counted-by t true k n kept x = omega arith
+  counted-by t false k n kept x = omega arith
+
+  pub counted-are : (t : Tally) (es : List Entry) → tallyOf limit p t es .counted ≡ t .counted + counted limit es
+  unfolding tallyOf counted
+  counted-are t [] = omega arith
+  counted-are t (e ∷ es) = counted-are _ es ∙ counted-by t (e .old) (length (e .key)) (length (e .val)) (e .kept) (counted limit es)
+
+  remotes-by : (t : Tally) (b : Bool) (k n kept x : ℕ) → withOne limit p t b k n kept .remotes + x ≡ t .remotes + (cond (ltb n limit) 0 1 + x)
+  unfolding withOne
+  remotes-by t true k n kept x = omega arith
+  remotes-by t false k n kept x = omega arith
+
+  pub remotes-are : (t : Tally) (es : List Entry) → tallyOf limit p t es .remotes ≡ t .remotes + remotes limit es
+  unfolding tallyOf remotes
+  remotes-are t [] = omega arith
+  remotes-are t (e ∷ es) = remotes-are _ es ∙ remotes-by t (e .old) (length (e .key)) (length (e .val)) (e .kept) (remotes limit es)
+
+  far-by : (t : Tally) (e : Entry) (hs : List Entry) (b : Bool) (k : ℕ)
+      → withOne limit p t b k (length (e .val)) (e .kept) .far + fars limit hs ≡ t .far + fars limit (cond (not b) (e ∷ hs) hs)
+  unfolding withOne fars
+  far-by t e hs true k = refl
+  far-by t e hs false k = omega arith
+
+  pub far-is : (t : Tally) (es : List Entry) → tallyOf limit p t es .far ≡ t .far + fars limit (heads es)
+  unfolding tallyOf only fars
+  far-is t [] = omega arith
+  far-is t (e ∷ es) = far-is _ es ∙ far-by t e (heads es) (e .old) (length (e .key))

@@ -1,0 +1,26 @@
+use native.Mathlib.Omega.{arith}
+use mathlib.Core.Path.{_≡_, refl, sym, ap, _∙_}
+use Prim.Native.Nat.{ℕ, _+_}
+use lib.Dec.{ltb, eqb}
+use borrow.Author.Tests.{lt-ltb, le-ltb, eq-eqb, ne-eqb, not-true, not-false}
+use borrow.Author.Needs.{needs}
+use Rattle.build_totals.proofs.second.Statement.{statement}
+use Rattle.build_totals.proofs.second.Tie as tie
+use Rattle.build_totals.proofs.second.Reads as reads
+use Rattle.build_totals.proofs.second.Lts as lts
+use Rattle.values.proofs.Val.calc_size.Reads as calc-size-reads
+
+cast-calc-size : tie.Need-cast-calc-size
+cast-calc-size c = omega (arith, c .before .pre)
+
+calc-size-requires : tie.Need-calc-size-requires
+calc-size-requires c κs = search needs
+
+returns : tie.Need-returns
+returns c = rw (c .before .if1 .taken) (c .calc-size .ensures)
+
+returns-2 : tie.Need-returns-2
+returns-2 c = rw (c .if1 .left) refl
+
+pub second-spec : {M : Type 1} → statement M
+second-spec = tie.close (tie.spec cast-calc-size calc-size-requires returns returns-2)

@@ -1,0 +1,50 @@
+use native.Mathlib.Omega.{arith}
+use mathlib.Core.Path.{_≡_, refl, sym, ap, _∙_}
+use Prim.Native.Nat.{ℕ, _+_}
+use lib.Dec.{ltb, eqb}
+use Rattle.build_totals.proofs.Tallying.{one-most, far-one-most, second-most, old-is}
+use borrow.Author.Needs.{needs}
+use Rattle.build_totals.proofs.with_old.Statement.{statement}
+use Rattle.build_totals.proofs.with_old.Tie as tie
+use Rattle.build_totals.proofs.with_old.Reads as reads
+use Rattle.build_totals.proofs.with_old.Lts as lts
+use Rattle.build_totals.proofs.counted_one.Reads as counted-one-reads
+use Rattle.build_totals.proofs.far_one.Reads as far-one-reads
+use Rattle.build_totals.proofs.second.Reads as second-reads
+
+add-t5 : tie.Need-add-t5
+add-t5 c = search needs
+
+second-requires : tie.Need-second-requires
+second-requires c κs = c .before .pre .0
+
+add-t7 : tie.Need-add-t7
+add-t7 c = omega (arith, c .before .before .before .pre .1 .sums, c .before .second .ensures, second-most (c .before .before .before .args .t .after) (c .before .before .before .args .limit) (c .before .before .before .args .n) (c .before .before .before .pre .0))
+
+counted-one-requires : tie.Need-counted-one-requires
+counted-one-requires c κs = search needs
+
+add-t9 : tie.Need-add-t9
+add-t9 c = omega (arith, c .before .before .before .before .before .pre .1 .counted, c .before .counted-one .ensures, one-most (ltb (c .before .before .before .before .before .args .n) (c .before .before .before .before .before .args .limit)) (eqb (c .before .before .before .before .before .args .kept .0) 0))
+
+far-one-requires : tie.Need-far-one-requires
+far-one-requires c κs = search needs
+
+add-t11 : tie.Need-add-t11
+add-t11 c = omega (arith, c .before .before .before .before .before .before .before .pre .1 .remotes, c .before .far-one .ensures, far-one-most (ltb (c .before .before .before .before .before .before .before .args .n) (c .before .before .before .before .before .before .before .args .limit)))
+
+returns : tie.Need-returns
+returns c = old-is (c .before .before .before .before .before .before .before .args .limit) (c .before .before .before .before .before .before .before .args .t) (c .before .before .before .before .before .before .before .args .n) (c .before .before .before .before .before .before .before .args .kept .0) _ _ _ (c .before .before .before .before .before .second .ensures) (c .before .before .before .counted-one .ensures) (c .before .far-one .ensures)
+
+pub with-old-spec : {M : Type 1} → statement M
+with-old-spec =
+    tie.close
+    (tie.spec
+    add-t5
+    second-requires
+    add-t7
+    counted-one-requires
+    add-t9
+    far-one-requires
+    add-t11
+    returns)

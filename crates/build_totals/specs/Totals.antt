@@ -1,0 +1,42 @@
+-- What a leaf build is going to write, as numbers: the arithmetic of its judge, and what its writer is told.
+-- Assumes nothing.
+use Prim.Native.Nat.{ℕ, _+_}
+use mathlib.Core.List.{List, _++_}
+use lib.ListN.{length}
+use Rattle.frames.specs.Layout.{frameLen}
+use Rattle.build_paging.specs.Cuts.{cutsFrom}
+use Rattle.build_sources.specs.Source.{Entry, only, olds, heads}
+use Rattle.build_image.specs.declared.Call.{Call}
+use Rattle.build_image.specs.Sizes.{costsOf, fars}
+use Rattle.build_image.specs.Image.{Bounds, cutsOf, leafSize, leafRoom, historyEnd, histAddrs, farAddrs}
+use Rattle.build_totals.specs.declared.Totals.{Totals}
+
+-- the leaf's own address, behind the history pages that stand from `at` on
+unfoldable pub leafAt : Call → ℕ → List Entry → ℕ
+unfolding historyEnd
+leafAt m at es = historyEnd (m .limit) at (cutsOf m es) (olds es)
+
+-- where its remote frames begin
+unfoldable pub farAt : Call → Bounds → ℕ → List Entry → ℕ
+unfolding leafAt leafSize leafRoom
+farAt m b at es = leafAt m at es + frameLen (leafSize m b es + leafRoom m es)
+
+-- the addresses of all remotes: "history's first, then heads'"
+unfoldable pub remotesOf : Call → Bounds → ℕ → List Entry → List ℕ
+unfolding farAt histAddrs farAddrs
+remotesOf m b at es = histAddrs (m .limit) at (cutsOf m es) (olds es) ++ farAddrs (m .limit) (farAt m b at es) (heads es)
+
+-- heads, old versions, history pages, remote addresses that the hints list, size, hint room, the leaf's address, the new next free address
+unfoldable pub totalsOf : Call → Bounds → ℕ → List Entry → Totals
+unfolding leafSize leafRoom leafAt farAt remotesOf fars only
+totalsOf m b at es =
+    record {
+      heads = length (heads es);
+      olds = length (olds es);
+      pages = length (cutsOf m es);
+      remotes = length (remotesOf m b at es);
+      size = leafSize m b es;
+      room = leafRoom m es;
+      leaf = leafAt m at es;
+      end = farAt m b at es + fars (m .limit) (heads es);
+    }

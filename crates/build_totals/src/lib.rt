@@ -1,0 +1,203 @@
+// What a leaf build is going to write, measured before anything is written.
+use build_image::Call;
+use build_sources::Cursor;
+use build_sources::Item;
+use build_sources::Step;
+use frames::Addr;
+use values::Val;
+ghost use mathlib.Core.Path.{_≡_};
+ghost use mathlib.Core.Bool.{true, cond};
+ghost use Prim.Native.Nat.{_+_, _*_, _≤_};
+ghost use lib.ListN.{length};
+ghost use lib.Dec.{ltb, eqb};
+ghost use Rattle.values.specs.Vals.{sizeOf};
+ghost use Rattle.build_sources.specs.Source.{Placed, entryOf, entries, only};
+ghost use Rattle.build_image.specs.Sizes.{roomOf};
+ghost use Rattle.build_heads.specs.Steps.{Long};
+ghost use Rattle.build_totals.specs.Tally.{nothing, withOld, withHead, withOne, tallyOf};
+ghost use Rattle.build_totals.specs.Pages.{pagesOf};
+ghost use Rattle.build_totals.specs.Bounds.{Bounded};
+
+// What a leaf build writes: heads, old versions, history pages, remotes, the page's size and its hints' room, its address, and the
+// new next free address.
+pub struct Totals {
+    pub heads: usize,
+    pub olds: usize,
+    pub pages: usize,
+    pub remotes: usize,
+    pub size: usize,
+    pub room: usize,
+    pub leaf: usize,
+    pub end: usize,
+}
+
+// The same under way, entry by entry; `after` says that the entry before is a head.
+pub struct Tally {
+    pub heads: usize,
+    pub olds: usize,
+    pub sums: usize,
+    pub counted: usize,
+    pub remotes: usize,
+    pub far: usize,
+    pub after: bool,
+}
+
+// History pages: how many, and where they end.
+pub struct Pages {
+    pub count: usize,
+    pub end: usize,
+}
+
+// ---- one entry
+
+fn far_one(limit: usize, n: usize) -> usize
+    ensures { λ r. ⌜ r ≡ cond (ltb n limit) 0 1 ⌝ }
+{
+    if n < limit { 0 } else { 1 }
+}
+
+fn counted_one(limit: usize, n: usize, kept: Addr) -> usize
+    ensures { λ r. ⌜ r ≡ cond (ltb n limit) (cond (eqb (kept .0) 0) 0 1) 1 ⌝ }
+{
+    if n < limit {
+        if kept.0 == 0 {
+            return 0;
+        }
+        return 1;
+    }
+    1
+}
+
+fn second(after: bool, limit: usize, n: usize) -> usize
+    requires { ⌜ n ≤ 65536 ⌝ }
+    ensures { λ r. ⌜ r ≡ cond after (sizeOf true limit n) 0 ⌝ }
+{
+    if after {
+        return Val::calc_size(true, limit, n as u32);
+    }
+    0
+}
+
+fn with_old(limit: usize, t: Tally, n: usize, kept: Addr) -> Tally
+    requires { ⌜ n ≤ 65536 ⌝ }
+    requires { ⌜ Bounded t 65535 ⌝ }
+    ensures { λ r. ⌜ r ≡ withOld limit t n (kept .0) ⌝ }
+{
+    Tally {
+        heads: t.heads,
+        olds: t.olds + 1,
+        sums: t.sums + second(t.after, limit, n),
+        counted: t.counted + counted_one(limit, n, kept),
+        remotes: t.remotes + far_one(limit, n),
+        far: t.far,
+        after: false,
+    }
+}
+
+fn with_head(limit: usize, p: usize, t: Tally, k: usize, n: usize, kept: Addr) -> Tally
+    requires { ⌜ n ≤ 65536 ⌝ }
+    requires { ⌜ (k ≤ 4096) × (p ≤ k) ⌝ }
+    requires { ⌜ Bounded t 65535 ⌝ }
+    ensures { λ r. ⌜ r ≡ withHead limit p t k n (kept .0) ⌝ }
+{
+    Tally {
+        heads: t.heads + 1,
+        olds: t.olds,
+        sums: t.sums + (build_heads::key_len(p, k) + Val::calc_size(false, limit, n as u32)),
+        counted: t.counted + counted_one(limit, n, kept),
+        remotes: t.remotes + far_one(limit, n),
+        far: t.far + build_image::far_len(limit, n, kept),
+        after: true,
+    }
+}
+
+fn with_one(limit: usize, p: usize, t: Tally, i: Item) -> Tally
+    requires { ⌜ i .vlen ≤ 65536 ⌝ }
+    requires { ⌜ (i .key .plen + i .key .klen ≤ 4096) × (p ≤ i .key .plen + i .key .klen) ⌝ }
+    requires { ⌜ Bounded t 65535 ⌝ }
+    ensures { λ r. ⌜ r ≡ withOne limit p t (i .old) (i .key .plen + i .key .klen) (i .vlen) (i .kept .0) ⌝ }
+{
+    let k = i.key;
+    let kept = i.kept;
+    if i.old {
+        return with_old(limit, t, i.vlen, kept);
+    }
+    with_head(limit, p, t, k.plen + k.klen, i.vlen, kept)
+}
+
+// ---- all entries
+
+pub fn tally_up(list: &[u8], low: &[u8], from: Cursor, p: usize, limit: usize) -> Tally
+    requires { ⌜ Long p (entries (now list) (now low) from) ⌝ }
+    requires { ⌜ length (entries (now list) (now low) from) ≤ 65535 ⌝ }
+    ensures { λ r. ⌜ r ≡ tallyOf limit p nothing (entries (now (list .entry)) (now (low .entry)) from) ⌝ }
+    ensures { λ r. ⌜ Bounded r 65535 ⌝ }
+{
+    let mut c = from;
+    let mut t = Tally {
+        heads: 0,
+        olds: 0,
+        sums: 0,
+        counted: 0,
+        remotes: 0,
+        far: 0,
+        after: false,
+    };
+    loop {
+        let st = build_sources::next(list, low, c);
+        match st {
+            Step::Got(i, d) => {
+                t = with_one(limit, p, t, i);
+                c = d;
+            }
+            Step::End => {
+                return t;
+            }
+            Step::Bad => {
+                return t;
+            }
+        }
+    }
+}
+
+// ---- history pages
+
+pub fn count_pages(
+    list: &[u8],
+    low: &[u8],
+    from: Cursor,
+    at: usize,
+    limit: usize,
+    budget: usize,
+) -> Pages
+    requires { ⌜ (limit ≤ 65536) × (budget ≤ 131072) ⌝ }
+    requires { ⌜ length (only true (entries (now list) (now low) from)) ≤ 65535 ⌝ }
+    requires { ⌜ at ≤ 9223372036854775807 ⌝ }
+    ensures { λ r. ⌜ r ≡ pagesOf limit budget 0 at (only true (entries (now (list .entry)) (now (low .entry)) from)) ⌝ }
+    ensures { λ r. ⌜ (r .end ≤ at + 12890734500) × (r .count ≤ 65535) ⌝ }
+{
+    let mut c = from;
+    let mut n: usize = 0;
+    let mut to = at;
+    loop {
+        let s = build_history::look_ahead(list, low, c, limit, budget);
+        let r = s.run;
+        if r.count == 0 {
+            return Pages { count: n, end: to };
+        }
+        n += 1;
+        to += frames::frame_len(r.size as u32) + r.far;
+        c = s.rest;
+    }
+}
+
+// The room of a page's hints.
+pub fn room_of(pages: usize, remotes: usize) -> usize
+    requires { ⌜ (pages ≤ 65535) × (remotes ≤ 65535) ⌝ }
+    ensures { λ r. ⌜ r ≡ roomOf pages remotes ⌝ }
+{
+    if pages + remotes == 0 {
+        return 0;
+    }
+    8 + 8 * pages + 8 * remotes
+}

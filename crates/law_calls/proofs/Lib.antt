@@ -1,0 +1,8 @@
+-- The crate's laws.
+pub mod Stored
+pub mod Listing
+pub mod Accepted
+pub mod Fitting
+pub mod Intl
+pub mod Judged
+pub mod New

@@ -1,0 +1,109 @@
+-- Demand 3 after merges, over the input lists: what a page answers that came to be by builds and merges. Its walks both ways, its ranges,
+-- its searches; an index page's walk, ranges, floor.
+-- Assumes nothing.
+use Prim.Native.Nat.{ℕ, _-_, _<_}
+use mathlib.Core.Path.{_≡_, subst}
+use mathlib.Core.Bool.{true}
+use mathlib.Core.List.{List, reverse}
+use lib.IntN.{pos}
+use lib.ListN.{length, take}
+use Rattle.order.specs.declared.Ver.{Ver}
+use Rattle.order.specs.Order.{startsWith}
+use Rattle.frames.specs.declared.Addr.{Addr}
+use Rattle.pages.specs.declared.Checked.{Checked}
+use Rattle.pages.specs.Meaning.{says, meaning, checkOf}
+use Rattle.pages.proofs.Says.{says-checked}
+use Rattle.build_sources.specs.Source.{Entry, heads}
+use Rattle.build_sources.specs.Marks.{Each, Marked, Wide}
+use Rattle.build_image.specs.Image.{Bounds}
+use Rattle.base.specs.Calls.{newAnswer, newArena, intlAnswer, intlArena}
+use Rattle.sst.specs.Search.{lowerAt, searchAt, floorAt}
+use Rattle.sst.specs.Says.{FloorSays}
+use Rattle.walks.specs.Walk.{forwardAt, backwardAt}
+use Rattle.walks.specs.Listed.{Entry as Listed, entriesOf, Lists, Leads}
+use Rattle.law_leaf.specs.Grouped.{grouped}
+use Rattle.law_index.specs.Children.{childrenOf}
+use Rattle.law_list.specs.Asked.{recordsOf, having, between, keyIs, largest, posOf, SearchSays}
+use Rattle.law_list.proofs.Leaves.{lists-all, lists-all-back, lists-range, lists-back, search-list}
+use Rattle.law_list.proofs.Branches.{leads-all, leads-range, floor-list}
+use Rattle.law_merged.specs.Trees.{Tree, Made}
+use Rattle.law_merged.specs.Joined.{entriesIn, boundsOf, recordList, leafOf, indexOf}
+use Rattle.law_merged.proofs.Lists.{one-records, one-marked, one-wide, same-having}
+use Rattle.law_merged.proofs.Trees.{leaf-made, leaf-wide, index-made}
+
+-- ---- leaves
+
+module _ (t : Tree) (s : List ℕ) (mark : ℕ) (p : Addr) (made : Made newAnswer newArena t s mark p) where
+  abbrev b : Bounds
+  b = boundsOf t
+
+  -- the lists one behind the other, and as one list
+  abbrev all : List Entry
+  all = entriesIn 0 t
+
+  abbrev es : List Entry
+  es = recordList t
+
+  abbrev pre : List ℕ
+  pre = take (b .prefix) (b .lo)
+
+  pub merged-says : meaning s p ≡ says (leafOf t)
+  merged-says = leaf-made t s mark p made
+
+  -- the check says sound
+  pub merged-sound : checkOf (meaning s p) ≡ Checked.Sound
+  merged-sound = says-checked (meaning s p) (leafOf t) merged-says
+
+  marks : Marked es
+  marks = one-marked all
+
+  wide : Each Wide es
+  wide = one-wide all (leaf-wide t s mark p made)
+
+  -- walked whole, it lists the records of every list, left to right, each once
+  pub merged-lists : Lists s pre (forwardAt s p 0 (length (heads es))) (recordsOf all)
+  merged-lists = subst (λ (l : List Listed). Lists s pre (forwardAt s p 0 (length (heads es))) l) (one-records all) (lists-all s p b es merged-says marks)
+
+  -- backward, the last key first, each key newest first
+  pub merged-all-back : 0 < length (heads es) → Lists s pre (backwardAt s p (pos (length (heads es) - 1)) (pos 0)) (entriesOf (reverse (grouped es)))
+  merged-all-back h = lists-all-back s p b es merged-says marks h
+
+  -- between two lower bounds, the records of that range, either way
+  pub merged-range : (x y : List ℕ) → startsWith pre x ≡ true → startsWith pre y ≡ true
+      → Lists s pre (forwardAt s p (posOf (lowerAt s p x largest)) (posOf (lowerAt s p y largest))) (recordsOf (having keyIs (between x y) all))
+  merged-range x y f g =
+      subst (λ (l : List Listed). Lists s pre (forwardAt s p (posOf (lowerAt s p x largest)) (posOf (lowerAt s p y largest))) l)
+      (same-having (between x y) es all (one-records all)) (lists-range s p b es merged-says marks wide x y f g)
+
+  pub merged-back : (x y : List ℕ) → startsWith pre x ≡ true → startsWith pre y ≡ true → posOf (lowerAt s p x largest) < posOf (lowerAt s p y largest)
+      → Lists s pre (backwardAt s p (pos (posOf (lowerAt s p y largest) - 1)) (pos (posOf (lowerAt s p x largest)))) (entriesOf (reverse (grouped (having keyIs (between x y) es))))
+  merged-back x y f g h = lists-back s p b es merged-says marks wide x y f g h
+
+  -- a search finds the key's first record with all its older versions, from whatever list, or no list has one
+  pub merged-search : (probe : List ℕ) → SearchSays s (leafOf t) es probe (searchAt s p probe)
+  merged-search probe = search-list s p b es merged-says marks probe
+
+-- ---- index pages
+
+module _ (t : Tree) (s : List ℕ) (mark : ℕ) (p : Addr) (made : Made intlAnswer intlArena t s mark p) where
+  abbrev c : Bounds
+  c = boundsOf t
+
+  abbrev front : List ℕ
+  front = take (c .prefix) (c .lo)
+
+  pub branches-says : meaning s p ≡ says (indexOf t)
+  branches-says = index-made t s mark p made
+
+  pub branches-sound : checkOf (meaning s p) ≡ Checked.Sound
+  branches-sound = says-checked (meaning s p) (indexOf t) branches-says
+
+  pub branches-lists : Leads s front (forwardAt s p 0 (length (entriesIn 1 t))) (childrenOf (entriesIn 1 t))
+  branches-lists = leads-all s p c (entriesIn 1 t) branches-says
+
+  pub branches-range : (v : Ver) (x y : List ℕ) → startsWith front x ≡ true → startsWith front y ≡ true
+      → Leads s front (forwardAt s p (posOf (lowerAt s p x v)) (posOf (lowerAt s p y v))) (childrenOf (having keyIs (between x y) (entriesIn 1 t)))
+  branches-range v x y f g = leads-range s p c (entriesIn 1 t) branches-says v x y f g
+
+  pub branches-floor : (probe : List ℕ) → FloorSays (indexOf t) (childrenOf (entriesIn 1 t)) probe (floorAt s p probe)
+  branches-floor probe = floor-list s p c (entriesIn 1 t) branches-says probe

@@ -1,7 +1,0 @@
--- The crate's laws.
-pub mod Listing
-pub mod Accepted
-pub mod Fitting
-pub mod Intl
-pub mod Judged
-pub mod New
