@@ -3,14 +3,13 @@
 //! docs/BENCH.md and docs/bench.svg; `--print` only prints, `--only WORD` times the calls whose name has the word.
 
 mod cases;
-mod ffi;
 mod others;
 mod plot;
 mod report;
 mod timing;
 
 use cases::{BOUNDS, BUDGET, Case, LIMIT, PROBES, STAMP};
-use ffi::*;
+use cresttrestle::sys::*;
 use oracle::Ver;
 use report::Row;
 use std::time::Duration;
@@ -72,7 +71,7 @@ fn page(case: &Case, only: &str, rows: &mut Vec<Row>) {
 
     // A lookup ends with the value's bytes in hand, for everybody.
     let mut ours = |round| {
-        let mut out = [0u64; 10];
+        let mut out = [0u64; CT_OUT_WORDS];
         keys(round).fold(0, |sum: u64, key| {
             // SAFETY: here and below, arenas, keys and words outlive the calls.
             let refused = unsafe {
@@ -121,7 +120,7 @@ fn page(case: &Case, only: &str, rows: &mut Vec<Row>) {
     row("search", CALLS, &mut lookups, &names);
 
     let mut ours = |round| {
-        let mut out = [0u64; 10];
+        let mut out = [0u64; CT_OUT_WORDS];
         keys(round).fold(0, |sum, key| {
             unsafe {
                 ct_lower_bound(
@@ -152,7 +151,7 @@ fn page(case: &Case, only: &str, rows: &mut Vec<Row>) {
     let (ip, ilen) = (index.bytes().as_ptr(), index.bytes().len());
     let tree = index.index_page(root.addr);
     let mut ours = |round| {
-        let mut out = [0u64; 10];
+        let mut out = [0u64; CT_OUT_WORDS];
         keys(round).fold(0, |sum, key| {
             unsafe {
                 ct_floor(ip, ilen, root.addr, key.as_ptr(), key.len(), out.as_mut_ptr(), out.len())
@@ -174,13 +173,13 @@ fn page(case: &Case, only: &str, rows: &mut Vec<Row>) {
     let mut rust =
         |_| leaf.walk(0, n).map(|(k, v)| (k.raw.len() + leaf.value(&v).len()) as u64).sum();
     let mut ours = |_| {
-        let mut walk = [0u64; 18];
+        let mut walk = [0u64; CT_WALK_WORDS];
         unsafe { ct_forward(p, len, addr, 0, n as u64, walk.as_mut_ptr(), walk.len()) };
         runs(p, len, &mut walk)
     };
     row("walk", records, &mut [&mut ours, &mut rust], &[]);
     let mut ours = |_| {
-        let mut walk = [0u64; 18];
+        let mut walk = [0u64; CT_WALK_WORDS];
         unsafe { ct_forward(p, len, addr, 0, n as u64, walk.as_mut_ptr(), walk.len()) };
         steps(p, len, &mut walk)
     };
@@ -195,7 +194,7 @@ fn page(case: &Case, only: &str, rows: &mut Vec<Row>) {
     };
     row("walk, by the crate", records, &mut [&mut ours, &mut rust], &[]);
     let mut ours = |_| {
-        let mut walk = [0u64; 18];
+        let mut walk = [0u64; CT_WALK_WORDS];
         unsafe { ct_backward(p, len, addr, n as i64 - 1, 0, walk.as_mut_ptr(), walk.len()) };
         runs(p, len, &mut walk)
     };
@@ -300,8 +299,8 @@ fn number(bytes: &[u8]) -> u64 {
 }
 
 /// Reads a walk to its end, up to 32 records a call.
-fn runs(arena: *const u8, len: usize, walk: &mut [u64; 18]) -> u64 {
-    let (mut out, mut sum) = ([0u64; 1 + 9 * 32], 0);
+fn runs(arena: *const u8, len: usize, walk: &mut [u64; CT_WALK_WORDS]) -> u64 {
+    let (mut out, mut sum) = ([0u64; 1 + CT_STEP_WORDS * 32], 0);
     loop {
         // SAFETY: as above.
         let refused = unsafe {
@@ -311,13 +310,17 @@ fn runs(arena: *const u8, len: usize, walk: &mut [u64; 18]) -> u64 {
         if out[0] == 0 {
             return sum;
         }
-        sum += out[1..].chunks_exact(9).take(out[0] as usize).map(|r| r[2] + r[6]).sum::<u64>();
+        sum += out[1..]
+            .chunks_exact(CT_STEP_WORDS)
+            .take(out[0] as usize)
+            .map(|r| r[2] + r[6])
+            .sum::<u64>();
     }
 }
 
 /// Steps a walk to its end.
-fn steps(arena: *const u8, len: usize, walk: &mut [u64; 18]) -> u64 {
-    let (mut out, mut sum) = ([0u64; 10], 0);
+fn steps(arena: *const u8, len: usize, walk: &mut [u64; CT_WALK_WORDS]) -> u64 {
+    let (mut out, mut sum) = ([0u64; CT_OUT_WORDS], 0);
     loop {
         // SAFETY: as above.
         let refused = unsafe {

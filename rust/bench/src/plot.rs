@@ -11,6 +11,10 @@ const LONG: [&str; 3] = ["#f6c79c", "#e8934a", "#b55d12"];
 const INK: &str = "#1d2730";
 const SOFT: &str = "#5b6873";
 const GRID: &str = "#d9dfe4";
+/// A text's colour and weight: titles and names are strong.
+type Pen = (&'static str, &'static str);
+const STRONG: Pen = (INK, "bold");
+const PLAIN: Pen = (SOFT, "normal");
 
 const BOUND: &str = "#b3261e";
 const DASHED: &str = r#"stroke-width="1.6" stroke-dasharray="5 3""#;
@@ -36,7 +40,7 @@ impl Svg {
         .unwrap();
     }
 
-    fn text(&mut self, x: f64, y: f64, size: f64, anchor: &str, fill: &str, weight: &str, s: &str) {
+    fn text(&mut self, x: f64, y: f64, size: f64, anchor: &str, (fill, weight): Pen, s: &str) {
         let family = "DejaVu Sans, Helvetica, Arial, sans-serif";
         let style = format!(
             r#"font-family="{family}" font-size="{size}" text-anchor="{anchor}" font-weight="{weight}" fill="{fill}""#
@@ -88,31 +92,30 @@ fn ratios(s: &mut Svg, rows: &[Row]) {
         32.0,
         17.0,
         "start",
-        INK,
-        "bold",
+        STRONG,
         "Time of each call, as a multiple of the Rust's (log scale, medians)",
     );
-    s.text(24.0, 54.0, 12.5, "start", SOFT, "normal", "Below the line at 1 this library is faster. Build and merge judge their whole input first, the Rust judges nothing.");
+    s.text(24.0, 54.0, 12.5, "start", PLAIN, "Below the line at 1 this library is faster. Build and merge judge their whole input first, the Rust judges nothing.");
     let mut x = 24.0;
     for (shades, words) in [(SHORT, "6-byte keys:"), (LONG, "64-byte keys:")] {
-        s.text(x, 79.0, 12.0, "start", SOFT, "normal", words);
+        s.text(x, 79.0, 12.0, "start", PLAIN, words);
         x += 92.0;
         for (fill, keys) in shades.iter().zip(["100 keys", "1,000", "10,000"]) {
             s.rect(x, 69.0, 16.0, 12.0, fill);
-            s.text(x + 21.0, 79.0, 12.0, "start", SOFT, "normal", keys);
+            s.text(x + 21.0, 79.0, 12.0, "start", PLAIN, keys);
             x += if keys == "100 keys" { 86.0 } else { 72.0 };
         }
         x += 16.0;
     }
     s.line(x, 75.0, x + 16.0, 75.0, INK, r#"stroke-width="1.4""#);
-    s.text(x + 21.0, 79.0, 12.0, "start", SOFT, "normal", "fast rounds (5%)");
+    s.text(x + 21.0, 79.0, 12.0, "start", PLAIN, "fast rounds (5%)");
     s.line(x + 136.0, 75.0, x + 160.0, 75.0, BOUND, DASHED);
-    s.text(x + 166.0, 79.0, 12.0, "start", SOFT, "normal", "order 12 allows");
+    s.text(x + 166.0, 79.0, 12.0, "start", PLAIN, "order 12 allows");
     for power in least as i32..=most as i32 {
         let ratio = 2f64.powi(power);
         let (stroke, more) = if power == 0 { (INK, r#"stroke-width="1.6""#) } else { (GRID, "") };
         s.line(LEFT, y(ratio), WIDE - 20.0, y(ratio), stroke, more);
-        s.text(LEFT - 8.0, y(ratio) + 4.0, 12.0, "end", SOFT, "normal", &format!("{ratio}×"));
+        s.text(LEFT - 8.0, y(ratio) + 4.0, 12.0, "end", PLAIN, &format!("{ratio}×"));
     }
     let calls = distinct(rows.iter().map(|r| r.call));
     let room = (WIDE - 20.0 - LEFT) / calls.len() as f64;
@@ -137,14 +140,14 @@ fn ratios(s: &mut Svg, rows: &[Row]) {
             s.line(start + 4.0, at, start + room - 4.0, at, BOUND, DASHED);
         }
         let (first, rest) = call.split_once(", ").unwrap_or((call, ""));
-        s.text(start + room / 2.0, bottom + 22.0, 12.5, "middle", INK, "bold", first);
-        s.text(start + room / 2.0, bottom + 38.0, 11.5, "middle", SOFT, "normal", rest);
+        s.text(start + room / 2.0, bottom + 22.0, 12.5, "middle", STRONG, first);
+        s.text(start + room / 2.0, bottom + 38.0, 11.5, "middle", PLAIN, rest);
     }
 }
 
 /// Lookup times side by side, a bar a contestant.
 fn times(s: &mut Svg, rows: &[&Row], top: f64) {
-    s.text(24.0, top, 17.0, "start", INK, "bold", "One lookup, nanoseconds (log scale, medians)");
+    s.text(24.0, top, 17.0, "start", STRONG, "One lookup, nanoseconds (log scale, medians)");
     let most = rows
         .iter()
         .flat_map(|r| r.others.iter().map(|o| o.1.median).chain([r.ours.median, r.rust.median]))
@@ -153,31 +156,15 @@ fn times(s: &mut Svg, rows: &[&Row], top: f64) {
     let x = |ns: f64| left + (ns.max(least) / least).ln() / (most / least).ln() * (right - left);
     let mut y = top + 24.0;
     for row in rows {
-        s.text(left - 10.0, y + 30.0, 12.5, "end", INK, "bold", &format!("{} keys", row.keys));
-        s.text(
-            left - 10.0,
-            y + 45.0,
-            11.5,
-            "end",
-            SOFT,
-            "normal",
-            &format!("of {} bytes", row.key_len),
-        );
+        s.text(left - 10.0, y + 30.0, 12.5, "end", STRONG, &format!("{} keys", row.keys));
+        s.text(left - 10.0, y + 45.0, 11.5, "end", PLAIN, &format!("of {} bytes", row.key_len));
         let mut bars =
             vec![("ours", row.ours.median, "#2f7d5b"), ("Rust", row.rust.median, "#8a9aa6")];
         bars.extend(row.others.iter().map(|(name, t)| (name.as_str(), t.median, "#cbb7dd")));
         for (i, (name, ns, fill)) in bars.iter().enumerate() {
             let at = y + 4.0 + i as f64 * 13.5;
             s.rect(left, at, x(*ns) - left, 11.5, fill);
-            s.text(
-                x(*ns) + 6.0,
-                at + 9.5,
-                10.5,
-                "start",
-                SOFT,
-                "normal",
-                &format!("{name} {ns:.0}"),
-            );
+            s.text(x(*ns) + 6.0, at + 9.5, 10.5, "start", PLAIN, &format!("{name} {ns:.0}"));
         }
         y += 62.0;
     }

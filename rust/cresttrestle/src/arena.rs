@@ -4,6 +4,7 @@ use crate::ffi;
 use crate::names::{Addr, PageId, Ver};
 use crate::page::View;
 use crate::refusal::Refusal;
+use crate::sys;
 
 /// How many leading bytes `lo` and `hi` share, the prefix that a page with these boundaries drops from its keys; 0 without `hi`.
 ///
@@ -43,7 +44,7 @@ pub struct Build {
 
 impl Build {
     /// The default budget of a history page.
-    pub const HIST_PAGE_BUDGET: u64 = 131_072;
+    pub const HIST_PAGE_BUDGET: u64 = sys::CT_HIST_PAGE_BUDGET;
 }
 
 impl Default for Build {

@@ -1,244 +1,14 @@
-//! The calls of include/cresttrestle.h as safe functions: slices in, words or a refusal out. All unsafe code of this crate is here.
-//! What each word holds is said in the header. Every call ends on every input and touches only what it is lent, so a live slice is
+//! The calls of include/cresttrestle.h as safe functions: slices in, words or a refusal out. All unsafe code of this crate is here, over
+//! the declarations in sys.rs. What each word holds is said in the header. Every call ends on every input and touches only what it is lent, so a live slice is
 //! all that safety asks for.
 
 use crate::refusal::Refusal;
+use crate::sys::*;
 
 #[cfg(not(target_pointer_width = "64"))]
 compile_error!("the library is built for hosts with 64-bit addresses");
 
-/// Words of a walk, and of a record that it hands back.
-pub(crate) const WALK_WORDS: usize = 18;
-pub(crate) const RECORD_WORDS: usize = 9;
-
 type Words<const N: usize> = Result<[u64; N], Refusal>;
-
-unsafe extern "C" {
-    fn ct_calc_prefix(
-        lo: *const u8,
-        lo_len: usize,
-        hi: *const u8,
-        hi_len: usize,
-        out: *mut u64,
-        out_len: usize,
-    ) -> u32;
-    fn ct_new_leaf(
-        arena: *mut u8,
-        arena_len: usize,
-        next: u64,
-        list: *const u8,
-        list_len: usize,
-        lo: *const u8,
-        lo_len: usize,
-        hi: *const u8,
-        hi_len: usize,
-        sibling: u64,
-        limit: u64,
-        budget: u64,
-        group: u8,
-        txid: u64,
-        lsn: u64,
-        checkpoint: u64,
-        out: *mut u64,
-        out_len: usize,
-    ) -> u32;
-    fn ct_new_intl(
-        arena: *mut u8,
-        arena_len: usize,
-        next: u64,
-        list: *const u8,
-        list_len: usize,
-        lo: *const u8,
-        lo_len: usize,
-        hi: *const u8,
-        hi_len: usize,
-        sibling: u64,
-        group: u8,
-        txid: u64,
-        lsn: u64,
-        checkpoint: u64,
-        out: *mut u64,
-        out_len: usize,
-    ) -> u32;
-    fn ct_merge(
-        arena: *mut u8,
-        arena_len: usize,
-        next: u64,
-        left: u64,
-        right: u64,
-        limit: u64,
-        budget: u64,
-        group: u8,
-        txid: u64,
-        lsn: u64,
-        checkpoint: u64,
-        out: *mut u64,
-        out_len: usize,
-    ) -> u32;
-    fn ct_delta_leaf(
-        arena: *mut u8,
-        arena_len: usize,
-        next: u64,
-        limit: u64,
-        group: u8,
-        lsn: u64,
-        checkpoint: u64,
-        txid: u64,
-        cmd: u32,
-        key: *const u8,
-        key_len: usize,
-        value: *const u8,
-        value_len: usize,
-        out: *mut u64,
-        out_len: usize,
-    ) -> u32;
-    fn ct_delta_index(
-        arena: *mut u8,
-        arena_len: usize,
-        next: u64,
-        group: u8,
-        txid: u64,
-        lsn: u64,
-        checkpoint: u64,
-        key: *const u8,
-        key_len: usize,
-        page: u64,
-        out: *mut u64,
-        out_len: usize,
-    ) -> u32;
-    fn ct_check(arena: *const u8, arena_len: usize, addr: u64) -> u32;
-    fn ct_page(arena: *const u8, arena_len: usize, addr: u64, out: *mut u64, out_len: usize)
-    -> u32;
-    fn ct_history_hints(
-        arena: *const u8,
-        arena_len: usize,
-        addr: u64,
-        out: *mut u64,
-        out_len: usize,
-    ) -> u32;
-    fn ct_remote_hints(
-        arena: *const u8,
-        arena_len: usize,
-        addr: u64,
-        out: *mut u64,
-        out_len: usize,
-    ) -> u32;
-    fn ct_hint(
-        arena: *const u8,
-        arena_len: usize,
-        at: u64,
-        count: u64,
-        k: u64,
-        out: *mut u64,
-        out_len: usize,
-    ) -> u32;
-    fn ct_search(
-        arena: *const u8,
-        arena_len: usize,
-        addr: u64,
-        key: *const u8,
-        key_len: usize,
-        out: *mut u64,
-        out_len: usize,
-    ) -> u32;
-    fn ct_as_of(
-        arena: *const u8,
-        arena_len: usize,
-        addr: u64,
-        key: *const u8,
-        key_len: usize,
-        txid: u64,
-        cmd: u32,
-        out: *mut u64,
-        out_len: usize,
-    ) -> u32;
-    fn ct_lower_bound(
-        arena: *const u8,
-        arena_len: usize,
-        addr: u64,
-        key: *const u8,
-        key_len: usize,
-        txid: u64,
-        cmd: u32,
-        out: *mut u64,
-        out_len: usize,
-    ) -> u32;
-    fn ct_floor(
-        arena: *const u8,
-        arena_len: usize,
-        addr: u64,
-        key: *const u8,
-        key_len: usize,
-        out: *mut u64,
-        out_len: usize,
-    ) -> u32;
-    fn ct_forward(
-        arena: *const u8,
-        arena_len: usize,
-        addr: u64,
-        begin: u64,
-        end: u64,
-        walk: *mut u64,
-        walk_len: usize,
-    ) -> u32;
-    fn ct_backward(
-        arena: *const u8,
-        arena_len: usize,
-        addr: u64,
-        start: i64,
-        end: i64,
-        walk: *mut u64,
-        walk_len: usize,
-    ) -> u32;
-    fn ct_steps(
-        arena: *const u8,
-        arena_len: usize,
-        walk: *mut u64,
-        walk_len: usize,
-        out: *mut u64,
-        out_len: usize,
-    ) -> u32;
-    fn ct_delta_key(
-        arena: *const u8,
-        arena_len: usize,
-        addr: u64,
-        out: *mut u64,
-        out_len: usize,
-    ) -> u32;
-    fn ct_delta_val(
-        arena: *const u8,
-        arena_len: usize,
-        addr: u64,
-        out: *mut u64,
-        out_len: usize,
-    ) -> u32;
-    fn ct_delta_index_key(
-        arena: *const u8,
-        arena_len: usize,
-        addr: u64,
-        out: *mut u64,
-        out_len: usize,
-    ) -> u32;
-    fn ct_delta_child(
-        arena: *const u8,
-        arena_len: usize,
-        addr: u64,
-        out: *mut u64,
-        out_len: usize,
-    ) -> u32;
-    fn ct_overlay(
-        arena: *const u8,
-        arena_len: usize,
-        addr: u64,
-        buffer: *const u8,
-        buffer_len: usize,
-        delta: u64,
-        key: *const u8,
-        key_len: usize,
-        out: *mut u64,
-        out_len: usize,
-    ) -> u32;
-}
 
 /// The words that a call wrote, or why it was refused.
 #[inline]
@@ -482,11 +252,11 @@ pub(crate) fn floor(arena: &[u8], addr: u64, key: &[u8]) -> Words<4> {
     })
 }
 
-pub(crate) fn forward(arena: &[u8], addr: u64, begin: u64, end: u64) -> Words<WALK_WORDS> {
+pub(crate) fn forward(arena: &[u8], addr: u64, begin: u64, end: u64) -> Words<CT_WALK_WORDS> {
     words(|walk, n| unsafe { ct_forward(arena.as_ptr(), arena.len(), addr, begin, end, walk, n) })
 }
 
-pub(crate) fn backward(arena: &[u8], addr: u64, start: i64, end: i64) -> Words<WALK_WORDS> {
+pub(crate) fn backward(arena: &[u8], addr: u64, start: i64, end: i64) -> Words<CT_WALK_WORDS> {
     words(|walk, n| unsafe { ct_backward(arena.as_ptr(), arena.len(), addr, start, end, walk, n) })
 }
 
@@ -495,23 +265,23 @@ pub(crate) fn backward(arena: &[u8], addr: u64, start: i64, end: i64) -> Words<W
 #[repr(C)]
 pub(crate) struct Steps<const N: usize> {
     pub(crate) count: u64,
-    pub(crate) records: [[u64; RECORD_WORDS]; N],
+    pub(crate) records: [[u64; CT_STEP_WORDS]; N],
 }
 
 impl<const N: usize> Steps<N> {
-    pub(crate) const NONE: Self = Steps { count: 0, records: [[0; RECORD_WORDS]; N] };
+    pub(crate) const NONE: Self = Steps { count: 0, records: [[0; CT_STEP_WORDS]; N] };
 }
 
 pub(crate) fn steps<const N: usize>(
     arena: &[u8],
-    walk: &mut [u64; WALK_WORDS],
+    walk: &mut [u64; CT_WALK_WORDS],
     out: &mut Steps<N>,
 ) -> Result<(), Refusal> {
     out.count = 0;
     // `Steps` is words one behind the other, so all of it is one slice of them
-    let (words, room) = (core::ptr::from_mut(out).cast(), 1 + N * RECORD_WORDS);
+    let (words, room) = (core::ptr::from_mut(out).cast(), 1 + N * CT_STEP_WORDS);
     Refusal::judged(unsafe {
-        ct_steps(arena.as_ptr(), arena.len(), walk.as_mut_ptr(), WALK_WORDS, words, room)
+        ct_steps(arena.as_ptr(), arena.len(), walk.as_mut_ptr(), CT_WALK_WORDS, words, room)
     })
 }
 

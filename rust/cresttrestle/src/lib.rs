@@ -33,17 +33,22 @@
 //! ```
 #![no_std]
 #![warn(missing_docs)]
+#![deny(unsafe_code)]
 
 #[cfg(feature = "alloc")]
 extern crate alloc;
 
 mod arena;
 mod delta;
+#[allow(unsafe_code)] // the one place that calls the library
 mod ffi;
 mod list;
 mod names;
 mod page;
 mod refusal;
+#[allow(unsafe_code)] // declarations only
+#[doc(hidden)] // for this repository's own tests and timings; programs have the safe calls
+pub mod sys;
 mod walk;
 
 pub use arena::{Arena, Bounds, Build, calc_prefix};

@@ -2,6 +2,8 @@
 
 use core::fmt;
 
+use crate::sys;
+
 /// Why a call was refused: the lowest number of the list that applies. A refusal changes nothing, no byte of an arena.
 ///
 /// ```
@@ -17,23 +19,23 @@ use core::fmt;
 #[repr(u8)]
 pub enum Refusal {
     /// Inline limit not 1 to 65,536, budget not 256 to 131,072, or a boundary over 4,096 bytes.
-    BadLimit = 1,
+    BadLimit = sys::CT_BAD_LIMIT as u8,
     /// The next free address is below 8, not a multiple of 8, or above the arena's length.
-    BadArena = 2,
+    BadArena = sys::CT_BAD_ARENA as u8,
     /// The list is not in the house form, a key is over 4,096 bytes or a value over 65,536.
-    BadList = 3,
+    BadList = sys::CT_BAD_LIST as u8,
     /// No frame at the address, bytes not as laid out, or a position outside the page.
-    BadFrame = 4,
+    BadFrame = sys::CT_BAD_FRAME as u8,
     /// A merge of a leaf with an index page.
-    MixedKinds = 5,
+    MixedKinds = sys::CT_MIXED_KINDS as u8,
     /// An entry that is not above the one before.
-    OutOfOrder = 6,
+    OutOfOrder = sys::CT_OUT_OF_ORDER as u8,
     /// A key or probe that does not begin with the page's prefix.
-    WrongPrefix = 7,
+    WrongPrefix = sys::CT_WRONG_PREFIX as u8,
     /// Over 65,535 entries, or a page over 16,777,216 bytes.
-    TooBig = 8,
+    TooBig = sys::CT_TOO_BIG as u8,
     /// The frames do not fit behind the next free address.
-    NoRoom = 9,
+    NoRoom = sys::CT_NO_ROOM as u8,
 }
 
 impl Refusal {
@@ -72,7 +74,7 @@ impl Refusal {
 
     /// What a C call returned: 0 is an answer.
     pub(crate) fn judged(status: u32) -> Result<(), Refusal> {
-        if status == 0 {
+        if status == sys::CT_OK {
             return Ok(());
         }
         let why = u8::try_from(status).ok().and_then(Refusal::of);

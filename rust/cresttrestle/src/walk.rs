@@ -8,10 +8,11 @@ use core::marker::PhantomData;
 #[cfg(feature = "alloc")]
 use alloc::vec::Vec;
 
-use crate::ffi::{self, RECORD_WORDS, Steps, WALK_WORDS};
+use crate::ffi::{self, Steps};
 use crate::names::{Addr, PageId, Ver};
 use crate::page::place;
 use crate::refusal::Refusal;
+use crate::sys::{CT_STEP_WORDS, CT_WALK_WORDS};
 
 /// A key as a page holds it: the page's prefix, then the rest. It is equal to, and compares with, the whole bytes.
 ///
@@ -173,7 +174,7 @@ const _: () = assert!(size_of::<Walk<'_>>() < 4096, "a walk is moved and stands 
 pub struct Walk<'a> {
     bytes: &'a [u8],
     prefix: &'a [u8],
-    words: [u64; WALK_WORDS],
+    words: [u64; CT_WALK_WORDS],
     /// The records read ahead, and how many of them are taken.
     read: Steps<AHEAD>,
     taken: usize,
@@ -181,7 +182,7 @@ pub struct Walk<'a> {
 }
 
 impl<'a> Walk<'a> {
-    pub(crate) fn new(bytes: &'a [u8], prefix: &'a [u8], words: [u64; WALK_WORDS]) -> Self {
+    pub(crate) fn new(bytes: &'a [u8], prefix: &'a [u8], words: [u64; CT_WALK_WORDS]) -> Self {
         Walk { bytes, prefix, words, read: Steps::NONE, taken: 0, ended: false }
     }
 
@@ -288,12 +289,12 @@ impl<'a, T: Listed<'a>> Iterator for Only<'a, T> {
 
 /// What a record's words say; none of a record of another kind, or of a place outside the arena, which the library never names.
 trait Listed<'a>: Sized {
-    fn made(bytes: &'a [u8], prefix: &'a [u8], words: &[u64; RECORD_WORDS]) -> Option<Self>;
+    fn made(bytes: &'a [u8], prefix: &'a [u8], words: &[u64; CT_STEP_WORDS]) -> Option<Self>;
 }
 
 impl<'a> Listed<'a> for Row<'a> {
     #[inline]
-    fn made(bytes: &'a [u8], prefix: &'a [u8], words: &[u64; RECORD_WORDS]) -> Option<Self> {
+    fn made(bytes: &'a [u8], prefix: &'a [u8], words: &[u64; CT_STEP_WORDS]) -> Option<Self> {
         let [1, rest, rest_len, txid, cmd, value, value_len, remote, entered] = *words else {
             return None;
         };
@@ -309,7 +310,7 @@ impl<'a> Listed<'a> for Row<'a> {
 
 impl<'a> Listed<'a> for Child<'a> {
     #[inline]
-    fn made(bytes: &'a [u8], prefix: &'a [u8], words: &[u64; RECORD_WORDS]) -> Option<Self> {
+    fn made(bytes: &'a [u8], prefix: &'a [u8], words: &[u64; CT_STEP_WORDS]) -> Option<Self> {
         let [2, rest, rest_len, page, ..] = *words else {
             return None;
         };
@@ -320,7 +321,7 @@ impl<'a> Listed<'a> for Child<'a> {
 
 impl<'a> Listed<'a> for Record<'a> {
     #[inline]
-    fn made(bytes: &'a [u8], prefix: &'a [u8], words: &[u64; RECORD_WORDS]) -> Option<Self> {
+    fn made(bytes: &'a [u8], prefix: &'a [u8], words: &[u64; CT_STEP_WORDS]) -> Option<Self> {
         match words[0] {
             1 => Row::made(bytes, prefix, words).map(Record::Row),
             _ => Child::made(bytes, prefix, words).map(Record::Child),

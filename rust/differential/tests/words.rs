@@ -1,6 +1,7 @@
 //! What include/cresttrestle.h says of `out` and `walk`, on the C calls themselves: a shorter slice takes the first words only, words
 //! behind the answer stay, a refusal writes no word, and a walk moves on exactly where a step gives a record.
 
+use cresttrestle::sys::{CT_STEP_WORDS as STEP, CT_WALK_WORDS as WALK, *};
 use differential::case::{At, Case, List, Op, Read};
 use differential::guard::Guarded;
 use differential::make;
@@ -17,120 +18,7 @@ macro_rules! lent {
     };
 }
 
-type P = *const u8;
-
-unsafe extern "C" {
-    fn ct_calc_prefix(lo: P, lo_len: usize, hi: P, hi_len: usize, out: *mut u64, n: usize) -> u32;
-    fn ct_page(arena: P, len: usize, addr: u64, out: *mut u64, n: usize) -> u32;
-    fn ct_history_hints(arena: P, len: usize, addr: u64, out: *mut u64, n: usize) -> u32;
-    fn ct_remote_hints(arena: P, len: usize, addr: u64, out: *mut u64, n: usize) -> u32;
-    fn ct_hint(arena: P, len: usize, at: u64, count: u64, k: u64, out: *mut u64, n: usize) -> u32;
-    fn ct_search(
-        arena: P,
-        len: usize,
-        addr: u64,
-        key: P,
-        key_len: usize,
-        out: *mut u64,
-        n: usize,
-    ) -> u32;
-    fn ct_as_of(
-        arena: P,
-        len: usize,
-        addr: u64,
-        key: P,
-        key_len: usize,
-        txid: u64,
-        cmd: u32,
-        out: *mut u64,
-        n: usize,
-    ) -> u32;
-    fn ct_lower_bound(
-        arena: P,
-        len: usize,
-        addr: u64,
-        key: P,
-        key_len: usize,
-        txid: u64,
-        cmd: u32,
-        out: *mut u64,
-        n: usize,
-    ) -> u32;
-    fn ct_floor(
-        arena: P,
-        len: usize,
-        addr: u64,
-        key: P,
-        key_len: usize,
-        out: *mut u64,
-        n: usize,
-    ) -> u32;
-    fn ct_forward(
-        arena: P,
-        len: usize,
-        addr: u64,
-        begin: u64,
-        end: u64,
-        walk: *mut u64,
-        n: usize,
-    ) -> u32;
-    fn ct_backward(
-        arena: P,
-        len: usize,
-        addr: u64,
-        start: i64,
-        end: i64,
-        walk: *mut u64,
-        n: usize,
-    ) -> u32;
-    fn ct_step(
-        arena: P,
-        len: usize,
-        walk: *mut u64,
-        walk_len: usize,
-        out: *mut u64,
-        n: usize,
-    ) -> u32;
-    fn ct_delta_key(arena: P, len: usize, addr: u64, out: *mut u64, n: usize) -> u32;
-    fn ct_delta_val(arena: P, len: usize, addr: u64, out: *mut u64, n: usize) -> u32;
-    fn ct_delta_index_key(arena: P, len: usize, addr: u64, out: *mut u64, n: usize) -> u32;
-    fn ct_delta_child(arena: P, len: usize, addr: u64, out: *mut u64, n: usize) -> u32;
-    fn ct_overlay(
-        arena: P,
-        len: usize,
-        addr: u64,
-        buffer: P,
-        buffer_len: usize,
-        delta: u64,
-        key: P,
-        key_len: usize,
-        out: *mut u64,
-        n: usize,
-    ) -> u32;
-    fn ct_new_leaf(
-        arena: *mut u8,
-        len: usize,
-        next: u64,
-        list: P,
-        list_len: usize,
-        lo: P,
-        lo_len: usize,
-        hi: P,
-        hi_len: usize,
-        sibling: u64,
-        limit: u64,
-        budget: u64,
-        group: u8,
-        txid: u64,
-        lsn: u64,
-        checkpoint: u64,
-        out: *mut u64,
-        n: usize,
-    ) -> u32;
-}
-
 const STAYS: u64 = 0xdead_beef_dead_beef;
-const WALK: usize = 18;
 
 /// Words between guard pages, so that one written behind a short slice ends the run.
 #[derive(Default)]
@@ -187,25 +75,26 @@ fn every_step(words: &mut Words, seen: &mut Count, arena: &[u8], mut walk: [u64;
     let (p, len) = lent!(arena);
     for _ in 0..200 {
         let before = walk;
-        out_of_every_length(words, seen, 9, |out, n| {
+        out_of_every_length(words, seen, STEP, |out, n| {
             let mut walk = before;
             // SAFETY: live slices.
             unsafe { ct_step(p, len, walk.as_mut_ptr(), WALK, out, n) }
         });
-        let mut out = [STAYS; 9];
-        let status = unsafe { ct_step(p, len, walk.as_mut_ptr(), WALK, out.as_mut_ptr(), 9) };
+        let mut out = [STAYS; STEP];
+        let status = unsafe { ct_step(p, len, walk.as_mut_ptr(), WALK, out.as_mut_ptr(), STEP) };
         for n in 0..WALK {
             let mut zeros = before;
             zeros[n..].fill(0);
-            let (mut a, mut b) = ([STAYS; 9], [STAYS; 9]);
-            let expected = unsafe { ct_step(p, len, zeros.as_mut_ptr(), WALK, a.as_mut_ptr(), 9) };
+            let (mut a, mut b) = ([STAYS; STEP], [STAYS; STEP]);
+            let expected =
+                unsafe { ct_step(p, len, zeros.as_mut_ptr(), WALK, a.as_mut_ptr(), STEP) };
             let short = words.of(&before[..n]);
-            let got = unsafe { ct_step(p, len, short.as_mut_ptr(), n, b.as_mut_ptr(), 9) };
+            let got = unsafe { ct_step(p, len, short.as_mut_ptr(), n, b.as_mut_ptr(), STEP) };
             assert_eq!((got, b), (expected, a), "a walk of {n} words");
             assert_eq!(short, &zeros[..n], "a walk of {n} words moves on otherwise");
         }
         match (status, out[0]) {
-            (0, 0) => assert_eq!(out, [0; 9], "the end is all 0"),
+            (0, 0) => assert_eq!(out, [0; STEP], "the end is all 0"),
             (0, 1) => {}
             (0, 2) => assert_eq!(out[4..], [0; 5], "behind a key of an index page all is 0"),
             (0, what) => panic!("a step of kind {what}"),
@@ -354,7 +243,7 @@ fn ask(arena: &[u8], addr: u64, read: &Read, words: &mut Words, seen: &mut Count
         }
         Read::Delta => {
             for (call, count) in [
-                (ct_delta_key as unsafe extern "C" fn(P, usize, u64, *mut u64, usize) -> u32, 4),
+                (ct_delta_key as unsafe extern "C" fn(_, _, _, _, _) -> _, 4),
                 (ct_delta_val, 2),
                 (ct_delta_index_key, 2),
                 (ct_delta_child, 1),
@@ -429,9 +318,12 @@ fn walks_of_any_words() {
             }
         };
         assert_eq!(begun, 0);
-        let mut out = [0; 9];
+        let mut out = [0; STEP];
         for _ in 0..rng.below(10) {
-            assert_eq!(unsafe { ct_step(p, len, walk.as_mut_ptr(), WALK, out.as_mut_ptr(), 9) }, 0);
+            assert_eq!(
+                unsafe { ct_step(p, len, walk.as_mut_ptr(), WALK, out.as_mut_ptr(), STEP) },
+                0
+            );
         }
         for _ in 0..rng.below(4) {
             let word = &mut walk[rng.below(WALK)];
@@ -450,7 +342,8 @@ fn walks_of_any_words() {
         bytes.truncate(if rng.once_in(3) { rng.below(len + 1) } else { len });
         let (p, len) = lent!(arena.lend(&bytes, round % 2 == 0));
         for _ in 0..5 {
-            let status = unsafe { ct_step(p, len, walk.as_mut_ptr(), WALK, out.as_mut_ptr(), 9) };
+            let status =
+                unsafe { ct_step(p, len, walk.as_mut_ptr(), WALK, out.as_mut_ptr(), STEP) };
             assert!(status == 0 || status == 4, "a step is refused with {status}");
             steps[usize::from(status == 4)] += 1;
         }
