@@ -8,7 +8,7 @@ use native.Mathlib.Omega.{arith}
 use Rattle.order.specs.declared.Ver.{Ver}
 use Rattle.order.specs.Version.{newerThan}
 use Rattle.frames.specs.declared.Refusal.{Refusal}
-use Rattle.walks.specs.declared.Past.{Past}
+use Rattle.walks.specs.declared.OldPlace.{OldPlace}
 use Rattle.walks.specs.declared.Aged.{Aged}
 use Rattle.walks.specs.Walk.{readAt}
 use Rattle.walks.specs.Aged.{agedAt}
@@ -16,7 +16,7 @@ use Rattle.walks.proofs.Ages.{aged-none, aged-left}
 use Rattle.asof.specs.declared.AsOf.{AsOf}
 use Rattle.asof.specs.AsOf.{handedOf, oldBy, oldAsOf}
 
-module _ (s : List ℕ) (v : Ver) (slot reads : ℕ) (p : Past) where
+module _ (s : List ℕ) (v : Ver) (slot reads : ℕ) (p : OldPlace) where
   abbrev pub whole : AsOf
   whole = oldAsOf s v slot reads (p .left) p
 
@@ -39,7 +39,7 @@ module _ (s : List ℕ) (v : Ver) (slot reads : ℕ) (p : Past) where
       by zero q = absurd (let y : Aged.End ≡ Aged.Bad = sym (aged-none s p q) ∙ e in let z : _≡_ {A = ℕ} 0 1 = cc in omega arith)
       by (suc n) q = on n q ∙ rw e refl
 
-  module _ (ver : Ver) (i : ℕ) (rest : Past) (e : agedAt s p ≡ Aged.Is ver i rest) where
+  module _ (ver : Ver) (i : ℕ) (rest : OldPlace) (e : agedAt s p ≡ Aged.Is ver i rest) where
     pub old-newer : newerThan ver v ≡ true → whole ≡ oldAsOf s v slot reads (rest .left) rest
     old-newer n = on (rest .left) (aged-left s p rest ver i e) ∙ rw (e, n) refl
 

@@ -1,8 +1,7 @@
 // A row as of a version: the newest record of a key that is no newer than it, head or history, across linked pages.
 ghost use mathlib.Core.Path.{_≡_};
-ghost use Prim.Native.Nat.{_≤_};
 ghost use Rattle.frames.specs.Layout.{Inside};
-ghost use Rattle.asof.specs.AsOf.{handedOf, noPast, oldAsOf, oldEnter, pastAsOf, asOfAt};
+ghost use Rattle.asof.specs.AsOf.{handedOf, oldAsOf, oldEnter, olderAsOf, asOfAt};
 use frames::Addr;
 use frames::Body;
 use frames::Refusal;
@@ -14,8 +13,7 @@ use values::HistRef;
 use values::Val;
 use walks::Aged;
 use walks::Entered;
-use walks::Past;
-use walks::Sheet;
+use walks::OldPlace;
 
 // The key's slot in the leaf, the record's own version, the place of its value, and the number of keys that the halving read, as a search
 // counts them.
@@ -51,15 +49,15 @@ fn handed(r: RecRead, slot: usize, ver: Ver, reads: usize) -> AsOf
 }
 
 // Of what is left of the history, newest first: the first that is no newer than v.
-fn old_as_of(s: &[u8], from: Past, v: Ver, slot: usize, reads: usize) -> AsOf
+fn old_as_of(s: &[u8], from: OldPlace, v: Ver, slot: usize, reads: usize) -> AsOf
     ensures { λ r. ⌜ r ≡ oldAsOf (now (s .entry)) v slot reads (from .left) from ⌝ }
 {
-    let mut past = from;
+    let mut older = from;
     loop {
-        match past.aged(s) {
+        match older.aged(s) {
             Aged::Is { ver, slot: i, rest } => {
                 if ver.newer(v) {
-                    past = rest;
+                    older = rest;
                 } else {
                     let page = rest.page;
                     return handed(walks::read(s, page, Body::HISTORY, i), slot, ver, reads);
@@ -75,37 +73,20 @@ fn old_as_of(s: &[u8], from: Past, v: Ver, slot: usize, reads: usize) -> AsOf
     }
 }
 
-fn no_past() -> Past
-    ensures { λ r. ⌜ r ≡ noPast ⌝ }
-{
-    Past {
-        page: Sheet {
-            at: 0,
-            elems: 0,
-            front: 0,
-            end: 0,
-            prefix_len: 0,
-        },
-        link: Addr(0),
-        slot: 0,
-        left: 0,
-    }
-}
-
 // The history that a head refers to.
 fn old_enter(s: &[u8], h: HistRef, v: Ver, slot: usize, reads: usize) -> AsOf
     ensures { λ r. ⌜ r ≡ oldEnter (now (s .entry)) v slot reads h ⌝ }
 {
-    match walks::enter(s, h, no_past()) {
-        Entered::Is(past) => old_as_of(s, past, v, slot, reads),
+    match walks::enter(s, h, walks::no_older()) {
+        Entered::Is(older) => old_as_of(s, older, v, slot, reads),
         Entered::Bad => AsOf::Refused(Refusal::BadFrame),
     }
 }
 
 // Behind a head that is newer: its value is read for the history alone.
-fn past_as_of(s: &[u8], b: Body, at: usize, v: Ver, slot: usize, reads: usize) -> AsOf
+fn older_as_of(s: &[u8], b: Body, at: usize, v: Ver, slot: usize, reads: usize) -> AsOf
     requires { ⌜ Inside (now s) b ⌝ }
-    ensures { λ r. ⌜ r ≡ pastAsOf (now (s .entry)) v slot reads b at ⌝ }
+    ensures { λ r. ⌜ r ≡ olderAsOf (now (s .entry)) v slot reads b at ⌝ }
 {
     let e = b.end;
     match Val::decode_from(&s[..e], at, true) {
@@ -140,7 +121,7 @@ pub fn as_of(s: &[u8], a: Addr, probe: &[u8], v: Ver) -> AsOf
             reads,
         } => {
             if ver.newer(v) {
-                return past_as_of(s, page, value, v, slot, reads);
+                return older_as_of(s, page, value, v, slot, reads);
             }
             handed(records::rec_at(s, page, slot), slot, ver, reads)
         }

@@ -16,49 +16,51 @@ use Rattle.frames.specs.declared.Refusal.the-variants.{BadLimit, BadArena, BadL
 use Rattle.frames.specs.Layout.{addr}
 use Rattle.frames.proofs.Frames.{and-l, and-r}
 use Rattle.build_sources.specs.declared.Cursor.{Cursor}
-use Rattle.build_sources.specs.declared.Begun.{Begun}
-use Rattle.build_sources.specs.declared.Begun.the-variants.{From, Bad}
+use Rattle.build_sources.specs.declared.Started.{Started}
+use Rattle.build_sources.specs.declared.Started.the-variants.{From, Bad}
 use Rattle.build_sources.specs.Lists.{begunOf, firstOf}
 use Rattle.build_sources.specs.Source.{Entry, entries, wellFormed}
 use Rattle.build_image.specs.declared.Call.{Call}
 use Rattle.build_image.specs.Prefix.{common}
-use Rattle.build_image.specs.Image.{Bounds, leafImage, indexImage}
-use Rattle.build_bounds.specs.declared.Edge.{Edge}
-use Rattle.build_bounds.specs.declared.Edges.{Edges}
-use Rattle.build_bounds.specs.Edges.{Within, Inside, edgeBytes, edgeOf, boundsOf}
-use Rattle.build_bounds.proofs.Laws.{edge-whole, edge-within}
+use Rattle.build_image.specs.Image.{leafImage, indexImage, Borders}
+use Rattle.build_bounds.specs.declared.Boundary.{Boundary}
+use Rattle.build_bounds.specs.declared.Boundaries.{Boundaries}
+use Rattle.build_bounds.specs.Boundaries.{Within, BothWithin, boundaryBytes, boundaryOf, boundsOf}
+use Rattle.build_bounds.proofs.Laws.{boundary-whole, boundary-within}
 use Rattle.build_image.specs.declared.Built.{Built}
 use Rattle.build_image.specs.declared.Built.the-variants.{At, Refused}
 use Rattle.build_history.specs.Runs.{Sane}
 use Rattle.build_totals.specs.Totals.{leafAt}
 use Rattle.build_image.specs.Call.{limitOk, budgetOk, limitsOk, nextOk}
 use Rattle.build_image.proofs.Asked.{limit-true, budget-true, next-true}
-use Rattle.build_table.specs.Table.{Row, row, judged, boundsOk, leafLimits, isOpen, listOk}
+use Rattle.build_image.specs.Table.{Row, judged}
+use Rattle.build_table.specs.Table.{boundsOk, leafLimits, isOpen, listOk}
 use Rattle.build_table.specs.Leaf.{leafEnd, leafAnswer, leafArena, leafRows}
 use Rattle.build_table.specs.Index.{Held, indexEnd, indexAnswer, indexArena, indexRows}
 use Rattle.frames.specs.declared.PageId.{PageId}
-use Rattle.base.specs.Calls.{boundsFrom, listed, listRows, intlRows, intlAnswer, intlArena, newRows, newAnswer, newArena}
+use Rattle.frames.specs.Limits.{maxKey}
+use Rattle.base.specs.Calls.{boundsFrom, listed, listRows, newIndexRows, newIndexAnswer, newIndexArena, newRows, newAnswer, newArena}
 
 -- ---- the first three rows
 
-module _ {X : Type 0} (limits : Bool) (a : List ℕ) (next : ℕ) (l : List ℕ) (kind : ℕ) (rows : List Row) (stop : Refusal → X) (go : X) where
-  one : limits ≡ false → stop BadLimit ≡ judged (listRows limits a next l kind rows) stop go
+module _ {X : Type 0} (limits : Bool) (a : List ℕ) (next : ℕ) (l : List ℕ) (source : ℕ) (rows : List Row) (stop : Refusal → X) (go : X) where
+  one : limits ≡ false → stop BadLimit ≡ judged (listRows limits a next l source rows) stop go
   one h = rw h refl
 
-  two : limits ≡ true → nextOk (length a) next ≡ false → stop BadArena ≡ judged (listRows limits a next l kind rows) stop go
+  two : limits ≡ true → nextOk (length a) next ≡ false → stop BadArena ≡ judged (listRows limits a next l source rows) stop go
   two h k = by-two limits (nextOk (length a) next) (stop BadLimit) (stop BadArena) _ h k
     where
       by-two : (x y : Bool) (p q r : X) → x ≡ true → y ≡ false → q ≡ cond x (cond y r q) p
       by-two x y p q r h k = rw (h, k) refl
 
-  three : limits ≡ true → nextOk (length a) next ≡ true → listOk l (take next a) kind ≡ false → stop BadList ≡ judged (listRows limits a next l kind rows) stop go
-  three h k j = by-three limits (nextOk (length a) next) (listOk l (take next a) kind) (stop BadLimit) (stop BadArena) (stop BadList) _ h k j
+  three : limits ≡ true → nextOk (length a) next ≡ true → listOk l (take next a) source ≡ false → stop BadList ≡ judged (listRows limits a next l source rows) stop go
+  three h k j = by-three limits (nextOk (length a) next) (listOk l (take next a) source) (stop BadLimit) (stop BadArena) (stop BadList) _ h k j
     where
       by-three : (x y z : Bool) (p q r s : X) → x ≡ true → y ≡ true → z ≡ false → r ≡ cond x (cond y (cond z s r) q) p
       by-three x y z p q r s h k j = rw (h, k, j) refl
 
-  on : limits ≡ true → nextOk (length a) next ≡ true → listOk l (take next a) kind ≡ true → judged rows stop go ≡ judged (listRows limits a next l kind rows) stop go
-  on h k j = by-on limits (nextOk (length a) next) (listOk l (take next a) kind) (stop BadLimit) (stop BadArena) (stop BadList) _ h k j
+  on : limits ≡ true → nextOk (length a) next ≡ true → listOk l (take next a) source ≡ true → judged rows stop go ≡ judged (listRows limits a next l source rows) stop go
+  on h k j = by-on limits (nextOk (length a) next) (listOk l (take next a) source) (stop BadLimit) (stop BadArena) (stop BadList) _ h k j
     where
       by-on : (x y z : Bool) (p q r s : X) → x ≡ true → y ≡ true → z ≡ true → s ≡ cond x (cond y (cond z s r) q) p
       by-on x y z p q r s h k j = rw (h, k, j) refl
@@ -67,95 +69,95 @@ module _ {X : Type 0} (limits : Bool) (a : List ℕ) (next : ℕ) (l : List ℕ)
 no-from : (c : Cursor) → Bad ≡ From c → ⊥
 no-from c e = absurd (let z : _≡_ {A = ℕ} 0 1 = cc in omega arith)
 
-from-first : (l : List ℕ) (kind : ℕ) (c : Cursor) → begunOf l kind ≡ From c → c ≡ firstOf kind
+from-first : (l : List ℕ) (source : ℕ) (c : Cursor) → begunOf l source ≡ From c → c ≡ firstOf source
 unfolding begunOf
-from-first l kind c e =
+from-first l source c e =
     let a₁ = ask (leb 5 (length l)) _ Bad (From c) (no-from c) e in
     let a₂ = ask (eqb (getD l 0 0) 1) _ Bad (From c) (no-from c) (a₁ .1) in
-    let a₃ = ask (eqb (beAt 4 l 1) (length l - 5)) (From (firstOf kind)) Bad (From c) (no-from c) (a₂ .1) in
+    let a₃ = ask (eqb (beAt 4 l 1) (length l - 5)) (From (firstOf source)) Bad (From c) (no-from c) (a₂ .1) in
     let z = a₃ .1 in
     cc
 
-module _ (l w : List ℕ) (kind : ℕ) (b : Begun) (e : b ≡ begunOf l kind) where
-  pub list-bad : b ≡ Bad → listOk l w kind ≡ false
-  list-bad q = ap (λ (x : Begun). isOpen x && wellFormed l w (firstOf kind)) (sym e ∙ q)
+module _ (l w : List ℕ) (source : ℕ) (b : Started) (e : b ≡ begunOf l source) where
+  pub list-bad : b ≡ Bad → listOk l w source ≡ false
+  list-bad q = ap (λ (x : Started). isOpen x && wellFormed l w (firstOf source)) (sym e ∙ q)
 
   module _ (c : Cursor) (q : b ≡ From c) where
-    pub at-first : c ≡ firstOf kind
-    at-first = from-first l kind c (sym e ∙ q)
+    pub at-first : c ≡ firstOf source
+    at-first = from-first l source c (sym e ∙ q)
 
-    pub list-is : (t : Bool) → t ≡ wellFormed l w c → listOk l w kind ≡ t
-    list-is t h = ap (λ (x : Begun). isOpen x && wellFormed l w (firstOf kind)) (sym e ∙ q) ∙ sym (h ∙ ap (wellFormed l w) at-first)
+    pub list-is : (t : Bool) → t ≡ wellFormed l w c → listOk l w source ≡ t
+    list-is t h = ap (λ (x : Started). isOpen x && wellFormed l w (firstOf source)) (sym e ∙ q) ∙ sym (h ∙ ap (wellFormed l w) at-first)
 
 -- ---- boundaries that are whole slices
 
-common-low : (lo hi : List ℕ) → common lo hi ≤ length lo
+common-ground : (lo hi : List ℕ) → common lo hi ≤ length lo
 unfolding common
-common-low [] hi = omega arith
-common-low (x ∷ lo) [] = omega arith
-common-low (x ∷ lo) (y ∷ hi) = by (eqb x y) (common-low lo hi)
+common-ground [] hi = omega arith
+common-ground (x ∷ lo) [] = omega arith
+common-ground (x ∷ lo) (y ∷ hi) = by (eqb x y) (common-ground lo hi)
   where
     by : (b : Bool) → common lo hi ≤ length lo → cond b (suc (common lo hi)) 0 ≤ suc (length lo)
     by true h = omega arith
     by false h = omega arith
 
-pub next-low : (len next : ℕ) (t : Bool) → t ≡ nextOk len next → t ≡ true → next ≤ len
-next-low len next t e h = next-true len next (sym e ∙ h) .2
+pub next-ground : (len next : ℕ) (t : Bool) → t ≡ nextOk len next → t ≡ true → next ≤ len
+next-ground len next t e h = next-true len next (sym e ∙ h) .2
 
-module _ (lo hi w : List ℕ) (x y : Edge) (p : ℕ) (sibling : PageId) (ex : x ≡ edgeOf lo) (ey : y ≡ edgeOf hi) (ep : p ≡ common lo hi) where
-  abbrev edges-of : Edges
-  edges-of = record { lo = x; hi = y; prefix = p; sibling = sibling }
+module _ (lo hi w : List ℕ) (x y : Boundary) (p : ℕ) (sibling : PageId) (ex : x ≡ boundaryOf lo) (ey : y ≡ boundaryOf hi) (ep : p ≡ common lo hi) where
+  abbrev boundaries-of : Boundaries
+  boundaries-of = record { lo = x; hi = y; prefix = p; sibling = sibling }
 
-  pub held : (t : Bool) → t ≡ boundsOk lo hi → t ≡ true → Held lo w edges-of
+  pub held : (t : Bool) → t ≡ boundsOk lo hi → t ≡ true → Held lo w boundaries-of
   held t e h =
       let z = sym e ∙ h in
-      let j : length lo ≤ 4096 = leb-true (length lo) 4096 (and-l (leb (length lo) 4096) (leb (length hi) 4096) z) in
-      let k : length hi ≤ 4096 = leb-true (length hi) 4096 (and-r (leb (length lo) 4096) (leb (length hi) 4096) z) in
-      rw (ex, ey) (record { within = edge-within lo w; shared = omega (arith, ep, common-low lo hi); low = j; high = k })
+      let j : length lo ≤ maxKey = leb-true (length lo) maxKey (and-l (leb (length lo) maxKey) (leb (length hi) maxKey) z) in
+      let k : length hi ≤ maxKey = leb-true (length hi) maxKey (and-r (leb (length lo) maxKey) (leb (length hi) maxKey) z) in
+      rw (ex, ey) (record { within = boundary-within lo w; shared = omega (arith, ep, common-ground lo hi); ground = j; high = k })
 
-  pub inside : Inside lo hi w edges-of
-  inside = rw (ex, ey) (record { low = edge-within lo w; high = edge-within hi w })
+  pub inside : BothWithin lo hi w boundaries-of
+  inside = rw (ex, ey) (record { ground = boundary-within lo w; high = boundary-within hi w })
 
-  pub bounds-are : boundsOf lo hi w edges-of ≡ boundsFrom lo hi (sibling .0)
+  pub bounds-are : boundsOf lo hi w boundaries-of ≡ boundsFrom lo hi (sibling .0)
   bounds-are =
-      ap₂ (λ (u v : List ℕ). record { lo = u; hi = v; prefix = p; sibling = sibling .0 }) (ap (edgeBytes lo w) ex ∙ edge-whole lo w) (ap (edgeBytes hi w) ey ∙ edge-whole hi w)
+      ap₂ (λ (u v : List ℕ). record { lo = u; hi = v; prefix = p; sibling = sibling .0 }) (ap (boundaryBytes lo w) ex ∙ boundary-whole lo w) (ap (boundaryBytes hi w) ey ∙ boundary-whole hi w)
       ∙ ap (λ (k : ℕ). record { lo = lo; hi = hi; prefix = k; sibling = sibling .0 }) ep
 
 -- ---- a call on a list: its limits, the entries' rows, the page's address, the end and the image
 
-module _ (limits : Bool) (a : List ℕ) (next : ℕ) (l : List ℕ) (kind : ℕ) (rows : List Row) (at end : ℕ) (image : List ℕ) where
+module _ (limits : Bool) (a : List ℕ) (next : ℕ) (l : List ℕ) (source : ℕ) (rows : List Row) (at end : ℕ) (image : List ℕ) where
   abbrev Both : Built → List ℕ → Type 0
-  Both r a₁ = (r ≡ judged (listRows limits a next l kind rows) Refused (At (addr at) end)) × (a₁ ≡ judged (listRows limits a next l kind rows) (λ (k : Refusal). a) (put a next image))
+  Both r a₁ = (r ≡ judged (listRows limits a next l source rows) Refused (At (addr at) end)) × (a₁ ≡ judged (listRows limits a next l source rows) (λ (k : Refusal). a) (put a next image))
 
   pub call-one : (t : Bool) → t ≡ limits → t ≡ false → Both (Refused BadLimit) a
   call-one t e h = (
-    one limits a next l kind rows Refused (At (addr at) end) (sym e ∙ h),
-    one limits a next l kind rows (λ (k : Refusal). a) (put a next image) (sym e ∙ h),
+    one limits a next l source rows Refused (At (addr at) end) (sym e ∙ h),
+    one limits a next l source rows (λ (k : Refusal). a) (put a next image) (sym e ∙ h),
   )
 
   module _ (t₁ : Bool) (e₁ : t₁ ≡ limits) (h₁ : t₁ ≡ true) where
     pub call-two : (t : Bool) → t ≡ nextOk (length a) next → t ≡ false → Both (Refused BadArena) a
     call-two t e h = (
-      two limits a next l kind rows Refused (At (addr at) end) (sym e₁ ∙ h₁) (sym e ∙ h),
-      two limits a next l kind rows (λ (k : Refusal). a) (put a next image) (sym e₁ ∙ h₁) (sym e ∙ h),
+      two limits a next l source rows Refused (At (addr at) end) (sym e₁ ∙ h₁) (sym e ∙ h),
+      two limits a next l source rows (λ (k : Refusal). a) (put a next image) (sym e₁ ∙ h₁) (sym e ∙ h),
     )
 
     module _ (t₂ : Bool) (e₂ : t₂ ≡ nextOk (length a) next) (h₂ : t₂ ≡ true) where
-      pub call-three : listOk l (take next a) kind ≡ false → Both (Refused BadList) a
+      pub call-three : listOk l (take next a) source ≡ false → Both (Refused BadList) a
       call-three h = (
-        three limits a next l kind rows Refused (At (addr at) end) (sym e₁ ∙ h₁) (sym e₂ ∙ h₂) h,
-        three limits a next l kind rows (λ (k : Refusal). a) (put a next image) (sym e₁ ∙ h₁) (sym e₂ ∙ h₂) h,
+        three limits a next l source rows Refused (At (addr at) end) (sym e₁ ∙ h₁) (sym e₂ ∙ h₂) h,
+        three limits a next l source rows (λ (k : Refusal). a) (put a next image) (sym e₁ ∙ h₁) (sym e₂ ∙ h₂) h,
       )
 
-      pub call-on : listOk l (take next a) kind ≡ true → (r : Built) (a₁ : List ℕ) → r ≡ judged rows Refused (At (addr at) end) → a₁ ≡ judged rows (λ (k : Refusal). a) (put a next image) → Both r a₁
+      pub call-on : listOk l (take next a) source ≡ true → (r : Built) (a₁ : List ℕ) → r ≡ judged rows Refused (At (addr at) end) → a₁ ≡ judged rows (λ (k : Refusal). a) (put a next image) → Both r a₁
       call-on h r a₁ er ea = (
-        er ∙ on limits a next l kind rows Refused (At (addr at) end) (sym e₁ ∙ h₁) (sym e₂ ∙ h₂) h,
-        ea ∙ on limits a next l kind rows (λ (k : Refusal). a) (put a next image) (sym e₁ ∙ h₁) (sym e₂ ∙ h₂) h,
+        er ∙ on limits a next l source rows Refused (At (addr at) end) (sym e₁ ∙ h₁) (sym e₂ ∙ h₂) h,
+        ea ∙ on limits a next l source rows (λ (k : Refusal). a) (put a next image) (sym e₁ ∙ h₁) (sym e₂ ∙ h₂) h,
       )
 
 -- ---- new_intl
 
-module _ (a : List ℕ) (next : ℕ) (l : List ℕ) (m : Call) (b : Bounds) where
+module _ (a : List ℕ) (next : ℕ) (l : List ℕ) (m : Call) (b : Borders) where
   abbrev es : List Entry
   es = listed l (take next a) 1
 
@@ -165,31 +167,31 @@ module _ (a : List ℕ) (next : ℕ) (l : List ℕ) (m : Call) (b : Bounds) wher
   abbrev rows : List Row
   rows = indexRows (length a) next m b es
 
-  pub intl-one : (t : Bool) → t ≡ boundsOk (b .lo) (b .hi) → t ≡ false → (Refused BadLimit ≡ intlAnswer a next l m b) × (a ≡ intlArena a next l m b)
-  unfolding intlAnswer intlArena
-  intl-one t e h = call-one limits a next l 1 rows next (indexEnd next m b es) (indexImage m b es) t e h
+  pub index-one : (t : Bool) → t ≡ boundsOk (b .lo) (b .hi) → t ≡ false → (Refused BadLimit ≡ newIndexAnswer a next l m b) × (a ≡ newIndexArena a next l m b)
+  unfolding newIndexAnswer newIndexArena
+  index-one t e h = call-one limits a next l 1 rows next (indexEnd next m b es) (indexImage m b es) t e h
 
   module _ (t₁ : Bool) (e₁ : t₁ ≡ boundsOk (b .lo) (b .hi)) (h₁ : t₁ ≡ true) where
-    pub intl-two : (t : Bool) → t ≡ nextOk (length a) next → t ≡ false → (Refused BadArena ≡ intlAnswer a next l m b) × (a ≡ intlArena a next l m b)
-    unfolding intlAnswer intlArena
-    intl-two t e h = call-two limits a next l 1 rows next (indexEnd next m b es) (indexImage m b es) t₁ e₁ h₁ t e h
+    pub index-two : (t : Bool) → t ≡ nextOk (length a) next → t ≡ false → (Refused BadArena ≡ newIndexAnswer a next l m b) × (a ≡ newIndexArena a next l m b)
+    unfolding newIndexAnswer newIndexArena
+    index-two t e h = call-two limits a next l 1 rows next (indexEnd next m b es) (indexImage m b es) t₁ e₁ h₁ t e h
 
     module _ (t₂ : Bool) (e₂ : t₂ ≡ nextOk (length a) next) (h₂ : t₂ ≡ true) where
-      pub intl-three : listOk l (take next a) 1 ≡ false → (Refused BadList ≡ intlAnswer a next l m b) × (a ≡ intlArena a next l m b)
-      unfolding intlAnswer intlArena
-      intl-three h = call-three limits a next l 1 rows next (indexEnd next m b es) (indexImage m b es) t₁ e₁ h₁ t₂ e₂ h₂ h
+      pub index-three : listOk l (take next a) 1 ≡ false → (Refused BadList ≡ newIndexAnswer a next l m b) × (a ≡ newIndexArena a next l m b)
+      unfolding newIndexAnswer newIndexArena
+      index-three h = call-three limits a next l 1 rows next (indexEnd next m b es) (indexImage m b es) t₁ e₁ h₁ t₂ e₂ h₂ h
 
-      pub intl-on : listOk l (take next a) 1 ≡ true → (r : Built) (a₁ : List ℕ) (m′ : Call) (b′ : Bounds) (c : Cursor) → m′ ≡ m → b′ ≡ b → c ≡ firstOf 1
-          → r ≡ indexAnswer a next m′ b′ (entries l (take next a) c) → a₁ ≡ indexArena a next m′ b′ (entries l (take next a) c) → (r ≡ intlAnswer a next l m b) × (a₁ ≡ intlArena a next l m b)
-      unfolding intlAnswer intlArena indexAnswer indexArena
-      intl-on h r a₁ m′ b′ c em eb ec er ea =
+      pub index-on : listOk l (take next a) 1 ≡ true → (r : Built) (a₁ : List ℕ) (m′ : Call) (b′ : Borders) (c : Cursor) → m′ ≡ m → b′ ≡ b → c ≡ firstOf 1
+          → r ≡ indexAnswer a next m′ b′ (entries l (take next a) c) → a₁ ≡ indexArena a next m′ b′ (entries l (take next a) c) → (r ≡ newIndexAnswer a next l m b) × (a₁ ≡ newIndexArena a next l m b)
+      unfolding newIndexAnswer newIndexArena indexAnswer indexArena
+      index-on h r a₁ m′ b′ c em eb ec er ea =
           call-on limits a next l 1 rows next (indexEnd next m b es) (indexImage m b es) t₁ e₁ h₁ t₂ e₂ h₂ h r a₁
           (er
           ∙ ap (λ (x : Call). indexAnswer a next x b′ (entries l (take next a) c)) em
-          ∙ ap₂ (λ (x : Bounds) (y : Cursor). indexAnswer a next m x (entries l (take next a) y)) eb ec)
+          ∙ ap₂ (λ (x : Borders) (y : Cursor). indexAnswer a next m x (entries l (take next a) y)) eb ec)
           (ea
           ∙ ap (λ (x : Call). indexArena a next x b′ (entries l (take next a) c)) em
-          ∙ ap₂ (λ (x : Bounds) (y : Cursor). indexArena a next m x (entries l (take next a) y)) eb ec)
+          ∙ ap₂ (λ (x : Borders) (y : Cursor). indexArena a next m x (entries l (take next a) y)) eb ec)
 
 -- ---- new_leaf
 
@@ -208,7 +210,7 @@ module _ (limit budget : ℕ) (lo hi : List ℕ) (t : Bool) (e : t ≡ leafLimit
   sane group txid lsn =
       limits-sane (record { limit = limit; budget = budget; group = group; txid = txid; lsn = lsn }) (and-l (limitsOk limit budget) (boundsOk lo hi) (sym e ∙ h))
 
-module _ (a : List ℕ) (next : ℕ) (l : List ℕ) (m : Call) (b : Bounds) where
+module _ (a : List ℕ) (next : ℕ) (l : List ℕ) (m : Call) (b : Borders) where
   abbrev les : List Entry
   les = listed l (take next a) 0
 
@@ -232,14 +234,14 @@ module _ (a : List ℕ) (next : ℕ) (l : List ℕ) (m : Call) (b : Bounds) wher
       unfolding newAnswer newArena
       new-three h = call-three lims a next l 0 lrows (leafAt m next les) (leafEnd next m b les) (leafImage m b next les) t₁ e₁ h₁ t₂ e₂ h₂ h
 
-      pub new-on : listOk l (take next a) 0 ≡ true → (r : Built) (a₁ : List ℕ) (m′ : Call) (b′ : Bounds) (c : Cursor) → m′ ≡ m → b′ ≡ b → c ≡ firstOf 0
+      pub new-on : listOk l (take next a) 0 ≡ true → (r : Built) (a₁ : List ℕ) (m′ : Call) (b′ : Borders) (c : Cursor) → m′ ≡ m → b′ ≡ b → c ≡ firstOf 0
           → r ≡ leafAnswer a next m′ b′ (entries l (take next a) c) → a₁ ≡ leafArena a next m′ b′ (entries l (take next a) c) → (r ≡ newAnswer a next l m b) × (a₁ ≡ newArena a next l m b)
       unfolding newAnswer newArena leafAnswer leafArena
       new-on h r a₁ m′ b′ c em eb ec er ea =
           call-on lims a next l 0 lrows (leafAt m next les) (leafEnd next m b les) (leafImage m b next les) t₁ e₁ h₁ t₂ e₂ h₂ h r a₁
           (er
           ∙ ap (λ (x : Call). leafAnswer a next x b′ (entries l (take next a) c)) em
-          ∙ ap₂ (λ (x : Bounds) (y : Cursor). leafAnswer a next m x (entries l (take next a) y)) eb ec)
+          ∙ ap₂ (λ (x : Borders) (y : Cursor). leafAnswer a next m x (entries l (take next a) y)) eb ec)
           (ea
           ∙ ap (λ (x : Call). leafArena a next x b′ (entries l (take next a) c)) em
-          ∙ ap₂ (λ (x : Bounds) (y : Cursor). leafArena a next m x (entries l (take next a) y)) eb ec)
+          ∙ ap₂ (λ (x : Borders) (y : Cursor). leafArena a next m x (entries l (take next a) y)) eb ec)

@@ -11,7 +11,7 @@ use Rattle.order.specs.Order.{cmpBytes, startsWith}
 use Rattle.order.specs.Version.{newerThan}
 use Rattle.frames.specs.declared.Refusal.the-variants.{OutOfOrder, NoRoom}
 use Rattle.frames.specs.Layout.{addr}
-use Rattle.frames.specs.Stored.{boxBytes, baseFront, baseBack, baseBytes}
+use Rattle.frames.specs.Stored.{boxBytes, baseFront, baseBack, baseBytes, pageBytes}
 use Rattle.frames.specs.Cases.{p7}
 use Rattle.values.specs.Keys.{verBytes, leafFront, leafKey}
 use Rattle.values.specs.Vals.{flagOf, histBytes, frontBytes, inlineBytes, remoteBytes, sizeOf}
@@ -23,8 +23,8 @@ use Rattle.build_sources.specs.Judged.{above, risingFrom, rising, prefixed}
 use Rattle.build_sources.proofs.Cases.{p7List, p11List}
 use Rattle.build_image.specs.declared.Call.{Call}
 use Rattle.build_image.specs.Prefix.{common}
-use Rattle.build_image.specs.Sizes.{pad, farLen, cost, costsOf, fars, keyLen, oldRun, sums, counted, roomOf}
-use Rattle.build_image.specs.Image.{Bounds, farAddr, valBytes, remoteFrame, farFrame, farFrames, farAddrs, oldRec, oldRecs, oldSlots, histHead, histSize, histPage, pageEnd, history, historyEnd, starts, histAddrs, placesIn, places, headRec, headRecs, headSlots, les, hints, leafSize, leafRoom, leafFrame, leafImage}
+use Rattle.build_image.specs.Sizes.{pad, remoteLen, cost, costsOf, remotesLen, keyLen, oldRun, sums, counted, roomOf}
+use Rattle.build_image.specs.Image.{remoteAddr, valBytes, remoteFrame, remoteFrameOf, remoteFrames, remoteAddrs, oldRec, oldRecs, oldSlots, histHead, histSize, histPage, pageEnd, history, historyEnd, starts, histAddrs, placesIn, places, headRec, headRecs, headSlots, les, hints, leafSize, leafRoom, leafFrame, leafImage, Borders}
 use Rattle.build_totals.specs.Totals.{leafAt}
 use Rattle.build_image.specs.declared.Built.the-variants.{At, Refused}
 use Rattle.build_table.specs.Leaf.{leafEnd}
@@ -49,7 +49,7 @@ at64 budget = callOf 64 budget 0 0 0 0
 abbrev pub zeros : ℕ → List ℕ
 zeros n = replicate n 0
 
-abbrev pub open-ended : Bounds
+abbrev pub open-ended : Borders
 open-ended = boundsFrom [] [] 0
 
 -- P5: no boundaries, limit 64, next 8: new next 112. P6: an arena of 112 suffices, 111 is 9. P7: history page at 8, leaf at 104, new next
@@ -62,5 +62,5 @@ pub rows : (newAnswer (zeros 112) 8 p5List (at64 131072) open-ended ≡ At (addr
     × (newAnswer (zeros 600) 8 list52 (at64 256) open-ended ≡ At (addr 384) 576)
     × (newAnswer (zeros 600) 8 list51 (at64 256) open-ended ≡ At (addr 296) 480)
     × (newAnswer (zeros 600) 8 p11List (at64 256) open-ended ≡ Refused OutOfOrder)
-unfolding p5List p7List p11List list52 list51 p7 newAnswer newArena larger common begunOf sameKey recordAt indexAt spotAt after listF wellF stepOf listNext nextOf leftOf entryOf entries wellFormed only keyBytes above risingFrom rising prefixed startsWith cmpBytes newerThan part partOr put ofLe ofBe beAt leafAt leafEnd le enc uleb boxBytes baseFront baseBack baseBytes verBytes leafFront leafKey flagOf histBytes frontBytes inlineBytes remoteBytes sizeOf fits cutsFrom total pad farLen cost costsOf fars keyLen oldRun sums counted roomOf farAddr valBytes remoteFrame farFrame farFrames farAddrs oldRec oldRecs oldSlots histHead histSize histPage pageEnd history historyEnd starts histAddrs placesIn places headRec headRecs headSlots les hints leafSize leafRoom leafFrame leafImage
+unfolding p5List p7List p11List list52 list51 p7 newAnswer newArena larger common begunOf sameKey recordAt indexAt spotAt after listF wellF stepOf listNext nextOf leftOf entryOf entries wellFormed only keyBytes above risingFrom rising prefixed startsWith cmpBytes newerThan part partOr put ofLe ofBe beAt leafAt leafEnd le enc uleb boxBytes baseFront baseBack baseBytes pageBytes verBytes leafFront leafKey flagOf histBytes frontBytes inlineBytes remoteBytes sizeOf fits cutsFrom total pad remoteLen cost costsOf remotesLen keyLen oldRun sums counted roomOf remoteAddr valBytes remoteFrame remoteFrameOf remoteFrames remoteAddrs oldRec oldRecs oldSlots histHead histSize histPage pageEnd history historyEnd starts histAddrs placesIn places headRec headRecs headSlots les hints leafSize leafRoom leafFrame leafImage
 rows = (refl, refl, refl, refl, refl, refl, refl)

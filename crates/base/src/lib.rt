@@ -1,14 +1,14 @@
 // Building: a leaf or index page from a source of entries, judged on its whole input and then written strictly upward from the next free
 // address.
-use build_bounds::Edges;
+use build_bounds::Boundaries;
 use build_image::Built;
-use build_sources::Begun;
+use build_sources::Started;
 use frames::PageId;
 use frames::Refusal;
 ghost use mathlib.Core.Path.{_≡_};
 ghost use Rattle.build_image.specs.Prefix.{common};
 ghost use Rattle.build_image.specs.Call.{callOf};
-ghost use Rattle.base.specs.Calls.{boundsFrom, intlAnswer, intlArena, newAnswer, newArena};
+ghost use Rattle.base.specs.Calls.{boundsFrom, newIndexAnswer, newIndexArena, newAnswer, newArena};
 
 // The count of equal leading bytes of the boundaries; an empty hi is none.
 pub fn calc_prefix(lo: &[u8], hi: &[u8]) -> usize
@@ -44,8 +44,8 @@ pub fn new_intl(
     lsn: u64,
     checkpoint: u64,
 ) -> Built
-    ensures { λ r. ⌜ r ≡ intlAnswer (now (a .entry)) next (now (list .entry)) (callOf 0 0 group txid lsn checkpoint) (boundsFrom (now (lo .entry)) (now (hi .entry)) (sibling .0)) ⌝ }
-    ensures { λ _. ⌜ now (a .exit) ≡ intlArena (now (a .entry)) next (now (list .entry)) (callOf 0 0 group txid lsn checkpoint) (boundsFrom (now (lo .entry)) (now (hi .entry)) (sibling .0)) ⌝ }
+    ensures { λ r. ⌜ r ≡ newIndexAnswer (now (a .entry)) next (now (list .entry)) (callOf 0 0 group txid lsn checkpoint) (boundsFrom (now (lo .entry)) (now (hi .entry)) (sibling .0)) ⌝ }
+    ensures { λ _. ⌜ now (a .exit) ≡ newIndexArena (now (a .entry)) next (now (list .entry)) (callOf 0 0 group txid lsn checkpoint) (boundsFrom (now (lo .entry)) (now (hi .entry)) (sibling .0)) ⌝ }
 {
     if !build_table::bounds_ok(lo, hi) {
         return Built::Refused(Refusal::BadLimit);
@@ -55,17 +55,17 @@ pub fn new_intl(
         return Built::Refused(Refusal::BadArena);
     }
     let b = build_sources::open_index(list);
-    let Begun::From(c) = b else {
+    let Started::From(c) = b else {
         return Built::Refused(Refusal::BadList);
     };
     if !build_sources::well(list, &a[..next], c) {
         return Built::Refused(Refusal::BadList);
     }
     let m = build_image::call_of(0, 0, group, txid, lsn, checkpoint);
-    let x = build_bounds::edge_of(lo);
-    let y = build_bounds::edge_of(hi);
+    let x = build_bounds::boundary_of(lo);
+    let y = build_bounds::boundary_of(hi);
     let p = calc_prefix(lo, hi);
-    let e = Edges {
+    let e = Boundaries {
         lo: x,
         hi: y,
         prefix: p,
@@ -101,17 +101,17 @@ pub fn new_leaf(
         return Built::Refused(Refusal::BadArena);
     }
     let b = build_sources::open_records(list);
-    let Begun::From(c) = b else {
+    let Started::From(c) = b else {
         return Built::Refused(Refusal::BadList);
     };
     if !build_sources::well(list, &a[..next], c) {
         return Built::Refused(Refusal::BadList);
     }
     let m = build_image::call_of(limit, budget, group, txid, lsn, checkpoint);
-    let x = build_bounds::edge_of(lo);
-    let y = build_bounds::edge_of(hi);
+    let x = build_bounds::boundary_of(lo);
+    let y = build_bounds::boundary_of(hi);
     let p = calc_prefix(lo, hi);
-    let e = Edges {
+    let e = Boundaries {
         lo: x,
         hi: y,
         prefix: p,

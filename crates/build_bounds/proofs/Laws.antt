@@ -7,17 +7,17 @@ use native.Mathlib.Omega.{arith}
 use lib.ListN.{length}
 use Rattle.spans.proofs.Part.{length-part, part-all}
 use Rattle.build_sources.specs.Keys.{srcOf}
-use Rattle.build_bounds.specs.declared.Edge.{Edge}
-use Rattle.build_bounds.specs.Edges.{Within, edgeBytes, edgeOf}
+use Rattle.build_bounds.specs.declared.Boundary.{Boundary}
+use Rattle.build_bounds.specs.Boundaries.{Within, boundaryBytes, boundaryOf}
 
-pub length-edge : (s w : List ℕ) (e : Edge) → Within s w e → length (edgeBytes s w e) ≡ e .len
-unfolding Within edgeBytes
-length-edge s w e h = length-part (srcOf s w (e .low)) (e .at) (e .len) h
+pub length-boundary : (s w : List ℕ) (e : Boundary) → Within s w e → length (boundaryBytes s w e) ≡ e .len
+unfolding Within boundaryBytes
+length-boundary s w e h = length-part (srcOf s w (e .ground)) (e .at) (e .len) h
 
-pub edge-whole : (s w : List ℕ) → edgeBytes s w (edgeOf s) ≡ s
-unfolding edgeBytes
-edge-whole s w = part-all s
+pub boundary-whole : (s w : List ℕ) → boundaryBytes s w (boundaryOf s) ≡ s
+unfolding boundaryBytes
+boundary-whole s w = part-all s
 
-pub edge-within : (s w : List ℕ) → Within s w (edgeOf s)
+pub boundary-within : (s w : List ℕ) → Within s w (boundaryOf s)
 unfolding Within
-edge-within s w = omega arith
+boundary-within s w = omega arith

@@ -1,2 +1,2 @@
 -- The crate's definitions.
-pub mod Edges
+pub mod Boundaries

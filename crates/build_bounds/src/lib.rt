@@ -5,40 +5,40 @@ ghost use mathlib.Core.Path.{_≡_};
 ghost use Prim.Native.Nat.{_+_, _≤_};
 ghost use lib.ListN.{length, take};
 ghost use Rattle.spans.specs.Span.{put};
-ghost use Rattle.build_bounds.specs.Edges.{Within, edgeBytes, edgeOf};
+ghost use Rattle.build_bounds.specs.Boundaries.{Within, boundaryBytes, boundaryOf};
 
 // One boundary's place.
-pub struct Edge {
-    pub low: bool,
+pub struct Boundary {
+    pub ground: bool,
     pub at: usize,
     pub len: usize,
 }
 
 // Both, the count of their common bytes, and the right sibling.
-pub struct Edges {
-    pub lo: Edge,
-    pub hi: Edge,
+pub struct Boundaries {
+    pub lo: Boundary,
+    pub hi: Boundary,
     pub prefix: usize,
     pub sibling: PageId,
 }
 
 // A boundary that is a whole lent slice.
-pub fn edge_of(s: &[u8]) -> Edge
-    ensures { λ r. ⌜ r ≡ edgeOf (now (s .entry)) ⌝ }
+pub fn boundary_of(s: &[u8]) -> Boundary
+    ensures { λ r. ⌜ r ≡ boundaryOf (now (s .entry)) ⌝ }
 {
-    Edge {
-        low: false,
+    Boundary {
+        ground: false,
         at: 0,
         len: s.len(),
     }
 }
 
 // Stores a boundary from at on.
-pub fn put_edge(a: &mut [u8], low: usize, s: &[u8], e: Edge, at: usize)
-    requires { ⌜ low ≤ at ⌝ }
+pub fn put_boundary(a: &mut [u8], ground: usize, s: &[u8], e: Boundary, at: usize)
+    requires { ⌜ ground ≤ at ⌝ }
     requires { ⌜ at + e .len ≤ length (now a) ⌝ }
-    requires { ⌜ Within (now s) (take low (now a)) e ⌝ }
-    ensures { λ _. ⌜ now (a .exit) ≡ put (now (a .entry)) at (edgeBytes (now (s .entry)) (take low (now (a .entry))) e) ⌝ }
+    requires { ⌜ Within (now s) (take ground (now a)) e ⌝ }
+    ensures { λ _. ⌜ now (a .exit) ≡ put (now (a .entry)) at (boundaryBytes (now (s .entry)) (take ground (now (a .entry))) e) ⌝ }
 {
-    build_history::copy_part(a, low, s, e.low, e.at, e.len, at);
+    build_history::copy_part(a, ground, s, e.ground, e.at, e.len, at);
 }

@@ -19,6 +19,6 @@ use Rattle.build_heads.proofs.head_recs.Reads as recs
 pub old-run-decided : (κs : Lfts 2) (l w : RefT (List ℕ)) (c : Cursor) (x : AtExit run-fn.ended κs) → Decides (λ (r : ℕ). run.Post κs (l, (w, (c, tt))) r x) (λ (r : ℕ). r)
 old-run-decided κs l w c x = decides (λ (r : ℕ). r) (oldRun (entries (now l) (now w) c))
 
-pub head-recs-decided : (κs : Lfts 2) (a : RefT (List ℕ)) (low : ℕ) (l : RefT (List ℕ)) (c : Cursor) (at p : ℕ) (m : Call) (first far r r′ : ℕ) (x x′ : AtExit recs-fn.ended κs)
-    → recs.Post κs (a, (low, (l, (c, (at, (p, (m, (first, (far, tt))))))))) r x → recs.Post κs (a, (low, (l, (c, (at, (p, (m, (first, (far, tt))))))))) r′ x′ → (r ≡ r′) × (now (x .0) ≡ now (x′ .0))
-head-recs-decided κs a low l c at p m first far r r′ x x′ h k = (h .0 ∙ sym (k .0), h .1 ∙ sym (k .1))
+pub head-recs-decided : (κs : Lfts 2) (a : RefT (List ℕ)) (ground : ℕ) (l : RefT (List ℕ)) (c : Cursor) (at p : ℕ) (m : Call) (first remote r r′ : ℕ) (x x′ : AtExit recs-fn.ended κs)
+    → recs.Post κs (a, (ground, (l, (c, (at, (p, (m, (first, (remote, tt))))))))) r x → recs.Post κs (a, (ground, (l, (c, (at, (p, (m, (first, (remote, tt))))))))) r′ x′ → (r ≡ r′) × (now (x .0) ≡ now (x′ .0))
+head-recs-decided κs a ground l c at p m first remote r r′ x x′ h k = (h .0 ∙ sym (k .0), h .1 ∙ sym (k .1))

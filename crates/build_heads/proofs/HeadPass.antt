@@ -12,39 +12,40 @@ use lib.ListN.{length, take, drop, length-append}
 use Rattle.spans.specs.Span.{put}
 use Rattle.spans.proofs.Put.{put-nil}
 use Rattle.spans.proofs.Writing.{Writing, begin, wrote, finished, front}
+use Rattle.frames.specs.Limits.{maxEntries}
 use Rattle.values.specs.declared.HistRef.{HistRef}
 use Rattle.values.specs.Vals.{histOf, histBytes, flagOf, frontBytes, inlineBytes, remoteBytes, sizeOf}
 use Rattle.build_sources.specs.declared.Cursor.{Cursor}
-use Rattle.build_sources.specs.declared.Item.{Item}
+use Rattle.build_sources.specs.declared.EntryAt.{EntryAt}
 use Rattle.build_sources.specs.Source.{Entry, Placed, entryOf, entries, only, olds, heads}
 use Rattle.build_sources.proofs.Sourced.{Found}
 use Rattle.build_image.specs.declared.Call.{Call}
-use Rattle.build_image.specs.Sizes.{farLen, keyLen, oldRun, fars}
-use Rattle.build_image.specs.Image.{Place, places, historyEnd, cutsOf, refOf, valBytes, headRec, headRecs, any}
+use Rattle.build_image.specs.Sizes.{remoteLen, keyLen, oldRun, remotesLen}
+use Rattle.build_image.specs.Image.{places, historyEnd, cutsOf, refOf, valBytes, headRec, headRecs, any, PageSlot}
 use Rattle.build_image.proofs.Leaf.{length-head}
 use Rattle.build_history.specs.Runs.{Sane}
 use Rattle.build_heads.specs.declared.Loc.{Loc}
 use Rattle.build_heads.specs.Steps.{Long}
-use Rattle.build_heads.specs.Located.{placesAt, endAt, Settled, onwardOf, recIf, farIf, runIf, namedBy}
+use Rattle.build_heads.specs.Located.{placesAt, endAt, Settled, onwardOf, recIf, remoteIf, runIf, namedBy}
 use Rattle.build_heads.proofs.Slots.{key-is, val-is}
 use Rattle.build_heads.proofs.Locating.{at-hand, end-on, some-left, first-places, first-end}
 
 -- ---- one entry's record, or none
 
-module _ (a : List ℕ) (at limit p far : ℕ) (h : HistRef) (e : Entry) where
-  pub rec-none : e .old ≡ true → (at ≡ at + length (recIf limit p far h e)) × (a ≡ put a at (recIf limit p far h e))
+module _ (a : List ℕ) (at limit p remote : ℕ) (h : HistRef) (e : Entry) where
+  pub rec-none : e .old ≡ true → (at ≡ at + length (recIf limit p remote h e)) × (a ≡ put a at (recIf limit p remote h e))
   unfolding recIf
   rec-none q = rw q (omega arith, sym (put-nil a at))
 
-  pub rec-head : e .old ≡ false → recIf limit p far h e ≡ headRec limit p far h e
+  pub rec-head : e .old ≡ false → recIf limit p remote h e ≡ headRec limit p remote h e
   unfolding recIf
   rec-head q = rw q
 
-  pub rec-room : e .old ≡ false → at + length (recIf limit p far h e) ≤ length a → at + length (headRec limit p far h e) ≤ length a
+  pub rec-room : e .old ≡ false → at + length (recIf limit p remote h e) ≤ length a → at + length (headRec limit p remote h e) ≤ length a
   rec-room q r = rw (rec-head q) at r
 
-  pub rec-one : e .old ≡ false → (n : ℕ) (a₁ : List ℕ) → n ≡ length (headRec limit p far h e) → a₁ ≡ put a at (headRec limit p far h e)
-      → (at + n ≡ at + length (recIf limit p far h e)) × (a₁ ≡ put a at (recIf limit p far h e))
+  pub rec-one : e .old ≡ false → (n : ℕ) (a₁ : List ℕ) → n ≡ length (headRec limit p remote h e) → a₁ ≡ put a at (headRec limit p remote h e)
+      → (at + n ≡ at + length (recIf limit p remote h e)) × (a₁ ≡ put a at (recIf limit p remote h e))
   rec-one q n a₁ en ea = rw (rec-head q) (ap (λ (k : ℕ). at + k) en, ea)
 
 -- its length in the words of the calls
@@ -52,10 +53,10 @@ pub some-any : (k : ℕ) → ltb 0 k ≡ any k
 some-any zero = refl
 some-any (suc k) = lt-ltb 0 (suc k) (omega arith)
 
-pub rec-long : (l w : List ℕ) (i : Item) → Placed l w i → (limit p far : ℕ) (h : HistRef) (x y : ℕ) (b : Bool) → x ≡ keyLen p (i .key .plen + i .key .klen) → y ≡ sizeOf b limit (i .vlen) → b ≡ any (h .count)
-    → x + y ≡ length (headRec limit p far h (entryOf l w i))
-rec-long l w i q limit p far h x y b ex ey eb =
-    rw (ex, ey, eb) (sym (length-head limit p far h (entryOf l w i) ∙ rw (key-is l w i q [] limit p, val-is l w i q [] limit p)))
+pub rec-long : (l w : List ℕ) (i : EntryAt) → Placed l w i → (limit p remote : ℕ) (h : HistRef) (x y : ℕ) (b : Bool) → x ≡ keyLen p (i .key .plen + i .key .klen) → y ≡ sizeOf b limit (i .vlen) → b ≡ any (h .count)
+    → x + y ≡ length (headRec limit p remote h (entryOf l w i))
+rec-long l w i q limit p remote h x y b ex ey eb =
+    rw (ex, ey, eb) (sym (length-head limit p remote h (entryOf l w i) ∙ rw (key-is l w i q [] limit p, val-is l w i q [] limit p)))
 
 -- ---- what an entry names, and its frame
 
@@ -69,30 +70,30 @@ pub named-some : (b : Bool) (k : ℕ) → b ≡ false → (k ≡ 0 → ⊥) → 
 named-some b zero e z = absurd (z refl)
 named-some b (suc k) e z = rw e
 
-pub far-none : (b : Bool) (limit n kept : ℕ) → b ≡ true → 0 ≡ farIf b limit n kept
-unfolding farIf
-far-none b limit n kept e = rw e
+pub remote-none : (b : Bool) (limit n kept : ℕ) → b ≡ true → 0 ≡ remoteIf b limit n kept
+unfolding remoteIf
+remote-none b limit n kept e = rw e
 
-pub far-one : (b : Bool) (limit n kept : ℕ) → b ≡ false → (r : ℕ) → r ≡ farLen limit n kept → r ≡ farIf b limit n kept
-unfolding farIf
-far-one b limit n kept e r q = rw e q
+pub remote-one : (b : Bool) (limit n kept : ℕ) → b ≡ false → (r : ℕ) → r ≡ remoteLen limit n kept → r ≡ remoteIf b limit n kept
+unfolding remoteIf
+remote-one b limit n kept e r q = rw e q
 
 -- ---- all records, by the first entry
 
-abbrev pub dropIf : Bool → List Place → List Place
+abbrev pub dropIf : Bool → List PageSlot → List PageSlot
 dropIf true ps = drop 1 ps
 dropIf false ps = ps
 
-pub recs-step : (limit p far : ℕ) (ps : List Place) (e : Entry) (es : List Entry)
-    → headRecs limit p far ps (e ∷ es)
-    ≡ recIf limit p far (refOf ps (runIf (e .old) (oldRun es))) e ++ headRecs limit p (far + farIf (e .old) limit (length (e .val)) (e .kept)) (dropIf (e .old) ps) es
-unfolding headRecs recIf farIf
-recs-step limit p far ps e es = go (e .old) (farLen limit (length (e .val)) (e .kept))
+pub recs-step : (limit p remote : ℕ) (ps : List PageSlot) (e : Entry) (es : List Entry)
+    → headRecs limit p remote ps (e ∷ es)
+    ≡ recIf limit p remote (refOf ps (runIf (e .old) (oldRun es))) e ++ headRecs limit p (remote + remoteIf (e .old) limit (length (e .val)) (e .kept)) (dropIf (e .old) ps) es
+unfolding headRecs recIf remoteIf
+recs-step limit p remote ps e es = go (e .old) (remoteLen limit (length (e .val)) (e .kept))
   where
     go : (b : Bool) (n : ℕ)
-        → cond b (headRecs limit p far (drop 1 ps) es) (headRec limit p far (refOf ps (oldRun es)) e ++ headRecs limit p (far + n) ps es)
-        ≡ cond b [] (headRec limit p far (refOf ps (runIf b (oldRun es))) e) ++ headRecs limit p (far + cond b 0 n) (dropIf b ps) es
-    go true n = ap (λ (k : ℕ). headRecs limit p k (drop 1 ps) es) (sym (add-zero far))
+        → cond b (headRecs limit p remote (drop 1 ps) es) (headRec limit p remote (refOf ps (oldRun es)) e ++ headRecs limit p (remote + n) ps es)
+        ≡ cond b [] (headRec limit p remote (refOf ps (runIf b (oldRun es))) e) ++ headRecs limit p (remote + cond b 0 n) (dropIf b ps) es
+    go true n = ap (λ (k : ℕ). headRecs limit p k (drop 1 ps) es) (sym (add-zero remote))
     go false n = refl
 
 olds-old : (e : Entry) (es : List Entry) → e .old ≡ true → olds (e ∷ es) ≡ e ∷ olds es
@@ -104,10 +105,10 @@ unfolding only
 olds-head e es q = rw q
 
 -- without old versions nothing of a place is stored
-zero-ref : (limit p far : ℕ) (ps : List Place) (x y : ℕ) (e : Entry) → headRec limit p far (refOf ps 0) e ≡ headRec limit p far (histOf x y 0) e
+zero-ref : (limit p remote : ℕ) (ps : List PageSlot) (x y : ℕ) (e : Entry) → headRec limit p remote (refOf ps 0) e ≡ headRec limit p remote (histOf x y 0) e
 unfolding headRec valBytes inlineBytes remoteBytes frontBytes histBytes flagOf
-zero-ref limit p far [] x y e = refl
-zero-ref limit p far (q ∷ ps) x y e = refl
+zero-ref limit p remote [] x y e = refl
+zero-ref limit p remote (q ∷ ps) x y e = refl
 
 positive : (n : ℕ) → (n ≡ 0 → ⊥) → 0 < n
 positive n h = omega (arith, h)
@@ -124,7 +125,7 @@ run-some (x ∷ es) k q n = go (x .old) q n
 
 ref-hand : (limit budget : ℕ) (os : List Entry) (q : Loc) (k : ℕ) → (os ≡ [] → ⊥) → 0 < q .left → refOf (placesAt limit budget q os) k ≡ histOf (q .page) (q .slot) k
 ref-hand limit budget [] q k n h = absurd (n refl)
-ref-hand limit budget (x ∷ os) q k n h = ap (λ (ps : List Place). refOf ps k) (at-hand limit budget x os q h)
+ref-hand limit budget (x ∷ os) q k n h = ap (λ (ps : List PageSlot). refOf ps k) (at-hand limit budget x os q h)
 
 module _ (limit budget : ℕ) (e : Entry) (es : List Entry) (loc q : Loc) where
   -- the places behind this entry
@@ -148,45 +149,45 @@ module _ (limit budget : ℕ) (e : Entry) (es : List Entry) (loc q : Loc) where
       some-left limit budget e (olds es) true loc q s₁ refl
   left-on false eb k s t = absurd (let z : _≡_ {A = ℕ} 0 1 = cc in omega arith)
 
-  pub slots-on : (b : Bool) → (b ≡ true → 1 ≤ q .left) → q .slot + q .left ≤ 65535 → onwardOf b q .slot + onwardOf b q .left ≤ 65535
+  pub slots-on : (b : Bool) → (b ≡ true → 1 ≤ q .left) → q .slot + q .left ≤ maxEntries → onwardOf b q .slot + onwardOf b q .left ≤ maxEntries
   slots-on true l h = let z = l refl in omega arith
   slots-on false l h = h
 
   -- the reference that the locator gives is the one named
-  pub ref-on : (p far : ℕ) (b : Bool) → e .old ≡ b → (k : ℕ) → k ≡ runIf b (oldRun es) → Settled limit budget (olds (e ∷ es)) (namedBy b k) loc q
-      → recIf limit p far (refOf (placesAt limit budget loc (olds (e ∷ es))) k) e ≡ recIf limit p far (histOf (q .page) (q .slot) k) e
+  pub ref-on : (p remote : ℕ) (b : Bool) → e .old ≡ b → (k : ℕ) → k ≡ runIf b (oldRun es) → Settled limit budget (olds (e ∷ es)) (namedBy b k) loc q
+      → recIf limit p remote (refOf (placesAt limit budget loc (olds (e ∷ es))) k) e ≡ recIf limit p remote (histOf (q .page) (q .slot) k) e
   unfolding recIf
-  ref-on p far true eb k ek s = rw eb
-  ref-on p far false eb zero ek s = ap (λ (x : List ℕ). cond (e .old) [] x) (zero-ref limit p far (placesAt limit budget loc (olds (e ∷ es))) (q .page) (q .slot) e)
-  ref-on p far false eb (suc k) ek s =
+  ref-on p remote true eb k ek s = rw eb
+  ref-on p remote false eb zero ek s = ap (λ (x : List ℕ). cond (e .old) [] x) (zero-ref limit p remote (placesAt limit budget loc (olds (e ∷ es))) (q .page) (q .slot) e)
+  ref-on p remote false eb (suc k) ek s =
       let n : olds (e ∷ es) ≡ [] → ⊥ = λ z. run-some es k ek (sym (olds-head e es eb) ∙ z) in
       let r : refOf (placesAt limit budget loc (olds (e ∷ es))) (suc k) ≡ histOf (q .page) (q .slot) (suc k) =
-      ap (λ (ps : List Place). refOf ps (suc k)) (sym (s .same)) ∙ ref-hand limit budget (olds (e ∷ es)) q (suc k) n (positive (q .left) (λ z. n (s .some refl z))) in
-      ap (λ (h : HistRef). cond (e .old) [] (headRec limit p far h e)) r
+      ap (λ (ps : List PageSlot). refOf ps (suc k)) (sym (s .same)) ∙ ref-hand limit budget (olds (e ∷ es)) q (suc k) n (positive (q .left) (λ z. n (s .some refl z))) in
+      ap (λ (h : HistRef). cond (e .old) [] (headRec limit p remote h e)) r
 
-  pub recs-open : (p far : ℕ) (b : Bool) → e .old ≡ b → (n kept : ℕ) → length (e .val) ≡ n → e .kept ≡ kept → (k : ℕ) → k ≡ runIf b (oldRun es) → Settled limit budget (olds (e ∷ es)) (namedBy b k) loc q
-      → headRecs limit p far (placesAt limit budget loc (olds (e ∷ es))) (e ∷ es)
-      ≡ recIf limit p far (histOf (q .page) (q .slot) k) e ++ headRecs limit p (far + farIf b limit n kept) (placesAt limit budget (onwardOf b q) (olds es)) es
-  recs-open p far b eb n kept en ep k ek s =
+  pub recs-open : (p remote : ℕ) (b : Bool) → e .old ≡ b → (n kept : ℕ) → length (e .val) ≡ n → e .kept ≡ kept → (k : ℕ) → k ≡ runIf b (oldRun es) → Settled limit budget (olds (e ∷ es)) (namedBy b k) loc q
+      → headRecs limit p remote (placesAt limit budget loc (olds (e ∷ es))) (e ∷ es)
+      ≡ recIf limit p remote (histOf (q .page) (q .slot) k) e ++ headRecs limit p (remote + remoteIf b limit n kept) (placesAt limit budget (onwardOf b q) (olds es)) es
+  recs-open p remote b eb n kept en ep k ek s =
       let ps = placesAt limit budget loc (olds (e ∷ es)) in
-      recs-step limit p far ps e es
-      ∙ ap (λ (o : Bool). recIf limit p far (refOf ps (runIf o (oldRun es))) e ++ headRecs limit p (far + farIf o limit (length (e .val)) (e .kept)) (dropIf o ps) es) eb
-      ∙ ap (λ (x : ℕ). recIf limit p far (refOf ps (runIf b (oldRun es))) e ++ headRecs limit p (far + farIf b limit x (e .kept)) (dropIf b ps) es) en
-      ∙ ap (λ (x : ℕ). recIf limit p far (refOf ps (runIf b (oldRun es))) e ++ headRecs limit p (far + farIf b limit n x) (dropIf b ps) es) ep
-      ∙ ap (λ (x : ℕ). recIf limit p far (refOf ps x) e ++ headRecs limit p (far + farIf b limit n kept) (dropIf b ps) es) (sym ek)
-      ∙ ap (λ (x : List ℕ). x ++ headRecs limit p (far + farIf b limit n kept) (dropIf b ps) es) (ref-on p far b eb k ek s)
-      ∙ ap (λ (x : List Place). recIf limit p far (histOf (q .page) (q .slot) k) e ++ headRecs limit p (far + farIf b limit n kept) x es) (places-on b eb k s)
+      recs-step limit p remote ps e es
+      ∙ ap (λ (o : Bool). recIf limit p remote (refOf ps (runIf o (oldRun es))) e ++ headRecs limit p (remote + remoteIf o limit (length (e .val)) (e .kept)) (dropIf o ps) es) eb
+      ∙ ap (λ (x : ℕ). recIf limit p remote (refOf ps (runIf b (oldRun es))) e ++ headRecs limit p (remote + remoteIf b limit x (e .kept)) (dropIf b ps) es) en
+      ∙ ap (λ (x : ℕ). recIf limit p remote (refOf ps (runIf b (oldRun es))) e ++ headRecs limit p (remote + remoteIf b limit n x) (dropIf b ps) es) ep
+      ∙ ap (λ (x : ℕ). recIf limit p remote (refOf ps x) e ++ headRecs limit p (remote + remoteIf b limit n kept) (dropIf b ps) es) (sym ek)
+      ∙ ap (λ (x : List ℕ). x ++ headRecs limit p (remote + remoteIf b limit n kept) (dropIf b ps) es) (ref-on p remote b eb k ek s)
+      ∙ ap (λ (x : List PageSlot). recIf limit p remote (histOf (q .page) (q .slot) k) e ++ headRecs limit p (remote + remoteIf b limit n kept) x es) (places-on b eb k s)
 
 -- ---- the pass
 
-far-by : (b : Bool) (limit n : ℕ) (e : Entry) (hs : List Entry) → fars limit (cond (not b) (e ∷ hs) hs) ≡ cond b 0 (farLen limit (length (e .val)) (e .kept)) + fars limit hs
-unfolding fars
-far-by true limit n e hs = omega arith
-far-by false limit n e hs = refl
+remote-by : (b : Bool) (limit n : ℕ) (e : Entry) (hs : List Entry) → remotesLen limit (cond (not b) (e ∷ hs) hs) ≡ cond b 0 (remoteLen limit (length (e .val)) (e .kept)) + remotesLen limit hs
+unfolding remotesLen
+remote-by true limit n e hs = omega arith
+remote-by false limit n e hs = refl
 
-fars-step : (limit : ℕ) (e : Entry) (es : List Entry) → fars limit (heads (e ∷ es)) ≡ farIf (e .old) limit (length (e .val)) (e .kept) + fars limit (heads es)
-unfolding only farIf
-fars-step limit e es = far-by (e .old) limit 0 e (heads es)
+remotes-step : (limit : ℕ) (e : Entry) (es : List Entry) → remotesLen limit (heads (e ∷ es)) ≡ remoteIf (e .old) limit (length (e .val)) (e .kept) + remotesLen limit (heads es)
+unfolding only remoteIf
+remotes-step limit e es = remote-by (e .old) limit 0 e (heads es)
 
 run-few : (es : List Entry) → oldRun es ≤ length es
 unfolding oldRun
@@ -201,33 +202,33 @@ run-if-few : (b : Bool) (k n : ℕ) → k ≤ n → runIf b k ≤ n
 run-if-few true k n h = omega arith
 run-if-few false k n h = h
 
-pub record Recording (a₀ l : List ℕ) (low : ℕ) (whole : List ℕ) (p : ℕ) (m : Call) (end : ℕ) (a : List ℕ) (c : Cursor) (to far : ℕ) (loc : Loc) : Type 0 where
-  pub writing : Writing a₀ low whole a to (headRecs (m .limit) p far (placesAt (m .limit) (m .budget) loc (olds (entries l (take low a₀) c))) (entries l (take low a₀) c))
-  pub last : to + length (headRecs (m .limit) p far (placesAt (m .limit) (m .budget) loc (olds (entries l (take low a₀) c))) (entries l (take low a₀) c)) ≡ end
-  pub long : Long p (entries l (take low a₀) c)
-  pub few : length (entries l (take low a₀) c) ≤ 65535
-  pub ends : endAt (m .limit) (m .budget) loc (olds (entries l (take low a₀) c)) ≤ length a₀
-  pub away : far + fars (m .limit) (heads (entries l (take low a₀) c)) ≤ length a₀
-  pub slots : loc .slot + loc .left ≤ 65535
+pub record Recording (a₀ l : List ℕ) (ground : ℕ) (whole : List ℕ) (p : ℕ) (m : Call) (end : ℕ) (a : List ℕ) (c : Cursor) (to remote : ℕ) (loc : Loc) : Type 0 where
+  pub writing : Writing a₀ ground whole a to (headRecs (m .limit) p remote (placesAt (m .limit) (m .budget) loc (olds (entries l (take ground a₀) c))) (entries l (take ground a₀) c))
+  pub last : to + length (headRecs (m .limit) p remote (placesAt (m .limit) (m .budget) loc (olds (entries l (take ground a₀) c))) (entries l (take ground a₀) c)) ≡ end
+  pub long : Long p (entries l (take ground a₀) c)
+  pub few : length (entries l (take ground a₀) c) ≤ maxEntries
+  pub ends : endAt (m .limit) (m .budget) loc (olds (entries l (take ground a₀) c)) ≤ length a₀
+  pub away : remote + remotesLen (m .limit) (heads (entries l (take ground a₀) c)) ≤ length a₀
+  pub slots : loc .slot + loc .left ≤ maxEntries
 
-nil-recs : (limit p far : ℕ) (ps : List Place) (es : List Entry) → es ≡ [] → headRecs limit p far ps es ≡ []
+nil-recs : (limit p remote : ℕ) (ps : List PageSlot) (es : List Entry) → es ≡ [] → headRecs limit p remote ps es ≡ []
 unfolding headRecs
-nil-recs limit p far ps es e = rw e refl
+nil-recs limit p remote ps es e = rw e refl
 
 -- the locator at the first page
-pub recs-begin : (a l : List ℕ) (low p : ℕ) (m : Call) (at first far : ℕ) (c : Cursor) → low ≤ at
-    → Long p (entries l (take low a) c)
-    → length (entries l (take low a) c) ≤ 65535
-    → historyEnd (m .limit) first (cutsOf m (entries l (take low a) c)) (olds (entries l (take low a) c)) ≤ length a
-    → far + fars (m .limit) (heads (entries l (take low a) c)) ≤ length a
-    → at + length (headRecs (m .limit) p far (places (m .limit) first (cutsOf m (entries l (take low a) c)) (olds (entries l (take low a) c))) (entries l (take low a) c)) ≤ length a
-    → Recording a l low (put a at (headRecs (m .limit) p far (places (m .limit) first (cutsOf m (entries l (take low a) c)) (olds (entries l (take low a) c))) (entries l (take low a) c))) p m
-    (at + length (headRecs (m .limit) p far (places (m .limit) first (cutsOf m (entries l (take low a) c)) (olds (entries l (take low a) c))) (entries l (take low a) c)))
-    a c at far (record { page = 0; slot = 0; left = 0; next = first })
-recs-begin a l low p m at first far c o lo fe en aw ro =
-    let os = olds (entries l (take low a) c) in
+pub recs-begin : (a l : List ℕ) (ground p : ℕ) (m : Call) (at first remote : ℕ) (c : Cursor) → ground ≤ at
+    → Long p (entries l (take ground a) c)
+    → length (entries l (take ground a) c) ≤ maxEntries
+    → historyEnd (m .limit) first (cutsOf m (entries l (take ground a) c)) (olds (entries l (take ground a) c)) ≤ length a
+    → remote + remotesLen (m .limit) (heads (entries l (take ground a) c)) ≤ length a
+    → at + length (headRecs (m .limit) p remote (places (m .limit) first (cutsOf m (entries l (take ground a) c)) (olds (entries l (take ground a) c))) (entries l (take ground a) c)) ≤ length a
+    → Recording a l ground (put a at (headRecs (m .limit) p remote (places (m .limit) first (cutsOf m (entries l (take ground a) c)) (olds (entries l (take ground a) c))) (entries l (take ground a) c))) p m
+    (at + length (headRecs (m .limit) p remote (places (m .limit) first (cutsOf m (entries l (take ground a) c)) (olds (entries l (take ground a) c))) (entries l (take ground a) c)))
+    a c at remote (record { page = 0; slot = 0; left = 0; next = first })
+recs-begin a l ground p m at first remote c o lo fe en aw ro =
+    let os = olds (entries l (take ground a) c) in
     record {
-      writing = rw (first-places (m .limit) (m .budget) first os) (begin a low at _ o ro);
+      writing = rw (first-places (m .limit) (m .budget) first os) (begin a ground at _ o ro);
       last = rw (first-places (m .limit) (m .budget) first os) refl;
       long = lo;
       few = fe;
@@ -236,93 +237,93 @@ recs-begin a l low p m at first far c o lo fe en aw ro =
       slots = omega arith;
     }
 
-pub old-of : (l w : List ℕ) (i : Item) → entryOf l w i .old ≡ i .old
+pub old-of : (l w : List ℕ) (i : EntryAt) → entryOf l w i .old ≡ i .old
 unfolding entryOf
 old-of l w i = refl
 
-kept-of : (l w : List ℕ) (i : Item) → entryOf l w i .kept ≡ i .kept .0
+kept-of : (l w : List ℕ) (i : EntryAt) → entryOf l w i .kept ≡ i .kept .0
 unfolding entryOf
 kept-of l w i = refl
 
-module _ (a₀ l : List ℕ) (low : ℕ) (whole : List ℕ) (p : ℕ) (m : Call) (end : ℕ) (a : List ℕ) (c : Cursor) (to far : ℕ) (loc : Loc) (h : Recording a₀ l low whole p m end a c to far loc) where
-  pub recs-end : entries l (take low a₀) c ≡ [] → (to ≡ end) × (a ≡ whole)
+module _ (a₀ l : List ℕ) (ground : ℕ) (whole : List ℕ) (p : ℕ) (m : Call) (end : ℕ) (a : List ℕ) (c : Cursor) (to remote : ℕ) (loc : Loc) (h : Recording a₀ l ground whole p m end a c to remote loc) where
+  pub recs-end : entries l (take ground a₀) c ≡ [] → (to ≡ end) × (a ≡ whole)
   recs-end e =
-      let n = nil-recs (m .limit) p far (placesAt (m .limit) (m .budget) loc (olds (entries l (take low a₀) c))) (entries l (take low a₀) c) e in
-      (omega (arith, h .last, ap length n), finished a₀ low whole a to _ (h .writing) n)
+      let n = nil-recs (m .limit) p remote (placesAt (m .limit) (m .budget) loc (olds (entries l (take ground a₀) c))) (entries l (take ground a₀) c) e in
+      (omega (arith, h .last, ap length n), finished a₀ ground whole a to _ (h .writing) n)
 
-  pub settle-asks : length a₀ ≤ 18446744073709551615 → Sane m → Sane m × (endAt (m .limit) (m .budget) loc (only true (entries l (take low a) c)) ≤ 18446744073709551615)
+  pub settle-asks : length a₀ ≤ 18446744073709551615 → Sane m → Sane m × (endAt (m .limit) (m .budget) loc (only true (entries l (take ground a) c)) ≤ 18446744073709551615)
   settle-asks b s = rw (h .writing .same) (s, omega (arith, h .ends))
 
-  module _ (i : Item) (d : Cursor) (f : Found l (take low a₀) c i d) where
+  module _ (i : EntryAt) (d : Cursor) (f : Found l (take ground a₀) c i d) where
     abbrev e : Entry
-    e = entryOf l (take low a₀) i
+    e = entryOf l (take ground a₀) i
 
     abbrev es : List Entry
-    es = entries l (take low a₀) d
+    es = entries l (take ground a₀) d
 
-    longs : Long p (entryOf l (take low a₀) i ∷ entries l (take low a₀) d)
+    longs : Long p (entryOf l (take ground a₀) i ∷ entries l (take ground a₀) d)
     longs = subst (λ (xs : List Entry). Long p xs) (f .list) (h .long)
 
-    fars-are : fars (m .limit) (heads (entries l (take low a₀) c)) ≡ farIf (i .old) (m .limit) (i .vlen) (i .kept .0) + fars (m .limit) (heads es)
+    remotes-are : remotesLen (m .limit) (heads (entries l (take ground a₀) c)) ≡ remoteIf (i .old) (m .limit) (i .vlen) (i .kept .0) + remotesLen (m .limit) (heads es)
     unfolding entryOf
-    fars-are = ap (λ (xs : List Entry). fars (m .limit) (heads xs)) (f .list) ∙ fars-step (m .limit) e es ∙ ap (λ (n : ℕ). farIf (i .old) (m .limit) n (i .kept .0) + fars (m .limit) (heads es)) (f .vlen)
+    remotes-are = ap (λ (xs : List Entry). remotesLen (m .limit) (heads xs)) (f .list) ∙ remotes-step (m .limit) e es ∙ ap (λ (n : ℕ). remoteIf (i .old) (m .limit) n (i .kept .0) + remotesLen (m .limit) (heads es)) (f .vlen)
 
-    pub beyond-fits : far + farIf (i .old) (m .limit) (i .vlen) (i .kept .0) ≤ length a₀
-    beyond-fits = omega (arith, fars-are, h .away)
+    pub beyond-fits : remote + remoteIf (i .old) (m .limit) (i .vlen) (i .kept .0) ≤ length a₀
+    beyond-fits = omega (arith, remotes-are, h .away)
 
-    module _ (k : ℕ) (ek : k ≡ runIf (i .old) (oldRun (entries l (take low a) d))) where
+    module _ (k : ℕ) (ek : k ≡ runIf (i .old) (oldRun (entries l (take ground a) d))) where
       k-is : k ≡ runIf (i .old) (oldRun es)
       k-is = rw (h .writing .same) at ek
 
-      pub k-few : k ≤ 65535
+      pub k-few : k ≤ maxEntries
       k-few = omega (arith, k-is, run-if-few (i .old) (oldRun es) (length es) (run-few es), ap length (f .list), h .few)
 
-      module _ (b : Bool) (eb : b ≡ namedBy (i .old) k) (q : Loc) (st : Settled (m .limit) (m .budget) (only true (entries l (take low a) c)) b loc q) where
+      module _ (b : Bool) (eb : b ≡ namedBy (i .old) k) (q : Loc) (st : Settled (m .limit) (m .budget) (only true (entries l (take ground a) c)) b loc q) where
         s : Settled (m .limit) (m .budget) (olds (e ∷ es)) (namedBy (i .old) k) loc q
         s =
-            let s₁ : Settled (m .limit) (m .budget) (olds (entries l (take low a₀) c)) b loc q = rw (h .writing .same) at st in
+            let s₁ : Settled (m .limit) (m .budget) (olds (entries l (take ground a₀) c)) b loc q = rw (h .writing .same) at st in
             let s₂ : Settled (m .limit) (m .budget) (olds (e ∷ es)) b loc q = rw (f .list) at s₁ in
             rw eb at s₂
 
-        pub q-slots : q .slot + q .left ≤ 65535
+        pub q-slots : q .slot + q .left ≤ maxEntries
         q-slots = st .slots (h .slots)
 
         pub q-left : i .old ≡ true → 1 ≤ q .left
-        q-left = left-on (m .limit) (m .budget) e es loc q (i .old) (old-of l (take low a₀) i) k s
+        q-left = left-on (m .limit) (m .budget) e es loc q (i .old) (old-of l (take ground a₀) i) k s
 
         abbrev ref : HistRef
         ref = histOf (q .page) (q .slot) k
 
-        rest-is : headRecs (m .limit) p far (placesAt (m .limit) (m .budget) loc (olds (entries l (take low a₀) c))) (entries l (take low a₀) c)
-            ≡ recIf (m .limit) p far ref e ++ headRecs (m .limit) p (far + farIf (i .old) (m .limit) (i .vlen) (i .kept .0)) (placesAt (m .limit) (m .budget) (onwardOf (i .old) q) (olds es)) es
+        rest-is : headRecs (m .limit) p remote (placesAt (m .limit) (m .budget) loc (olds (entries l (take ground a₀) c))) (entries l (take ground a₀) c)
+            ≡ recIf (m .limit) p remote ref e ++ headRecs (m .limit) p (remote + remoteIf (i .old) (m .limit) (i .vlen) (i .kept .0)) (placesAt (m .limit) (m .budget) (onwardOf (i .old) q) (olds es)) es
         rest-is =
-            ap (λ (xs : List Entry). headRecs (m .limit) p far (placesAt (m .limit) (m .budget) loc (olds xs)) xs) (f .list)
-            ∙ recs-open (m .limit) (m .budget) e es loc q p far (i .old) (old-of l (take low a₀) i) (i .vlen) (i .kept .0) (f .vlen) (kept-of l (take low a₀) i) k k-is s
+            ap (λ (xs : List Entry). headRecs (m .limit) p remote (placesAt (m .limit) (m .budget) loc (olds xs)) xs) (f .list)
+            ∙ recs-open (m .limit) (m .budget) e es loc q p remote (i .old) (old-of l (take ground a₀) i) (i .vlen) (i .kept .0) (f .vlen) (kept-of l (take ground a₀) i) k k-is s
 
         abbrev rest-then : List ℕ
-        rest-then = headRecs (m .limit) p (far + farIf (i .old) (m .limit) (i .vlen) (i .kept .0)) (placesAt (m .limit) (m .budget) (onwardOf (i .old) q) (olds es)) es
+        rest-then = headRecs (m .limit) p (remote + remoteIf (i .old) (m .limit) (i .vlen) (i .kept .0)) (placesAt (m .limit) (m .budget) (onwardOf (i .old) q) (olds es)) es
 
-        ends-are : endAt (m .limit) (m .budget) loc (olds (entries l (take low a₀) c)) ≡ endAt (m .limit) (m .budget) (onwardOf (i .old) q) (olds es)
-        ends-are = ap (λ (xs : List Entry). endAt (m .limit) (m .budget) loc (olds xs)) (f .list) ∙ ends-on (m .limit) (m .budget) e es loc q (i .old) (old-of l (take low a₀) i) k s
+        ends-are : endAt (m .limit) (m .budget) loc (olds (entries l (take ground a₀) c)) ≡ endAt (m .limit) (m .budget) (onwardOf (i .old) q) (olds es)
+        ends-are = ap (λ (xs : List Entry). endAt (m .limit) (m .budget) loc (olds xs)) (f .list) ∙ ends-on (m .limit) (m .budget) e es loc q (i .old) (old-of l (take ground a₀) i) k s
 
-        pub head-asks : (low ≤ to) × (Placed l (take low a) i × ((p ≤ i .key .plen + i .key .klen) × (to + length (recIf (m .limit) p far ref (entryOf l (take low a) i)) ≤ length a)))
+        pub head-asks : (ground ≤ to) × (Placed l (take ground a) i × ((p ≤ i .key .plen + i .key .klen) × (to + length (recIf (m .limit) p remote ref (entryOf l (take ground a) i)) ≤ length a)))
         head-asks =
             rw (h .writing .same)
-            (h .writing .over, (f .placed, (let z = longs .0 in omega (arith, z, f .klen), front a₀ low whole a to _ (recIf (m .limit) p far ref e) _ (h .writing) rest-is)))
+            (h .writing .over, (f .placed, (let z = longs .0 in omega (arith, z, f .klen), front a₀ ground whole a to _ (recIf (m .limit) p remote ref e) _ (h .writing) rest-is)))
 
-        pub recs-turn : (n : ℕ) → n ≡ farIf (i .old) (m .limit) (i .vlen) (i .kept .0) → (loc₁ : Loc) → loc₁ ≡ onwardOf (i .old) q
-            → (a₁ : List ℕ) (to₁ : ℕ) → to₁ ≡ to + length (recIf (m .limit) p far ref (entryOf l (take low a) i)) → a₁ ≡ put a to (recIf (m .limit) p far ref (entryOf l (take low a) i))
-            → Recording a₀ l low whole p m end a₁ d to₁ (far + n) loc₁
+        pub recs-turn : (n : ℕ) → n ≡ remoteIf (i .old) (m .limit) (i .vlen) (i .kept .0) → (loc₁ : Loc) → loc₁ ≡ onwardOf (i .old) q
+            → (a₁ : List ℕ) (to₁ : ℕ) → to₁ ≡ to + length (recIf (m .limit) p remote ref (entryOf l (take ground a) i)) → a₁ ≡ put a to (recIf (m .limit) p remote ref (entryOf l (take ground a) i))
+            → Recording a₀ l ground whole p m end a₁ d to₁ (remote + n) loc₁
         recs-turn n en loc₁ el a₁ to₁ et ea =
-            let t₁ : to₁ ≡ to + length (recIf (m .limit) p far ref e) = rw (h .writing .same) at et in
-            let w = wrote a₀ low whole a to _ (recIf (m .limit) p far ref e) _ a₁ to₁ (h .writing) rest-is (rw (h .writing .same) at ea) t₁ in
+            let t₁ : to₁ ≡ to + length (recIf (m .limit) p remote ref e) = rw (h .writing .same) at et in
+            let w = wrote a₀ ground whole a to _ (recIf (m .limit) p remote ref e) _ a₁ to₁ (h .writing) rest-is (rw (h .writing .same) at ea) t₁ in
             rw (en, el)
             (record {
               writing = w;
-              last = omega (arith, h .last, ap length rest-is, length-append (recIf (m .limit) p far ref e) rest-then, t₁);
+              last = omega (arith, h .last, ap length rest-is, length-append (recIf (m .limit) p remote ref e) rest-then, t₁);
               long = longs .1;
               few = omega (arith, ap length (f .list), h .few);
               ends = omega (arith, h .ends, ends-are);
-              away = omega (arith, fars-are, h .away);
+              away = omega (arith, remotes-are, h .away);
               slots = slots-on (m .limit) (m .budget) e es loc q (i .old) q-left q-slots;
             })

@@ -8,12 +8,13 @@ use native.Mathlib.Numerals.{sub-one}
 use native.Mathlib.Omega.{arith}
 use lib.ListN.{take, drop}
 use Rattle.frames.specs.Layout.{frameLen}
+use Rattle.frames.specs.Limits.{maxBudget}
 use Rattle.build_paging.specs.Cuts.{cuts}
 use Rattle.build_sources.specs.Source.{Entry}
 use Rattle.build_image.specs.declared.Call.{Call}
 use Rattle.build_image.specs.Sizes.{costsOf}
 use Rattle.build_image.specs.Image.{placesIn, places, pageEnd, historyEnd}
-use Rattle.build_history.specs.declared.Run.{Run}
+use Rattle.build_history.specs.declared.PageAhead.{PageAhead}
 use Rattle.build_history.specs.Runs.{Sane, runOf}
 use Rattle.build_history.proofs.Ahead.{Tells, tells-of}
 use Rattle.build_heads.specs.declared.Loc.{Loc}
@@ -46,11 +47,11 @@ pub stays : (limit budget : ℕ) (os : List Entry) (b : Bool) (p : Loc) → 0 < 
 stays limit budget os b p h = record { same = refl; ends = refl; some = λ _ z. absurd (omega arith); slots = λ h. h }
 
 -- the next page
-module _ (m : Call) (os : List Entry) (b : Bool) (p : Loc) (sane : Sane m) (z : p .left ≤ 0) (r : Run) (re : r ≡ runOf (m .limit) (m .budget) os) where
+module _ (m : Call) (os : List Entry) (b : Bool) (p : Loc) (sane : Sane m) (z : p .left ≤ 0) (r : PageAhead) (re : r ≡ runOf (m .limit) (m .budget) os) where
   t : Tells (m .limit) (m .budget) os r
   t = tells-of (m .limit) (m .budget) os r (sane .limit) (sane .budget) re
 
-  pub run-small : r .size ≤ 131072
+  pub run-small : r .size ≤ maxBudget
   run-small = t .small
 
   z0 : p .left ≡ 0
@@ -72,11 +73,11 @@ module _ (m : Call) (os : List Entry) (b : Bool) (p : Loc) (sane : Sane m) (z : 
     pos = omega (arith, nz)
 
     abbrev here : Loc
-    here = record { page = p .next; slot = 0; left = r .count; next = p .next + x + r .far }
+    here = record { page = p .next; slot = 0; left = r .count; next = p .next + x + r .remote }
 
-    past : p .next + x + r .far ≡ pageEnd (m .limit) (p .next) (take (r .count) os)
+    past : p .next + x + r .remote ≡ pageEnd (m .limit) (p .next) (take (r .count) os)
     unfolding pageEnd
-    past = rw (ex, t .size, t .far)
+    past = rw (ex, t .size, t .remote)
 
     same-places : placesAt (m .limit) (m .budget) here os ≡ placesAt (m .limit) (m .budget) p os
     unfolding placesAt places
@@ -89,11 +90,11 @@ module _ (m : Call) (os : List Entry) (b : Bool) (p : Loc) (sane : Sane m) (z : 
     pub turned : Settled (m .limit) (m .budget) os b p here
     turned = record { same = same-places; ends = same-end; some = λ _ e. absurd (nz e); slots = λ _. omega (arith, t .small, t .many) }
 
-    pub turned-fits : endAt (m .limit) (m .budget) p os ≤ 18446744073709551615 → p .next + x + r .far ≤ 18446744073709551615
+    pub turned-fits : endAt (m .limit) (m .budget) p os ≤ 18446744073709551615 → p .next + x + r .remote ≤ 18446744073709551615
     unfolding endAt
     turned-fits h =
         let ns = cuts (m .budget) (costsOf (m .limit) (drop (r .count) os)) in
-        omega (arith, same-end, up-history (m .limit) ns (p .next + x + r .far) (drop (r .count) os))
+        omega (arith, same-end, up-history (m .limit) ns (p .next + x + r .remote) (drop (r .count) os))
 
 -- the place at hand, and the places past it
 hand : (limit budget pg s nx : ℕ) (n : ℕ) (e : Entry) (os : List Entry) → 0 < n

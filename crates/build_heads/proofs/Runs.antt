@@ -6,7 +6,7 @@ use mathlib.Core.Bool.{Bool, true, false}
 use Prim.Native.Nat.{ℕ, suc, _+_, _≤_, _<_}
 use native.Mathlib.Omega.{arith}
 use Rattle.build_sources.specs.declared.Cursor.{Cursor}
-use Rattle.build_sources.specs.declared.Item.{Item}
+use Rattle.build_sources.specs.declared.EntryAt.{EntryAt}
 use Rattle.build_sources.specs.Source.{Entry, entryOf, entries, leftOf}
 use Rattle.build_sources.proofs.Sourced.{Found}
 use Rattle.build_image.specs.Sizes.{oldRun}
@@ -23,7 +23,7 @@ module _ (l w : List ℕ) (c₀ c : Cursor) (n : ℕ) (h : Running l w c₀ c n)
   pub run-end : entries l w c ≡ [] → n ≡ oldRun (entries l w c₀)
   run-end e = omega (arith, h .goes, run-nil e)
 
-  module _ (i : Item) (d : Cursor) (f : Found l w c i d) where
+  module _ (i : EntryAt) (d : Cursor) (f : Found l w c i d) where
     run-head : i .old ≡ false → oldRun (entries l w c) ≡ 0
     unfolding oldRun entryOf
     run-head e = rw (f .list, e) refl

@@ -6,6 +6,7 @@ use mathlib.Core.Bool.{Bool, true, false, cond}
 use Prim.Native.Nat.{ℕ, zero, suc, _+_, _-_, _/_, _%_, _≤_}
 use lib.Dec.{ltb}
 use Rattle.lengths.specs.Leb128.{enc, uleb}
+use Rattle.frames.specs.Limits.{maxValue}
 use Rattle.spans.specs.Span.{part}
 use Rattle.spans.proofs.Part.{length-part}
 use Rattle.build_sources.specs.Keys.{srcOf}
@@ -19,7 +20,7 @@ use Rattle.numbers.specs.Number.{le}
 use Rattle.numbers.proofs.Numbers.{length-le}
 use Rattle.values.specs.Vals.{sizeOf}
 use Rattle.build_sources.specs.declared.Cursor.{Cursor}
-use Rattle.build_sources.specs.declared.Item.{Item}
+use Rattle.build_sources.specs.declared.EntryAt.{EntryAt}
 use Rattle.build_sources.specs.Source.{Entry, Placed, entryOf, entries}
 use Rattle.build_sources.proofs.Sourced.{Found}
 use Rattle.build_image.specs.Sizes.{keyLen, oldRun}
@@ -31,7 +32,7 @@ pub old-none : (l w : List ℕ) (c : Cursor) → entries l w c ≡ [] → false 
 unfolding oldRun
 old-none l w c e = rw e refl
 
-pub old-some : (l w : List ℕ) (c : Cursor) (i : Item) (d : Cursor) → Found l w c i d → i .old ≡ any (oldRun (entries l w c))
+pub old-some : (l w : List ℕ) (c : Cursor) (i : EntryAt) (d : Cursor) → Found l w c i d → i .old ≡ any (oldRun (entries l w c))
 unfolding oldRun entryOf
 old-some l w c i d f = rw (f .list) (by-old (i .old) (oldRun (entries l w d)))
   where
@@ -64,14 +65,14 @@ slots-step limit p off e es = go (e .old) (keyLen p (length (e .key)) + sizeOf (
 
 -- ---- the step of one entry, in the words of its calls
 
-module _ (l w : List ℕ) (i : Item) (q : Placed l w i) (es : List Entry) (limit p : ℕ) where
+module _ (l w : List ℕ) (i : EntryAt) (q : Placed l w i) (es : List Entry) (limit p : ℕ) where
   pub key-is : length (entryOf l w i .key) ≡ i .key .plen + i .key .klen
   unfolding entryOf
-  key-is = length-key (srcOf l w (i .low)) (i .key) (q .pre) (q .rest)
+  key-is = length-key (srcOf l w (i .ground)) (i .key) (q .pre) (q .rest)
 
   pub val-is : length (entryOf l w i .val) ≡ i .vlen
   unfolding entryOf
-  val-is = length-part (srcOf l w (i .low)) (i .vat) (i .vlen) (q .val)
+  val-is = length-part (srcOf l w (i .ground)) (i .vat) (i .vlen) (q .val)
 
   old-is : entryOf l w i .old ≡ i .old
   unfolding entryOf
@@ -103,12 +104,12 @@ pub key-most : (p n : ℕ) → keyLen p n ≤ 17 + n
 unfolding keyLen
 key-most p n = omega (arith, uleb-most (12 + (n - p)))
 
-size-by : (h b : Bool) (limit n : ℕ) → n ≤ 65536 → cond h 14 0 + cond b (5 + n) 13 ≤ 65600
+size-by : (h b : Bool) (limit n : ℕ) → n ≤ maxValue → cond h 14 0 + cond b (5 + n) 13 ≤ 65600
 size-by true true limit n q = omega arith
 size-by true false limit n q = omega arith
 size-by false true limit n q = omega arith
 size-by false false limit n q = omega arith
 
-pub size-most : (h : Bool) (limit n : ℕ) → n ≤ 65536 → sizeOf h limit n ≤ 65600
+pub size-most : (h : Bool) (limit n : ℕ) → n ≤ maxValue → sizeOf h limit n ≤ 65600
 unfolding sizeOf
 size-most h limit n q = size-by h (ltb n limit) limit n q

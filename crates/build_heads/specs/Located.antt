@@ -5,15 +5,16 @@ use mathlib.Core.Path.{_≡_}
 use mathlib.Core.List.{List, [], _++_}
 use mathlib.Core.Bool.{Bool, true, false, cond}
 use lib.ListN.{drop}
+use Rattle.frames.specs.Limits.{maxEntries}
 use Rattle.build_paging.specs.Cuts.{cuts}
 use Rattle.values.specs.declared.HistRef.{HistRef}
 use Rattle.build_sources.specs.Source.{Entry}
-use Rattle.build_image.specs.Sizes.{farLen, costsOf}
-use Rattle.build_image.specs.Image.{Place, placesIn, places, historyEnd, headRec}
+use Rattle.build_image.specs.Sizes.{remoteLen, costsOf}
+use Rattle.build_image.specs.Image.{placesIn, places, historyEnd, headRec, PageSlot}
 use Rattle.build_heads.specs.declared.Loc.{Loc}
 
 -- the places of these old versions: those left in the locator's page, then those of the pages behind it
-unfoldable pub placesAt : ℕ → ℕ → Loc → List Entry → List Place
+unfoldable pub placesAt : ℕ → ℕ → Loc → List Entry → List PageSlot
 unfolding placesIn places
 placesAt limit budget p os = placesIn (p .page) (p .slot) (p .left) ++ places limit (p .next) (cuts budget (costsOf limit (drop (p .left) os))) (drop (p .left) os)
 
@@ -27,7 +28,7 @@ pub record Settled (limit budget : ℕ) (os : List Entry) (named : Bool) (p q : 
   pub same : placesAt limit budget q os ≡ placesAt limit budget p os
   pub ends : endAt limit budget q os ≡ endAt limit budget p os
   pub some : named ≡ true → q .left ≡ 0 → os ≡ []
-  pub slots : p .slot + p .left ≤ 65535 → q .slot + q .left ≤ 65535
+  pub slots : p .slot + p .left ≤ maxEntries → q .slot + q .left ≤ maxEntries
 
 -- behind an old version; a head moves nothing
 abbrev pub onwardOf : Bool → Loc → Loc
@@ -37,11 +38,11 @@ onwardOf false q = q
 -- a head's record, none for an old version
 unfoldable pub recIf : ℕ → ℕ → ℕ → HistRef → Entry → List ℕ
 unfolding headRec
-recIf limit p far h e = cond (e .old) [] (headRec limit p far h e)
+recIf limit p remote h e = cond (e .old) [] (headRec limit p remote h e)
 
 -- what a head's remote frame takes; nothing for an old version
-unfoldable pub farIf : Bool → ℕ → ℕ → ℕ → ℕ
-farIf old limit n kept = cond old 0 (farLen limit n kept)
+unfoldable pub remoteIf : Bool → ℕ → ℕ → ℕ → ℕ
+remoteIf old limit n kept = cond old 0 (remoteLen limit n kept)
 
 -- how many old versions a head names; none for an old version
 abbrev pub runIf : Bool → ℕ → ℕ

@@ -1,8 +1,8 @@
 // Head records: a leaf key without the page's prefix, and the value with its history reference; the slots and records of all heads.
 use build_image::Call;
 use build_sources::Cursor;
-use build_sources::Item;
-use build_sources::Step;
+use build_sources::EntryAt;
+use build_sources::EntryRead;
 use frames::Addr;
 use values::HistRef;
 use values::Val;
@@ -11,12 +11,13 @@ ghost use mathlib.Core.Bool.{true};
 ghost use Prim.Native.Nat.{_+_, _≤_};
 ghost use lib.ListN.{length, take, drop};
 ghost use Rattle.spans.specs.Span.{put};
+ghost use Rattle.frames.specs.Limits.{maxEntries, maxKey, maxValue};
 ghost use Rattle.build_sources.specs.Source.{Placed, entryOf, entries, only, olds, heads};
-ghost use Rattle.build_image.specs.Sizes.{keyLen, oldRun, fars};
+ghost use Rattle.build_image.specs.Sizes.{keyLen, oldRun, remotesLen};
 ghost use Rattle.build_image.specs.Image.{any, headRec, headRecs, headSlots, historyEnd, places, cutsOf};
 ghost use Rattle.build_history.specs.Runs.{Sane};
 ghost use Rattle.build_heads.specs.Steps.{slotIf, stepLen, steps, Long};
-ghost use Rattle.build_heads.specs.Located.{endAt, Settled, onwardOf, recIf, farIf, runIf, namedBy};
+ghost use Rattle.build_heads.specs.Located.{endAt, Settled, onwardOf, recIf, remoteIf, runIf, namedBy};
 
 // Where the next old version stands: its page and slot, how many of the page are left, and where the page behind it starts.
 pub struct Loc {
@@ -27,65 +28,65 @@ pub struct Loc {
 }
 
 // The key of an entry without its first p bytes, from at on; the address past it.
-pub fn put_rest(a: &mut [u8], low: usize, list: &[u8], i: Item, at: usize, p: usize) -> usize
-    requires { ⌜ low ≤ at ⌝ }
-    requires { ⌜ Placed (now list) (take low (now a)) i ⌝ }
+pub fn put_rest(a: &mut [u8], ground: usize, list: &[u8], i: EntryAt, at: usize, p: usize) -> usize
+    requires { ⌜ ground ≤ at ⌝ }
+    requires { ⌜ Placed (now list) (take ground (now a)) i ⌝ }
     requires { ⌜ p ≤ i .key .plen + i .key .klen ⌝ }
-    requires { ⌜ at + length (drop p (entryOf (now list) (take low (now a)) i .key)) ≤ length (now a) ⌝ }
-    ensures { λ r. ⌜ r ≡ at + length (drop p (entryOf (now (list .entry)) (take low (now (a .entry))) i .key)) ⌝ }
-    ensures { λ _. ⌜ now (a .exit) ≡ put (now (a .entry)) at (drop p (entryOf (now (list .entry)) (take low (now (a .entry))) i .key)) ⌝ }
+    requires { ⌜ at + length (drop p (entryOf (now list) (take ground (now a)) i .key)) ≤ length (now a) ⌝ }
+    ensures { λ r. ⌜ r ≡ at + length (drop p (entryOf (now (list .entry)) (take ground (now (a .entry))) i .key)) ⌝ }
+    ensures { λ _. ⌜ now (a .exit) ≡ put (now (a .entry)) at (drop p (entryOf (now (list .entry)) (take ground (now (a .entry))) i .key)) ⌝ }
 {
     let k = i.key;
     let n = k.plen;
     if n < p {
         let skip = p - n;
         let j = k.klen - skip;
-        build_history::copy_part(a, low, list, i.low, k.kat + skip, j, at);
+        build_history::copy_part(a, ground, list, i.ground, k.kat + skip, j, at);
         return at + j;
     }
     let f = n - p;
-    build_history::copy_part(a, low, list, i.low, k.pat + p, f, at);
+    build_history::copy_part(a, ground, list, i.ground, k.pat + p, f, at);
     let v = at + f;
     let r = k.klen;
-    build_history::copy_part(a, low, list, i.low, k.kat, r, v);
+    build_history::copy_part(a, ground, list, i.ground, k.kat, r, v);
     v + r
 }
 
 // A head's record.
 pub fn head_rec(
     a: &mut [u8],
-    low: usize,
+    ground: usize,
     list: &[u8],
-    i: Item,
+    i: EntryAt,
     at: usize,
     p: usize,
     limit: usize,
-    far: usize,
+    remote: usize,
     h: HistRef,
 )
-    requires { ⌜ low ≤ at ⌝ }
-    requires { ⌜ Placed (now list) (take low (now a)) i ⌝ }
+    requires { ⌜ ground ≤ at ⌝ }
+    requires { ⌜ Placed (now list) (take ground (now a)) i ⌝ }
     requires { ⌜ p ≤ i .key .plen + i .key .klen ⌝ }
-    requires { ⌜ at + length (headRec limit p far h (entryOf (now list) (take low (now a)) i)) ≤ length (now a) ⌝ }
-    ensures { λ _. ⌜ now (a .exit) ≡ put (now (a .entry)) at (headRec limit p far h (entryOf (now (list .entry)) (take low (now (a .entry))) i)) ⌝ }
+    requires { ⌜ at + length (headRec limit p remote h (entryOf (now list) (take ground (now a)) i)) ≤ length (now a) ⌝ }
+    ensures { λ _. ⌜ now (a .exit) ≡ put (now (a .entry)) at (headRec limit p remote h (entryOf (now (list .entry)) (take ground (now (a .entry))) i)) ⌝ }
 {
     let v = i.ver;
     let n = i.key.plen + i.key.klen - p;
     let k = values::write_leaf_front(a, at, v, n);
-    let s = put_rest(a, low, list, i, at + k, p);
-    build_history::put_val(a, low, list, i, s, h, limit, far);
+    let s = put_rest(a, ground, list, i, at + k, p);
+    build_history::put_val(a, ground, list, i, s, h, limit, remote);
 }
 
 // How many old versions stand in front.
-pub fn old_run(list: &[u8], low: &[u8], from: Cursor) -> usize
-    ensures { λ r. ⌜ r ≡ oldRun (entries (now (list .entry)) (now (low .entry)) from) ⌝ }
+pub fn old_run(list: &[u8], ground: &[u8], from: Cursor) -> usize
+    ensures { λ r. ⌜ r ≡ oldRun (entries (now (list .entry)) (now (ground .entry)) from) ⌝ }
 {
     let mut c = from;
     let mut n: usize = 0;
     loop {
-        let st = build_sources::next(list, low, c);
+        let st = build_sources::next(list, ground, c);
         match st {
-            Step::Got(i, d) => {
+            EntryRead::Got(i, d) => {
                 let old = i.old;
                 if !old {
                     return n;
@@ -93,10 +94,10 @@ pub fn old_run(list: &[u8], low: &[u8], from: Cursor) -> usize
                 n += 1;
                 c = d;
             }
-            Step::End => {
+            EntryRead::End => {
                 return n;
             }
-            Step::Bad => {
+            EntryRead::Bad => {
                 return n;
             }
         }
@@ -104,24 +105,23 @@ pub fn old_run(list: &[u8], low: &[u8], from: Cursor) -> usize
 }
 
 // Whether an old version stands in front.
-fn has_old(list: &[u8], low: &[u8], c: Cursor) -> bool
-    ensures { λ r. ⌜ r ≡ any (oldRun (entries (now (list .entry)) (now (low .entry)) c)) ⌝ }
+fn has_old(list: &[u8], ground: &[u8], c: Cursor) -> bool
+    ensures { λ r. ⌜ r ≡ any (oldRun (entries (now (list .entry)) (now (ground .entry)) c)) ⌝ }
 {
-    let st = build_sources::next(list, low, c);
+    let st = build_sources::next(list, ground, c);
     match st {
-        Step::Got(i, _) => i.old,
-        Step::End => false,
-        Step::Bad => false,
+        EntryRead::Got(i, _) => i.old,
+        EntryRead::End => false,
+        EntryRead::Bad => false,
     }
 }
 
 // The size of a leaf key of n bytes in all, p of them the page's prefix.
 pub fn key_len(p: usize, n: usize) -> usize
-    requires { ⌜ (n ≤ 4096) × (p ≤ n) ⌝ }
+    requires { ⌜ (n ≤ maxKey) × (p ≤ n) ⌝ }
     ensures { λ r. ⌜ r ≡ keyLen p n ⌝ }
 {
-    let rest = n - p;
-    lengths::size((12 + rest) as u32) + (12 + rest)
+    values::leaf_key_size((n - p) as u16)
 }
 
 // A head's slot; none for an old version. The address past it.
@@ -139,22 +139,22 @@ fn put_slot(a: &mut [u8], at: usize, off: usize, old: bool) -> usize
 }
 
 // How far behind an entry's record the next head's stands; nothing for an old version.
-fn slot_step(list: &[u8], low: &[u8], i: Item, d: Cursor, p: usize, limit: usize) -> usize
-    requires { ⌜ Placed (now list) (now low) i ⌝ }
+fn slot_step(list: &[u8], ground: &[u8], i: EntryAt, d: Cursor, p: usize, limit: usize) -> usize
+    requires { ⌜ Placed (now list) (now ground) i ⌝ }
     requires { ⌜ p ≤ i .key .plen + i .key .klen ⌝ }
-    ensures { λ r. ⌜ r ≡ stepLen limit p (entryOf (now (list .entry)) (now (low .entry)) i) (entries (now (list .entry)) (now (low .entry)) d) ⌝ }
+    ensures { λ r. ⌜ r ≡ stepLen limit p (entryOf (now (list .entry)) (now (ground .entry)) i) (entries (now (list .entry)) (now (ground .entry)) d) ⌝ }
 {
     if i.old {
         return 0;
     }
-    let h = has_old(list, low, d);
+    let h = has_old(list, ground, d);
     key_len(p, i.key.plen + i.key.klen) + Val::calc_size(h, limit, i.vlen as u32)
 }
 
 // The slots of all heads; first is the first record's offset.
 pub fn head_slots(
     a: &mut [u8],
-    low: usize,
+    ground: usize,
     list: &[u8],
     from: Cursor,
     at: usize,
@@ -162,29 +162,29 @@ pub fn head_slots(
     p: usize,
     limit: usize,
 )
-    requires { ⌜ low ≤ at ⌝ }
-    requires { ⌜ Long p (entries (now list) (take low (now a)) from) ⌝ }
-    requires { ⌜ at + length (headSlots limit p first (entries (now list) (take low (now a)) from)) ≤ length (now a) ⌝ }
-    requires { ⌜ first + steps limit p (entries (now list) (take low (now a)) from) ≤ 4294967295 ⌝ }
-    ensures { λ _. ⌜ now (a .exit) ≡ put (now (a .entry)) at (headSlots limit p first (entries (now (list .entry)) (take low (now (a .entry))) from)) ⌝ }
+    requires { ⌜ ground ≤ at ⌝ }
+    requires { ⌜ Long p (entries (now list) (take ground (now a)) from) ⌝ }
+    requires { ⌜ at + length (headSlots limit p first (entries (now list) (take ground (now a)) from)) ≤ length (now a) ⌝ }
+    requires { ⌜ first + steps limit p (entries (now list) (take ground (now a)) from) ≤ 4294967295 ⌝ }
+    ensures { λ _. ⌜ now (a .exit) ≡ put (now (a .entry)) at (headSlots limit p first (entries (now (list .entry)) (take ground (now (a .entry))) from)) ⌝ }
 {
     let mut c = from;
     let mut to = at;
     let mut off = first;
     loop {
-        let st = build_sources::next(list, &a[..low], c);
+        let st = build_sources::next(list, &a[..ground], c);
         match st {
-            Step::Got(i, d) => {
-                let n = slot_step(list, &a[..low], i, d, p, limit);
+            EntryRead::Got(i, d) => {
+                let n = slot_step(list, &a[..ground], i, d, p, limit);
                 let old = i.old;
                 to = put_slot(a, to, off, old);
                 off += n;
                 c = d;
             }
-            Step::End => {
+            EntryRead::End => {
                 return;
             }
-            Step::Bad => {
+            EntryRead::Bad => {
                 return;
             }
         }
@@ -194,10 +194,10 @@ pub fn head_slots(
 // ---- records
 
 // The locator with a place at hand, where one is to be named. It looks ahead once a page.
-fn settle(list: &[u8], low: &[u8], c: Cursor, p: Loc, named: bool, m: Call) -> Loc
+fn settle(list: &[u8], ground: &[u8], c: Cursor, p: Loc, named: bool, m: Call) -> Loc
     requires { ⌜ Sane m ⌝ }
-    requires { ⌜ endAt (m .limit) (m .budget) p (only true (entries (now list) (now low) c)) ≤ 18446744073709551615 ⌝ }
-    ensures { λ r. ⌜ Settled (m .limit) (m .budget) (only true (entries (now (list .entry)) (now (low .entry)) c)) named p r ⌝ }
+    requires { ⌜ endAt (m .limit) (m .budget) p (only true (entries (now list) (now ground) c)) ≤ 18446744073709551615 ⌝ }
+    ensures { λ r. ⌜ Settled (m .limit) (m .budget) (only true (entries (now (list .entry)) (now (ground .entry)) c)) named p r ⌝ }
 {
     if !named {
         return p;
@@ -206,7 +206,7 @@ fn settle(list: &[u8], low: &[u8], c: Cursor, p: Loc, named: bool, m: Call) -> L
     if left > 0 {
         return p;
     }
-    let s = build_history::look_ahead(list, low, c, m.limit, m.budget);
+    let s = build_history::look_ahead(list, ground, c, m.limit, m.budget);
     let r = s.run;
     let n = r.count;
     if n == 0 {
@@ -214,7 +214,7 @@ fn settle(list: &[u8], low: &[u8], c: Cursor, p: Loc, named: bool, m: Call) -> L
     }
     let start = p.next;
     let end = start + frames::frame_len(r.size as u32);
-    let behind = end + r.far;
+    let behind = end + r.remote;
     Loc {
         page: start,
         slot: 0,
@@ -226,7 +226,7 @@ fn settle(list: &[u8], low: &[u8], c: Cursor, p: Loc, named: bool, m: Call) -> L
 // The locator behind an entry.
 fn onward(q: Loc, old: bool) -> Loc
     requires { ⌜ (old ≡ true → 1 ≤ q .left) ⌝ }
-    requires { ⌜ q .slot + q .left ≤ 65535 ⌝ }
+    requires { ⌜ q .slot + q .left ≤ maxEntries ⌝ }
     ensures { λ r. ⌜ r ≡ onwardOf old q ⌝ }
 {
     if !old {
@@ -241,13 +241,13 @@ fn onward(q: Loc, old: bool) -> Loc
 }
 
 // How many old versions an entry names: those behind a head.
-fn run_of(list: &[u8], low: &[u8], d: Cursor, old: bool) -> usize
-    ensures { λ r. ⌜ r ≡ runIf old (oldRun (entries (now (list .entry)) (now (low .entry)) d)) ⌝ }
+fn run_of(list: &[u8], ground: &[u8], d: Cursor, old: bool) -> usize
+    ensures { λ r. ⌜ r ≡ runIf old (oldRun (entries (now (list .entry)) (now (ground .entry)) d)) ⌝ }
 {
     if old {
         return 0;
     }
-    old_run(list, low, d)
+    old_run(list, ground, d)
 }
 
 // Whether an entry needs a place: an old version, or a head with old versions behind it.
@@ -264,36 +264,36 @@ fn names(old: bool, k: usize) -> bool
 }
 
 // The remote frame that an entry's head takes; nothing for an old version.
-fn far_step(i: Item, limit: usize) -> usize
-    requires { ⌜ i .vlen ≤ 65536 ⌝ }
-    ensures { λ r. ⌜ r ≡ farIf (i .old) limit (i .vlen) (i .kept .0) ⌝ }
+fn remote_step(i: EntryAt, limit: usize) -> usize
+    requires { ⌜ i .vlen ≤ maxValue ⌝ }
+    ensures { λ r. ⌜ r ≡ remoteIf (i .old) limit (i .vlen) (i .kept .0) ⌝ }
 {
     let old = i.old;
     let kept = i.kept;
     if old {
         return 0;
     }
-    build_image::far_len(limit, i.vlen, kept)
+    build_image::remote_len(limit, i.vlen, kept)
 }
 
 // A head's record; none for an old version. The address past it.
 fn put_head(
     a: &mut [u8],
-    low: usize,
+    ground: usize,
     list: &[u8],
-    i: Item,
+    i: EntryAt,
     at: usize,
     p: usize,
     limit: usize,
-    far: usize,
+    remote: usize,
     h: HistRef,
 ) -> usize
-    requires { ⌜ low ≤ at ⌝ }
-    requires { ⌜ Placed (now list) (take low (now a)) i ⌝ }
+    requires { ⌜ ground ≤ at ⌝ }
+    requires { ⌜ Placed (now list) (take ground (now a)) i ⌝ }
     requires { ⌜ p ≤ i .key .plen + i .key .klen ⌝ }
-    requires { ⌜ at + length (recIf limit p far h (entryOf (now list) (take low (now a)) i)) ≤ length (now a) ⌝ }
-    ensures { λ r. ⌜ r ≡ at + length (recIf limit p far h (entryOf (now (list .entry)) (take low (now (a .entry))) i)) ⌝ }
-    ensures { λ _. ⌜ now (a .exit) ≡ put (now (a .entry)) at (recIf limit p far h (entryOf (now (list .entry)) (take low (now (a .entry))) i)) ⌝ }
+    requires { ⌜ at + length (recIf limit p remote h (entryOf (now list) (take ground (now a)) i)) ≤ length (now a) ⌝ }
+    ensures { λ r. ⌜ r ≡ at + length (recIf limit p remote h (entryOf (now (list .entry)) (take ground (now (a .entry))) i)) ⌝ }
+    ensures { λ _. ⌜ now (a .exit) ≡ put (now (a .entry)) at (recIf limit p remote h (entryOf (now (list .entry)) (take ground (now (a .entry))) i)) ⌝ }
 {
     let old = i.old;
     if old {
@@ -301,35 +301,35 @@ fn put_head(
     }
     let k = key_len(p, i.key.plen + i.key.klen);
     let n = k + Val::calc_size(h.count > 0, limit, i.vlen as u32);
-    head_rec(a, low, list, i, at, p, limit, far, h);
+    head_rec(a, ground, list, i, at, p, limit, remote, h);
     at + n
 }
 
 // The records of all heads; the address past them. History stands from first on; the first new remote frame of a head stands at far.
 pub fn head_recs(
     a: &mut [u8],
-    low: usize,
+    ground: usize,
     list: &[u8],
     from: Cursor,
     at: usize,
     p: usize,
     m: Call,
     first: usize,
-    far: usize,
+    remote: usize,
 ) -> usize
-    requires { ⌜ low ≤ at ⌝ }
+    requires { ⌜ ground ≤ at ⌝ }
     requires { ⌜ Sane m ⌝ }
-    requires { ⌜ Long p (entries (now list) (take low (now a)) from) ⌝ }
-    requires { ⌜ length (entries (now list) (take low (now a)) from) ≤ 65535 ⌝ }
-    requires { ⌜ historyEnd (m .limit) first (cutsOf m (entries (now list) (take low (now a)) from)) (olds (entries (now list) (take low (now a)) from)) ≤ length (now a) ⌝ }
-    requires { ⌜ far + fars (m .limit) (heads (entries (now list) (take low (now a)) from)) ≤ length (now a) ⌝ }
-    requires { ⌜ at + length (headRecs (m .limit) p far (places (m .limit) first (cutsOf m (entries (now list) (take low (now a)) from)) (olds (entries (now list) (take low (now a)) from))) (entries (now list) (take low (now a)) from)) ≤ length (now a) ⌝ }
-    ensures { λ r. ⌜ r ≡ at + length (headRecs (m .limit) p far (places (m .limit) first (cutsOf m (entries (now (list .entry)) (take low (now (a .entry))) from)) (olds (entries (now (list .entry)) (take low (now (a .entry))) from))) (entries (now (list .entry)) (take low (now (a .entry))) from)) ⌝ }
-    ensures { λ _. ⌜ now (a .exit) ≡ put (now (a .entry)) at (headRecs (m .limit) p far (places (m .limit) first (cutsOf m (entries (now (list .entry)) (take low (now (a .entry))) from)) (olds (entries (now (list .entry)) (take low (now (a .entry))) from))) (entries (now (list .entry)) (take low (now (a .entry))) from)) ⌝ }
+    requires { ⌜ Long p (entries (now list) (take ground (now a)) from) ⌝ }
+    requires { ⌜ length (entries (now list) (take ground (now a)) from) ≤ maxEntries ⌝ }
+    requires { ⌜ historyEnd (m .limit) first (cutsOf m (entries (now list) (take ground (now a)) from)) (olds (entries (now list) (take ground (now a)) from)) ≤ length (now a) ⌝ }
+    requires { ⌜ remote + remotesLen (m .limit) (heads (entries (now list) (take ground (now a)) from)) ≤ length (now a) ⌝ }
+    requires { ⌜ at + length (headRecs (m .limit) p remote (places (m .limit) first (cutsOf m (entries (now list) (take ground (now a)) from)) (olds (entries (now list) (take ground (now a)) from))) (entries (now list) (take ground (now a)) from)) ≤ length (now a) ⌝ }
+    ensures { λ r. ⌜ r ≡ at + length (headRecs (m .limit) p remote (places (m .limit) first (cutsOf m (entries (now (list .entry)) (take ground (now (a .entry))) from)) (olds (entries (now (list .entry)) (take ground (now (a .entry))) from))) (entries (now (list .entry)) (take ground (now (a .entry))) from)) ⌝ }
+    ensures { λ _. ⌜ now (a .exit) ≡ put (now (a .entry)) at (headRecs (m .limit) p remote (places (m .limit) first (cutsOf m (entries (now (list .entry)) (take ground (now (a .entry))) from)) (olds (entries (now (list .entry)) (take ground (now (a .entry))) from))) (entries (now (list .entry)) (take ground (now (a .entry))) from)) ⌝ }
 {
     let mut c = from;
     let mut to = at;
-    let mut next = far;
+    let mut next = remote;
     let mut loc = Loc {
         page: 0,
         slot: 0,
@@ -337,28 +337,28 @@ pub fn head_recs(
         next: first,
     };
     loop {
-        let st = build_sources::next(list, &a[..low], c);
+        let st = build_sources::next(list, &a[..ground], c);
         match st {
-            Step::Got(i, d) => {
+            EntryRead::Got(i, d) => {
                 let old = i.old;
-                let k = run_of(list, &a[..low], d, old);
+                let k = run_of(list, &a[..ground], d, old);
                 let named = names(old, k);
-                let q = settle(list, &a[..low], c, loc, named, m);
+                let q = settle(list, &a[..ground], c, loc, named, m);
                 let h = HistRef {
                     page: Addr(q.page as u64),
                     slot: q.slot as u16,
                     count: k as u32,
                 };
-                let beyond = next + far_step(i, m.limit);
-                to = put_head(a, low, list, i, to, p, m.limit, next, h);
+                let beyond = next + remote_step(i, m.limit);
+                to = put_head(a, ground, list, i, to, p, m.limit, next, h);
                 next = beyond;
                 loc = onward(q, old);
                 c = d;
             }
-            Step::End => {
+            EntryRead::End => {
                 return to;
             }
-            Step::Bad => {
+            EntryRead::Bad => {
                 return to;
             }
         }

@@ -7,42 +7,44 @@ use Prim.Native.Nat.{ℕ, zero, suc, _+_, _-_, _*_, _≤_, _<_}
 use native.Mathlib.Omega.{arith}
 use lib.ListN.{length, take, drop}
 use lib.Seq.{length-take-le}
+use Rattle.frames.specs.Layout.{baseLen}
+use Rattle.frames.specs.Limits.{maxBudget, maxLimit}
 use Rattle.values.specs.Vals.{sizeOf}
-use Rattle.build_paging.specs.Cuts.{pageStart, fits, taken, cuts, firstCut, some, total}
+use Rattle.build_paging.specs.Cuts.{fits, taken, cuts, firstCut, some, total}
 use Rattle.build_paging.proofs.Cutting.{taken-more, taken-stop, taken-nil, taken-long, told, more, page-most, fits-says, fits-not}
 use Rattle.build_sources.specs.declared.Cursor.{Cursor}
-use Rattle.build_sources.specs.declared.Item.{Item}
+use Rattle.build_sources.specs.declared.EntryAt.{EntryAt}
 use Rattle.build_sources.specs.Source.{Entry, entryOf, entries, only, Chosen, Skipped}
-use Rattle.build_image.specs.Sizes.{farLen, valLen, cost, costsOf, fars}
+use Rattle.build_image.specs.Sizes.{remoteLen, valLen, cost, costsOf, remotesLen}
 use Rattle.build_image.specs.Image.{histSize, linkTo}
-use Rattle.build_image.proofs.Lengths.{size-some, far-most, cost-some, costs-many, costs-take, costs-drop, costs-length}
-use Rattle.build_history.specs.declared.Run.{Run}
+use Rattle.build_image.proofs.Lengths.{size-some, remote-most, cost-some, costs-many, costs-take, costs-drop, costs-length}
+use Rattle.build_history.specs.declared.PageAhead.{PageAhead}
 use Rattle.build_history.specs.Runs.{any, runAt, runOf}
 use mathlib.Core.Logic.{_⊎_, ⊎-elim}
 
-abbrev pub run : ℕ → ℕ → ℕ → Bool → Run
-run n t f b = record { count = n; size = t; far = f; more = b }
+abbrev pub run : ℕ → ℕ → ℕ → Bool → PageAhead
+run n t f b = record { count = n; size = t; remote = f; more = b }
 
 run-eq : (n n′ t t′ f f′ : ℕ) (b b′ : Bool) → n ≡ n′ → t ≡ t′ → f ≡ f′ → b ≡ b′ → run n t f b ≡ run n′ t′ f′ b′
 run-eq n n′ t t′ f f′ b b′ p q r s = rw (p, q, r, s) refl
 
 -- the page under way with k more: n stand in it, it is t long, its remote frames f, and these are to come
-abbrev pub runWith : ℕ → ℕ → ℕ → ℕ → ℕ → List Entry → Run
-runWith limit k n t f es = run (n + k) (t + total (costsOf limit (take k es))) (f + fars limit (take k es)) (any (drop k es))
+abbrev pub runWith : ℕ → ℕ → ℕ → ℕ → ℕ → List Entry → PageAhead
+runWith limit k n t f es = run (n + k) (t + total (costsOf limit (take k es))) (f + remotesLen limit (take k es)) (any (drop k es))
 
-abbrev pub runFrom : ℕ → ℕ → ℕ → ℕ → ℕ → List Entry → Run
+abbrev pub runFrom : ℕ → ℕ → ℕ → ℕ → ℕ → List Entry → PageAhead
 runFrom limit budget n t f es = runWith limit (taken budget n t (costsOf limit es)) n t f es
 
 module _ (limit budget : ℕ) where
-  from-first : (os : List Entry) → runFrom limit budget 0 pageStart 0 os ≡ runOf limit budget os
+  from-first : (os : List Entry) → runFrom limit budget 0 baseLen 0 os ≡ runOf limit budget os
   unfolding runOf histSize
   from-first os =
       let k = firstCut budget (costsOf limit os) in
-      run-eq (0 + k) k _ _ (0 + fars limit (take k os)) (fars limit (take k os)) _ _ (omega arith) refl (omega arith) refl
+      run-eq (0 + k) k _ _ (0 + remotesLen limit (take k os)) (remotesLen limit (take k os)) _ _ (omega arith) refl (omega arith) refl
 
   module _ (n t f : ℕ) where
     none-more : (k : ℕ) (es : List Entry) → k ≡ 0 → run n t f (any es) ≡ runWith limit k n t f es
-    unfolding costsOf total fars
+    unfolding costsOf total remotesLen
     none-more k es e = rw e (run-eq n (n + 0) t (t + 0) f (f + 0) (any es) (any es) (omega arith) (omega arith) (omega arith) refl)
 
     taken-none : (es : List Entry) → es ≡ [] → taken budget n t (costsOf limit es) ≡ 0
@@ -60,12 +62,12 @@ module _ (limit budget : ℕ) where
     from-stop e es h = none-more (taken budget n t (costsOf limit (e ∷ es))) (e ∷ es) (stops e es h)
 
     one-more : (k j : ℕ) (e : Entry) (es : List Entry) → k ≡ suc j
-        → runWith limit k n t f (e ∷ es) ≡ runWith limit j (n + 1) (t + cost limit e) (f + farLen limit (length (e .val)) (e .kept)) es
-    unfolding costsOf total fars
+        → runWith limit k n t f (e ∷ es) ≡ runWith limit j (n + 1) (t + cost limit e) (f + remoteLen limit (length (e .val)) (e .kept)) es
+    unfolding costsOf total remotesLen
     one-more k j e es q =
         rw q
         (run-eq (n + suc j) (n + 1 + j) (t + (cost limit e + total (costsOf limit (take j es)))) (t + cost limit e + total (costsOf limit (take j es)))
-        (f + (farLen limit (length (e .val)) (e .kept) + fars limit (take j es))) (f + farLen limit (length (e .val)) (e .kept) + fars limit (take j es)) (any (drop j es)) (any (drop j es))
+        (f + (remoteLen limit (length (e .val)) (e .kept) + remotesLen limit (take j es))) (f + remoteLen limit (length (e .val)) (e .kept) + remotesLen limit (take j es)) (any (drop j es)) (any (drop j es))
         (omega arith) (omega arith) (omega arith) refl)
 
     goes-on : (e : Entry) (es : List Entry) → fits budget n t (cost limit e) ≡ true → taken budget n t (costsOf limit (e ∷ es)) ≡ suc (taken budget (n + 1) (t + cost limit e) (costsOf limit es))
@@ -73,7 +75,7 @@ module _ (limit budget : ℕ) where
     goes-on e es h = taken-more budget n t (cost limit e) (costsOf limit es) h
 
     from-go : (e : Entry) (es : List Entry) → fits budget n t (cost limit e) ≡ true
-        → runFrom limit budget n t f (e ∷ es) ≡ runFrom limit budget (n + 1) (t + cost limit e) (f + farLen limit (length (e .val)) (e .kept)) es
+        → runFrom limit budget n t f (e ∷ es) ≡ runFrom limit budget (n + 1) (t + cost limit e) (f + remoteLen limit (length (e .val)) (e .kept)) es
     from-go e es h = one-more (taken budget n t (costsOf limit (e ∷ es))) (taken budget (n + 1) (t + cost limit e) (costsOf limit es)) e es (goes-on e es h)
 
 -- ---- the loop
@@ -87,14 +89,14 @@ drop-next (suc n) (x ∷ os) e es q = let k : suc (n + 1) ≡ suc n + 1 = omega 
 pub record Looking (l w : List ℕ) (limit budget : ℕ) (c₀ c : Cursor) (n t f : ℕ) : Type 0 where
   pub goes : runFrom limit budget n t f (only true (entries l w c)) ≡ runOf limit budget (only true (entries l w c₀))
   pub rest : only true (entries l w c) ≡ drop n (only true (entries l w c₀))
-  pub small : t ≤ 131072
-  pub many : 21 * n + 40 ≤ t
-  pub first : n ≡ 0 → t ≡ 40
+  pub small : t ≤ maxBudget
+  pub many : 21 * n + baseLen ≤ t
+  pub first : n ≡ 0 → t ≡ baseLen
   pub away : f ≤ 65600 * n
-  pub limits : limit ≤ 65536
-  pub budgets : budget ≤ 131072
+  pub limits : limit ≤ maxLimit
+  pub budgets : budget ≤ maxBudget
 
-pub look-begin : (l w : List ℕ) (limit budget : ℕ) (c : Cursor) → limit ≤ 65536 → budget ≤ 131072 → Looking l w limit budget c c 0 40 0
+pub look-begin : (l w : List ℕ) (limit budget : ℕ) (c : Cursor) → limit ≤ maxLimit → budget ≤ maxBudget → Looking l w limit budget c c 0 baseLen 0
 look-begin l w limit budget c h k =
     record { goes = from-first limit budget (only true (entries l w c)); rest = refl; small = omega arith; many = omega arith; first = λ e. refl; away = omega arith; limits = h; budgets = k }
 
@@ -105,7 +107,7 @@ module _ (l w : List ℕ) (limit budget : ℕ) (c₀ c : Cursor) (n t f : ℕ) (
   pub look-end : only true (entries l w c) ≡ [] → (run n t f false ≡ runOf limit budget (only true (entries l w c₀))) × Skipped l w true c₀ n c
   look-end e = (from-nil limit budget n t f (only true (entries l w c)) e ∙ h .goes, skipped)
 
-  module _ (i : Item) (d : Cursor) (g : Chosen l w true c i d) (x : ℕ) (ex : x ≡ sizeOf false limit (i .vlen)) where
+  module _ (i : EntryAt) (d : Cursor) (g : Chosen l w true c i d) (x : ℕ) (ex : x ≡ sizeOf false limit (i .vlen)) where
     pub look-fits : (5 ≤ x) × (x ≤ 65549)
     look-fits = let s = size-some limit (i .vlen) in let b = h .limits in (omega arith, omega arith)
 
@@ -121,41 +123,41 @@ module _ (l w : List ℕ) (limit budget : ℕ) (c₀ c : Cursor) (n t f : ℕ) (
       skipped,
     )
 
-    module _ (y : ℕ) (ey : y ≡ farLen limit (i .vlen) (i .kept .0)) where
-      pub look-far : y ≤ 65600
-      look-far = omega (arith, far-most limit (i .vlen) (i .kept .0), g .placed .vsmall)
+    module _ (y : ℕ) (ey : y ≡ remoteLen limit (i .vlen) (i .kept .0)) where
+      pub look-remote : y ≤ 65600
+      look-remote = omega (arith, remote-most limit (i .vlen) (i .kept .0), g .placed .vsmall)
 
-      far-is : farLen limit (length (entryOf l w i .val)) (entryOf l w i .kept) ≡ y
+      remote-is : remoteLen limit (length (entryOf l w i .val)) (entryOf l w i .kept) ≡ y
       unfolding entryOf
-      far-is = ap (λ (k : ℕ). farLen limit k (i .kept .0)) (g .vlen) ∙ sym ey
+      remote-is = ap (λ (k : ℕ). remoteLen limit k (i .kept .0)) (g .vlen) ∙ sym ey
 
       pub look-turn : fits budget n t (12 + x + 4) ≡ true → Looking l w limit budget c₀ d (n + 1) (t + (12 + x + 4)) (f + y)
       look-turn e =
           record {
             goes =
                 sym (ap (runFrom limit budget n t f) (g .list) ∙ from-go limit budget n t f (entryOf l w i) (only true (entries l w d)) (ap (fits budget n t) (sym cost-is) ∙ e)
-                ∙ rw (cost-is, far-is) refl)
+                ∙ rw (cost-is, remote-is) refl)
                 ∙ h .goes;
             rest = drop-next n (only true (entries l w c₀)) (entryOf l w i) (only true (entries l w d)) (sym (h .rest) ∙ g .list);
-            small = ⊎-elim (λ q. let z : t ≡ 40 = h .first q in let b = look-fits in omega arith) (λ q. let b = h .budgets in omega arith) (fits-says budget n t (12 + x + 4) e);
+            small = ⊎-elim (λ q. let z : t ≡ baseLen = h .first q in let b = look-fits in omega arith) (λ q. let b = h .budgets in omega arith) (fits-says budget n t (12 + x + 4) e);
             many = let b = look-fits in omega (arith, h .many);
             first = λ q. absurd (omega arith);
-            away = omega (arith, h .away, look-far);
+            away = omega (arith, h .away, look-remote);
             limits = h .limits;
             budgets = h .budgets;
           }
 
-pub fewer : (l w : List ℕ) (b : Bool) (c : Cursor) (i : Item) (d : Cursor) → Chosen l w b c i d → length (only b (entries l w d)) < length (only b (entries l w c))
+pub fewer : (l w : List ℕ) (b : Bool) (c : Cursor) (i : EntryAt) (d : Cursor) → Chosen l w b c i d → length (only b (entries l w d)) < length (only b (entries l w c))
 fewer l w b c i d g = omega (arith, ap length (g .list))
 
 -- ---- what the page tells
 
-pub record Tells (limit budget : ℕ) (os : List Entry) (r : Run) : Type 0 where
+pub record Tells (limit budget : ℕ) (os : List Entry) (r : PageAhead) : Type 0 where
   pub count : r .count ≡ length (take (r .count) os)
   pub size : r .size ≡ histSize limit (take (r .count) os)
-  pub far : r .far ≡ fars limit (take (r .count) os)
-  pub small : r .size ≤ 131072
-  pub many : 21 * r .count + 40 ≤ r .size
+  pub remote : r .remote ≡ remotesLen limit (take (r .count) os)
+  pub small : r .size ≤ maxBudget
+  pub many : 21 * r .count + baseLen ≤ r .size
   pub cut : 0 < r .count → cuts budget (costsOf limit os) ≡ r .count ∷ cuts budget (costsOf limit (drop (r .count) os))
   pub link : (x : ℕ) → cond (r .more) x 0 ≡ linkTo x (cuts budget (costsOf limit (drop (r .count) os)))
   pub none : r .count ≡ 0 → os ≡ []
@@ -173,12 +175,12 @@ none-left : (limit : ℕ) (es : List Entry) → costsOf limit es ≡ [] → es �
 none-left limit [] e = refl
 none-left limit (x ∷ es) e = absurd (omega (arith, ap length e, costs-length limit (x ∷ es)))
 
-first-small : (limit : ℕ) (os : List Entry) → limit ≤ 65536 → pageStart + total (take 1 (costsOf limit os)) ≤ 131072
+first-small : (limit : ℕ) (os : List Entry) → limit ≤ maxLimit → baseLen + total (take 1 (costsOf limit os)) ≤ maxBudget
 unfolding costsOf total
 first-small limit [] h = omega arith
 first-small limit (e ∷ os) h = omega (arith, cost-some limit e .1)
 
-tells-at : (limit budget : ℕ) (os : List Entry) → limit ≤ 65536 → budget ≤ 131072 → Tells limit budget os (runOf limit budget os)
+tells-at : (limit budget : ℕ) (os : List Entry) → limit ≤ maxLimit → budget ≤ maxBudget → Tells limit budget os (runOf limit budget os)
 unfolding runOf histSize
 tells-at limit budget os lh bh =
     let ss = costsOf limit os in
@@ -190,13 +192,13 @@ tells-at limit budget os lh bh =
     record {
       count = sym long;
       size = refl;
-      far = refl;
-      small = omega (arith, taken-costs, page-most budget 131072 ss bh (omega arith) (first-small limit os lh));
+      remote = refl;
+      small = omega (arith, taken-costs, page-most budget maxBudget ss bh (omega arith) (first-small limit os lh));
       many = omega (arith, costs-many limit (take k os), long);
       cut = λ p. t .cut p ∙ ap (λ (l : List ℕ). k ∷ cuts budget l) (sym (costs-drop limit k os));
       link = λ x. ap (λ (b : Bool). cond b x 0) (any-some limit (drop k os) ∙ sym (more budget (costsOf limit (drop k os)))) ∙ link-some x (cuts budget (costsOf limit (drop k os)));
       none = λ z. none-left limit os (t .some z);
     }
 
-pub tells-of : (limit budget : ℕ) (os : List Entry) (r : Run) → limit ≤ 65536 → budget ≤ 131072 → r ≡ runOf limit budget os → Tells limit budget os r
+pub tells-of : (limit budget : ℕ) (os : List Entry) (r : PageAhead) → limit ≤ maxLimit → budget ≤ maxBudget → r ≡ runOf limit budget os → Tells limit budget os r
 tells-of limit budget os r lh bh e = rw e (tells-at limit budget os lh bh)

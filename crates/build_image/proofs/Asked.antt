@@ -5,14 +5,15 @@ use mathlib.Core.Path.{_≡_}
 use mathlib.Core.Bool.{true, _&&_}
 use borrow.Author.Tests.{leb-true, eqb-true}
 use lib.Dec.{leb, eqb}
+use Rattle.frames.specs.Limits.{maxBudget, maxLimit, minBudget}
 use Rattle.frames.proofs.Frames.{and-l, and-r}
 use Rattle.build_image.specs.Call.{limitOk, budgetOk, nextOk}
 
-pub limit-true : (l : ℕ) → limitOk l ≡ true → (1 ≤ l) × (l ≤ 65536)
-limit-true l e = (leb-true 1 l (and-l (leb 1 l) (leb l 65536) e), leb-true l 65536 (and-r (leb 1 l) (leb l 65536) e))
+pub limit-true : (l : ℕ) → limitOk l ≡ true → (1 ≤ l) × (l ≤ maxLimit)
+limit-true l e = (leb-true 1 l (and-l (leb 1 l) (leb l maxLimit) e), leb-true l maxLimit (and-r (leb 1 l) (leb l maxLimit) e))
 
-pub budget-true : (b : ℕ) → budgetOk b ≡ true → (256 ≤ b) × (b ≤ 131072)
-budget-true b e = (leb-true 256 b (and-l (leb 256 b) (leb b 131072) e), leb-true b 131072 (and-r (leb 256 b) (leb b 131072) e))
+pub budget-true : (b : ℕ) → budgetOk b ≡ true → (minBudget ≤ b) × (b ≤ maxBudget)
+budget-true b e = (leb-true minBudget b (and-l (leb minBudget b) (leb b maxBudget) e), leb-true b maxBudget (and-r (leb minBudget b) (leb b maxBudget) e))
 
 pub next-true : (len next : ℕ) → nextOk len next ≡ true → (8 ≤ next) × (next % 8 ≡ 0) × (next ≤ len)
 next-true len next e =

@@ -8,14 +8,14 @@ use lib.ListN.{length, drop, length-append, length-drop}
 use Rattle.numbers.specs.Number.{le}
 use Rattle.numbers.proofs.Numbers.{length-le}
 use Rattle.lengths.specs.Leb128.{uleb}
-use Rattle.frames.specs.Layout.{boxLen, baseLen, frameLen}
-use Rattle.frames.specs.Stored.{boxBytes, baseBytes}
-use Rattle.frames.proofs.Stores.{length-box, length-base}
+use Rattle.frames.specs.Layout.{boxLen, baseLen, nodeIndex, frameLen}
+use Rattle.frames.specs.Stored.{pageBytes, baseOf}
+use Rattle.frames.proofs.Stores.{length-heads}
 use Rattle.values.specs.Keys.{indexKey}
 use Rattle.build_sources.specs.Source.{Entry}
 use Rattle.build_image.specs.declared.Call.{Call}
 use Rattle.build_image.specs.Sizes.{pad}
-use Rattle.build_image.specs.Image.{Bounds, boxOf, baseOf, firstOf, indexRecs, indexKeyLen, indexSums, indexSlots, indexSize, indexImage}
+use Rattle.build_image.specs.Image.{pageBox, firstOf, indexRecs, indexKeyLen, indexSums, indexSlots, indexSize, indexImage, Borders}
 use Rattle.build_image.proofs.Lengths.{frame-least, length-pad}
 
 pub length-index-slots : (p off : ℕ) (es : List Entry) → length (indexSlots p off es) ≡ 4 * length es
@@ -46,24 +46,22 @@ length-index-recs p (e ∷ es) =
     )
 
 -- the whole frame, rounded
-pub length-index : (m : Call) (b : Bounds) (es : List Entry) → length (indexImage m b es) ≡ frameLen (indexSize b es)
+pub length-index : (m : Call) (b : Borders) (es : List Entry) → length (indexImage m b es) ≡ frameLen (indexSize b es)
 unfolding indexImage indexSize
 length-index m b es =
     let s = firstOf b (length es) + indexSums (b .prefix) es in
-    let box = boxBytes (boxOf m s 1 2 0 0 (m .txid)) in
-    let base = baseBytes (baseOf s (length es) (b .sibling) (length (b .lo)) (length (b .hi)) (b .prefix) 1 0) in
+    let box = pageBox m s nodeIndex 0 0 in
+    let base = baseOf s (length es) (b .sibling) (length (b .lo)) (length (b .hi)) (b .prefix) 1 0 in
     let slots = indexSlots (b .prefix) (firstOf b (length es)) es in
     let recs = indexRecs (b .prefix) es in
     omega (
       arith,
-      length-append box (base ++ (slots ++ (b .lo ++ (b .hi ++ (recs ++ pad s))))),
-      length-append base (slots ++ (b .lo ++ (b .hi ++ (recs ++ pad s)))),
+      length-append (pageBytes box base) (slots ++ (b .lo ++ (b .hi ++ (recs ++ pad s)))),
       length-append slots (b .lo ++ (b .hi ++ (recs ++ pad s))),
       length-append (b .lo) (b .hi ++ (recs ++ pad s)),
       length-append (b .hi) (recs ++ pad s),
       length-append recs (pad s),
-      length-box (boxOf m s 1 2 0 0 (m .txid)),
-      length-base (baseOf s (length es) (b .sibling) (length (b .lo)) (length (b .hi)) (b .prefix) 1 0),
+      length-heads box base,
       length-index-slots (b .prefix) (firstOf b (length es)) es,
       length-index-recs (b .prefix) es,
       length-pad s,

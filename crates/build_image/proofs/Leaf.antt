@@ -11,9 +11,9 @@ use lib.ListN.{length, take, drop, length-append, length-drop, replicate, length
 use Rattle.numbers.specs.Number.{le}
 use Rattle.numbers.proofs.Numbers.{length-le}
 use Rattle.lengths.specs.Leb128.{uleb}
-use Rattle.frames.specs.Layout.{boxLen, baseLen, frameLen}
-use Rattle.frames.specs.Stored.{boxBytes, baseBytes}
-use Rattle.frames.proofs.Stores.{length-box, length-base}
+use Rattle.frames.specs.Layout.{boxLen, baseLen, nodeLeaf, frameLen}
+use Rattle.frames.specs.Stored.{pageBytes, baseOf}
+use Rattle.frames.proofs.Stores.{length-heads}
 use Rattle.values.specs.declared.HistRef.{HistRef}
 use Rattle.values.specs.Keys.{leafKey}
 use Rattle.values.specs.Vals.{sizeOf, frontSize}
@@ -21,9 +21,9 @@ use Rattle.values.proofs.Laws.{length-leafKey}
 use Rattle.build_sources.specs.Source.{Entry, only, olds, heads}
 use Rattle.build_paging.specs.Cuts.{cutsFrom}
 use Rattle.build_image.specs.declared.Call.{Call}
-use Rattle.build_image.specs.Sizes.{pad, farLen, valLen, costsOf, fars, keyLen, oldRun, sums, counted, roomOf}
-use Rattle.build_image.specs.Image.{boxOf, baseOf, valBytes, farAddr, farFrames, farAddrs, histPage, pageEnd, histSize, linkTo, history, historyEnd, starts, histAddrs, Place, places, refOf, headRec, headRecs, any, headSlots, les, hints, Bounds, firstOf, leafSize, cutsOf, leafRoom, oneIf, leafFrame, leafImage}
-use Rattle.build_image.proofs.Lengths.{length-val, length-fars, length-pad, length-page, frame-least}
+use Rattle.build_image.specs.Sizes.{pad, remoteLen, valLen, costsOf, remotesLen, keyLen, oldRun, sums, counted, roomOf}
+use Rattle.build_image.specs.Image.{pageBox, valBytes, remoteAddr, remoteFrames, remoteAddrs, histPage, pageEnd, histSize, linkTo, history, historyEnd, starts, histAddrs, PageSlot, places, refOf, headRec, headRecs, any, headSlots, les, hints, Borders, firstOf, leafSize, cutsOf, leafRoom, oneIf, leafFrame, leafImage}
+use Rattle.build_image.proofs.Lengths.{length-val, length-remotes, length-pad, length-page, frame-least}
 
 -- ---- history
 
@@ -58,19 +58,19 @@ front-by (suc k) n true = rw (ne-eqb (suc k) 0 (λ e. omega (arith, e))) (omega 
 front-by (suc k) n false = rw (ne-eqb (suc k) 0 (λ e. omega (arith, e))) (omega arith)
 
 -- a value, with as many old versions behind it
-pub length-head-val : (limit far : ℕ) (h : HistRef) (e : Entry) → length (valBytes limit far h e) ≡ sizeOf (any (h .count)) limit (length (e .val))
+pub length-head-val : (limit remote : ℕ) (h : HistRef) (e : Entry) → length (valBytes limit remote h e) ≡ sizeOf (any (h .count)) limit (length (e .val))
 unfolding sizeOf
-length-head-val limit far h e = length-val limit far h e ∙ front-by (h .count) (length (e .val)) (ltb (length (e .val)) limit)
+length-head-val limit remote h e = length-val limit remote h e ∙ front-by (h .count) (length (e .val)) (ltb (length (e .val)) limit)
 
-pub length-head : (limit p far : ℕ) (h : HistRef) (e : Entry) → length (headRec limit p far h e) ≡ keyLen p (length (e .key)) + sizeOf (any (h .count)) limit (length (e .val))
+pub length-head : (limit p remote : ℕ) (h : HistRef) (e : Entry) → length (headRec limit p remote h e) ≡ keyLen p (length (e .key)) + sizeOf (any (h .count)) limit (length (e .val))
 unfolding headRec keyLen
-length-head limit p far h e =
+length-head limit p remote h e =
     let k = length-leafKey (e .ver) (drop p (e .key)) in
     let d : length (drop p (e .key)) ≡ length (e .key) - p = length-drop p (e .key) in
-    length-append (leafKey (e .ver) (drop p (e .key))) (valBytes limit far h e)
-    ∙ omega (arith, k, d, ap (λ (n : ℕ). length (uleb (12 + n))) d, length-head-val limit far h e)
+    length-append (leafKey (e .ver) (drop p (e .key))) (valBytes limit remote h e)
+    ∙ omega (arith, k, d, ap (λ (n : ℕ). length (uleb (12 + n))) d, length-head-val limit remote h e)
 
-ref-count : (ps : List Place) (k : ℕ) → refOf ps k .count ≡ k
+ref-count : (ps : List PageSlot) (k : ℕ) → refOf ps k .count ≡ k
 ref-count [] k = refl
 ref-count (p ∷ ps) k = refl
 
@@ -78,10 +78,10 @@ hist-by : (k : ℕ) (b : Bool) (n : ℕ) → cond (any k) 14 0 + cond b (5 + n) 
 hist-by zero b n = omega arith
 hist-by (suc k) b n = omega arith
 
-head-most : (limit p far : ℕ) (ps : List Place) (k : ℕ) (e : Entry) → length (headRec limit p far (refOf ps k) e) ≡ keyLen p (length (e .key)) + valLen limit e + 14 * oneIf k
+head-most : (limit p remote : ℕ) (ps : List PageSlot) (k : ℕ) (e : Entry) → length (headRec limit p remote (refOf ps k) e) ≡ keyLen p (length (e .key)) + valLen limit e + 14 * oneIf k
 unfolding sizeOf
-head-most limit p far ps k e =
-    let h = length-head limit p far (refOf ps k) e in
+head-most limit p remote ps k e =
+    let h = length-head limit p remote (refOf ps k) e in
     omega (arith, h, ap (λ (j : ℕ). sizeOf (any j) limit (length (e .val))) (ref-count ps k), hist-by k (ltb (length (e .val)) limit) (length (e .val)))
 
 old-size : (limit n : ℕ) → 14 ≤ sizeOf true limit n
@@ -96,18 +96,18 @@ fit-by true false x y z k v sf st hs o p q r = omega arith
 fit-by false true x y z k v sf st hs o p q r = omega (arith, length-append y z)
 fit-by false false x y z k v sf st hs o p q r = omega (arith, length-append y z)
 
-pub heads-fit : (limit p : ℕ) (es : List Entry) (far : ℕ) (ps : List Place) (h : Bool) → length (headRecs limit p far ps es) + cond h (14 * oneIf (oldRun es)) 0 ≤ sums limit p h es
+pub heads-fit : (limit p : ℕ) (es : List Entry) (remote : ℕ) (ps : List PageSlot) (h : Bool) → length (headRecs limit p remote ps es) + cond h (14 * oneIf (oldRun es)) 0 ≤ sums limit p h es
 unfolding headRecs sums oldRun
-heads-fit limit p [] far ps true = omega arith
-heads-fit limit p [] far ps false = omega arith
-heads-fit limit p (e ∷ es) far ps h =
-    let next = far + farLen limit (length (e .val)) (e .kept) in
-    fit-by (e .old) h (headRecs limit p far (drop 1 ps) es) (headRec limit p far (refOf ps (oldRun es)) e) (headRecs limit p next ps es) (oldRun es) (sizeOf true limit (length (e .val)))
+heads-fit limit p [] remote ps true = omega arith
+heads-fit limit p [] remote ps false = omega arith
+heads-fit limit p (e ∷ es) remote ps h =
+    let next = remote + remoteLen limit (length (e .val)) (e .kept) in
+    fit-by (e .old) h (headRecs limit p remote (drop 1 ps) es) (headRec limit p remote (refOf ps (oldRun es)) e) (headRecs limit p next ps es) (oldRun es) (sizeOf true limit (length (e .val)))
     (sums limit p false es) (sums limit p true es) (keyLen p (length (e .key)) + valLen limit e)
-    (old-size limit (length (e .val))) (heads-fit limit p es far (drop 1 ps) false) (heads-fit limit p es next ps true) (head-most limit p far ps (oldRun es) e)
+    (old-size limit (length (e .val))) (heads-fit limit p es remote (drop 1 ps) false) (heads-fit limit p es next ps true) (head-most limit p remote ps (oldRun es) e)
 
-pub head-recs-fit : (limit p far : ℕ) (ps : List Place) (es : List Entry) → length (headRecs limit p far ps es) ≤ sums limit p false es
-head-recs-fit limit p far ps es = omega (arith, heads-fit limit p es far ps false)
+pub head-recs-fit : (limit p remote : ℕ) (ps : List PageSlot) (es : List Entry) → length (headRecs limit p remote ps es) ≤ sums limit p false es
+head-recs-fit limit p remote ps es = omega (arith, heads-fit limit p es remote ps false)
 
 -- ---- hints
 
@@ -130,12 +130,12 @@ addrs-by : (b : Bool) (a : ℕ) (x y : List ℕ) (n : ℕ) → length x ≡ n �
 addrs-by true a x y n p q = omega (arith, p)
 addrs-by false a x y n p q = omega (arith, q)
 
-pub length-addrs : (limit : ℕ) (es : List Entry) (far : ℕ) → length (farAddrs limit far es) ≡ remotes limit es
-unfolding farAddrs remotes
-length-addrs limit [] far = refl
-length-addrs limit (e ∷ es) far =
-    let next = far + farLen limit (length (e .val)) (e .kept) in
-    addrs-by (ltb (length (e .val)) limit) (farAddr far (e .kept)) (farAddrs limit far es) (farAddrs limit next es) (remotes limit es) (length-addrs limit es far) (length-addrs limit es next)
+pub length-addrs : (limit : ℕ) (es : List Entry) (remote : ℕ) → length (remoteAddrs limit remote es) ≡ remotes limit es
+unfolding remoteAddrs remotes
+length-addrs limit [] remote = refl
+length-addrs limit (e ∷ es) remote =
+    let next = remote + remoteLen limit (length (e .val)) (e .kept) in
+    addrs-by (ltb (length (e .val)) limit) (remoteAddr remote (e .kept)) (remoteAddrs limit remote es) (remoteAddrs limit next es) (remotes limit es) (length-addrs limit es remote) (length-addrs limit es next)
 
 counted-by : (b c : Bool) (m n : ℕ) → m ≤ n → cond b 0 1 + m ≤ cond b (cond c 0 1) 1 + n
 counted-by true true m n h = omega arith
@@ -170,9 +170,9 @@ pub hist-addrs-few : (limit : ℕ) (ns : List ℕ) (at : ℕ) (es : List Entry) 
 unfolding histAddrs
 hist-addrs-few limit [] at es = omega arith
 hist-addrs-few limit (n ∷ ns) at es =
-    let far = at + frameLen (histSize limit (take n es)) in
+    let remote = at + frameLen (histSize limit (take n es)) in
     let next = pageEnd limit at (take n es) in
-    omega (arith, length-append (farAddrs limit far (take n es)) (histAddrs limit next ns (drop n es)), length-addrs limit (take n es) far, hist-addrs-few limit ns next (drop n es), remotes-cut limit n es)
+    omega (arith, length-append (remoteAddrs limit remote (take n es)) (histAddrs limit next ns (drop n es)), length-addrs limit (take n es) remote, hist-addrs-few limit ns next (drop n es), remotes-cut limit n es)
 
 hints-by : (b : Bool) (room : ℕ) (ps rs : List ℕ) → eqb room 0 ≡ b → (b ≡ false → 8 + 8 * length ps + 8 * length rs ≤ room)
     → length (cond b [] (le 4 (length ps) ++ (les 8 ps ++ (le 4 (length rs) ++ (les 8 rs ++ replicate (room - (8 + 8 * length ps + 8 * length rs)) 0))))) ≡ room
@@ -203,17 +203,17 @@ room-by true x y e h = absurd (let z : _≡_ {A = ℕ} 0 1 = cc in omega arith)
 room-by false x y e h = h
 
 -- the leaf's do
-pub leaf-hints-fit : (m : Call) (es : List Entry) (at far : ℕ) → eqb (leafRoom m es) 0 ≡ false
-    → 8 + 8 * length (starts (m .limit) at (cutsOf m es) (olds es)) + 8 * length (histAddrs (m .limit) at (cutsOf m es) (olds es) ++ farAddrs (m .limit) far (heads es)) ≤ leafRoom m es
+pub leaf-hints-fit : (m : Call) (es : List Entry) (at remote : ℕ) → eqb (leafRoom m es) 0 ≡ false
+    → 8 + 8 * length (starts (m .limit) at (cutsOf m es) (olds es)) + 8 * length (histAddrs (m .limit) at (cutsOf m es) (olds es) ++ remoteAddrs (m .limit) remote (heads es)) ≤ leafRoom m es
 unfolding leafRoom roomOf
-leaf-hints-fit m es at far nz =
+leaf-hints-fit m es at remote nz =
     let hs = histAddrs (m .limit) at (cutsOf m es) (olds es) in
     room-by (eqb (length (cutsOf m es) + counted (m .limit) es) 0) (8 + 8 * length (cutsOf m es) + 8 * counted (m .limit) es) _ nz
     (omega (
       arith,
       length-starts (m .limit) (cutsOf m es) at (olds es),
-      length-append hs (farAddrs (m .limit) far (heads es)),
-      length-addrs (m .limit) (heads es) far,
+      length-append hs (remoteAddrs (m .limit) remote (heads es)),
+      length-addrs (m .limit) (heads es) remote,
       hist-addrs-few (m .limit) (cutsOf m es) at (olds es),
       remotes-kinds (m .limit) es,
       remotes-counted (m .limit) es,
@@ -221,56 +221,54 @@ leaf-hints-fit m es at far nz =
 
 -- ---- the frame and the whole
 
-pub leaf-tail-fits : (m : Call) (b : Bounds) (far : ℕ) (ps : List Place) (es : List Entry) → firstOf b (length (heads es)) + length (headRecs (m .limit) (b .prefix) far ps es) ≤ leafSize m b es
+pub leaf-tail-fits : (m : Call) (b : Borders) (remote : ℕ) (ps : List PageSlot) (es : List Entry) → firstOf b (length (heads es)) + length (headRecs (m .limit) (b .prefix) remote ps es) ≤ leafSize m b es
 unfolding leafSize
-leaf-tail-fits m b far ps es = omega (arith, head-recs-fit (m .limit) (b .prefix) far ps es)
+leaf-tail-fits m b remote ps es = omega (arith, head-recs-fit (m .limit) (b .prefix) remote ps es)
 
-pub length-leaf-frame : (m : Call) (b : Bounds) (first at : ℕ) (es : List Entry) → length (leafFrame m b first at es) ≡ frameLen (leafSize m b es + leafRoom m es)
+pub length-leaf-frame : (m : Call) (b : Borders) (first at : ℕ) (es : List Entry) → length (leafFrame m b first at es) ≡ frameLen (leafSize m b es + leafRoom m es)
 unfolding leafFrame
 length-leaf-frame m b first at es =
     let size = leafSize m b es in
     let room = leafRoom m es in
-    let far = at + frameLen (size + room) in
+    let remote = at + frameLen (size + room) in
     let ps = places (m .limit) first (cutsOf m es) (olds es) in
-    let recs = headRecs (m .limit) (b .prefix) far ps es in
-    let hs = hints room (starts (m .limit) first (cutsOf m es) (olds es)) (histAddrs (m .limit) first (cutsOf m es) (olds es) ++ farAddrs (m .limit) far (heads es)) in
+    let recs = headRecs (m .limit) (b .prefix) remote ps es in
+    let hs = hints room (starts (m .limit) first (cutsOf m es) (olds es)) (histAddrs (m .limit) first (cutsOf m es) (olds es) ++ remoteAddrs (m .limit) remote (heads es)) in
     let tail : List ℕ = replicate (size - (firstOf b (length (heads es)) + length recs)) 0 in
     let slots = headSlots (m .limit) (b .prefix) (firstOf b (length (heads es))) es in
-    let box = boxBytes (boxOf m (size + room) 1 1 0 0 (m .txid)) in
-    let base = baseBytes (baseOf size (length (heads es)) (b .sibling) (length (b .lo)) (length (b .hi)) (b .prefix) 0 (oneIf (length (olds es)))) in
+    let box = pageBox m (size + room) nodeLeaf 0 0 in
+    let base = baseOf size (length (heads es)) (b .sibling) (length (b .lo)) (length (b .hi)) (b .prefix) 0 (oneIf (length (olds es))) in
     omega (
       arith,
-      length-append box (base ++ (slots ++ (b .lo ++ (b .hi ++ (recs ++ (tail ++ (hs ++ pad (size + room)))))))),
-      length-append base (slots ++ (b .lo ++ (b .hi ++ (recs ++ (tail ++ (hs ++ pad (size + room))))))),
+      length-append (pageBytes box base) (slots ++ (b .lo ++ (b .hi ++ (recs ++ (tail ++ (hs ++ pad (size + room))))))),
       length-append slots (b .lo ++ (b .hi ++ (recs ++ (tail ++ (hs ++ pad (size + room)))))),
       length-append (b .lo) (b .hi ++ (recs ++ (tail ++ (hs ++ pad (size + room))))),
       length-append (b .hi) (recs ++ (tail ++ (hs ++ pad (size + room)))),
       length-append recs (tail ++ (hs ++ pad (size + room))),
       length-append tail (hs ++ pad (size + room)),
       length-append hs (pad (size + room)),
-      length-box (boxOf m (size + room) 1 1 0 0 (m .txid)),
-      length-base (baseOf size (length (heads es)) (b .sibling) (length (b .lo)) (length (b .hi)) (b .prefix) 0 (oneIf (length (olds es)))),
+      length-heads box base,
       length-head-slots (m .limit) (b .prefix) es (firstOf b (length (heads es))),
-      leaf-tail-fits m b far ps es,
+      leaf-tail-fits m b remote ps es,
       length-replicate {A = ℕ} (size - (firstOf b (length (heads es)) + length recs)) 0,
-      length-hints room (starts (m .limit) first (cutsOf m es) (olds es)) (histAddrs (m .limit) first (cutsOf m es) (olds es) ++ farAddrs (m .limit) far (heads es)) (leaf-hints-fit m es first far),
+      length-hints room (starts (m .limit) first (cutsOf m es) (olds es)) (histAddrs (m .limit) first (cutsOf m es) (olds es) ++ remoteAddrs (m .limit) remote (heads es)) (leaf-hints-fit m es first remote),
       length-pad (size + room),
       frame-least (size + room),
     )
 
 -- the new next free address
-pub length-leaf-image : (m : Call) (b : Bounds) (at : ℕ) (es : List Entry)
-    → at + length (leafImage m b at es) ≡ historyEnd (m .limit) at (cutsOf m es) (olds es) + frameLen (leafSize m b es + leafRoom m es) + fars (m .limit) (heads es)
+pub length-leaf-image : (m : Call) (b : Borders) (at : ℕ) (es : List Entry)
+    → at + length (leafImage m b at es) ≡ historyEnd (m .limit) at (cutsOf m es) (olds es) + frameLen (leafSize m b es + leafRoom m es) + remotesLen (m .limit) (heads es)
 unfolding leafImage
 length-leaf-image m b at es =
     let h = history m at (cutsOf m es) (olds es) in
     let end = historyEnd (m .limit) at (cutsOf m es) (olds es) in
-    let f = farFrames m (heads es) in
+    let f = remoteFrames m (heads es) in
     omega (
       arith,
       length-append h (leafFrame m b at end es ++ f),
       length-append (leafFrame m b at end es) f,
       length-history m (cutsOf m es) at (olds es),
       length-leaf-frame m b at end es,
-      length-fars m (heads es),
+      length-remotes m (heads es),
     )

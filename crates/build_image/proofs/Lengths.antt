@@ -10,9 +10,9 @@ use lib.Dec.{ltb, eqb}
 use lib.ListN.{length, take, drop, length-append, replicate, length-replicate}
 use Rattle.numbers.specs.Number.{le}
 use Rattle.numbers.proofs.Numbers.{length-le}
-use Rattle.frames.specs.Layout.{boxLen, baseLen, frameLen}
-use Rattle.frames.specs.Stored.{boxBytes, baseBytes}
-use Rattle.frames.proofs.Stores.{length-box, length-base}
+use Rattle.frames.specs.Layout.{boxLen, baseLen, slotsAt, boxRemote, nodeLeaf, flagSibling, frameLen}
+use Rattle.frames.specs.Stored.{boxBytes, baseOf}
+use Rattle.frames.proofs.Stores.{length-box, length-heads}
 use Rattle.values.specs.declared.HistRef.{HistRef}
 use Rattle.values.specs.Keys.{verBytes}
 use Rattle.values.specs.Vals.{noHist, sizeOf, frontSize, inlineBytes, remoteBytes}
@@ -20,8 +20,8 @@ use Rattle.values.proofs.Laws.{length-ver, length-inline, length-remote}
 use Rattle.build_paging.specs.Cuts.{total}
 use Rattle.build_sources.specs.Source.{Entry, wanted, only}
 use Rattle.build_image.specs.declared.Call.{Call}
-use Rattle.build_image.specs.Sizes.{pad, farLen, valLen, cost, costsOf, fars}
-use Rattle.build_image.specs.Image.{boxOf, baseOf, farAddr, valBytes, remoteFrame, farFrame, farFrames, oldRec, oldRecs, oldSlots, histHead, histSize, histPage, pageEnd}
+use Rattle.build_image.specs.Sizes.{pad, remoteLen, valLen, cost, costsOf, remotesLen}
+use Rattle.build_image.specs.Image.{boxOf, pageBox, remoteAddr, valBytes, remoteFrame, remoteFrameOf, remoteFrames, oldRec, oldRecs, oldSlots, histHead, histSize, histPage, pageEnd}
 
 pub frame-least : (n : ℕ) → boxLen + n ≤ frameLen n
 frame-least n = omega arith
@@ -57,81 +57,79 @@ val-by : (b : Bool) (h : HistRef) (v : List ℕ) (a : ℕ) → length (cond b (i
 val-by true h v a = length-inline h v
 val-by false h v a = length-remote h (length v) a
 
-pub length-val : (limit far : ℕ) (h : HistRef) (e : Entry) → length (valBytes limit far h e) ≡ frontSize (h .count) + cond (ltb (length (e .val)) limit) (length (e .val)) 8
+pub length-val : (limit remote : ℕ) (h : HistRef) (e : Entry) → length (valBytes limit remote h e) ≡ frontSize (h .count) + cond (ltb (length (e .val)) limit) (length (e .val)) 8
 unfolding valBytes
-length-val limit far h e = val-by (ltb (length (e .val)) limit) h (e .val) (farAddr far (e .kept))
+length-val limit remote h e = val-by (ltb (length (e .val)) limit) h (e .val) (remoteAddr remote (e .kept))
 
 plain-by : (b : Bool) (n : ℕ) → 5 + cond b n 8 ≡ 0 + cond b (5 + n) 13
 plain-by true n = omega arith
 plain-by false n = omega arith
 
 -- without history
-pub length-plain : (limit far : ℕ) (e : Entry) → length (valBytes limit far noHist e) ≡ valLen limit e
+pub length-plain : (limit remote : ℕ) (e : Entry) → length (valBytes limit remote noHist e) ≡ valLen limit e
 unfolding frontSize sizeOf
-length-plain limit far e = length-val limit far noHist e ∙ plain-by (ltb (length (e .val)) limit) (length (e .val))
+length-plain limit remote e = length-val limit remote noHist e ∙ plain-by (ltb (length (e .val)) limit) (length (e .val))
 
 -- ---- remote frames
 
-far-by : (b c : Bool) (n : ℕ) → cond b 0 (cond c (frameLen (8 + n)) 0) ≤ n + 47
-far-by true c n = omega arith
-far-by false true n = omega arith
-far-by false false n = omega arith
+remote-by : (b c : Bool) (n : ℕ) → cond b 0 (cond c (frameLen (8 + n)) 0) ≤ n + 47
+remote-by true c n = omega arith
+remote-by false true n = omega arith
+remote-by false false n = omega arith
 
-pub far-most : (limit n kept : ℕ) → farLen limit n kept ≤ n + 47
-unfolding farLen
-far-most limit n kept = far-by (ltb n limit) (eqb kept 0) n
+pub remote-most : (limit n kept : ℕ) → remoteLen limit n kept ≤ n + 47
+unfolding remoteLen
+remote-most limit n kept = remote-by (ltb n limit) (eqb kept 0) n
 
 pub length-remote-frame : (m : Call) (v : List ℕ) → length (remoteFrame m v) ≡ frameLen (8 + length v)
 unfolding remoteFrame
 length-remote-frame m v =
-    let box = boxBytes (boxOf m (8 + length v) 3 1 0 0 0) in
+    let box = boxBytes (boxOf m (8 + length v) boxRemote nodeLeaf 0 0 0) in
     length-append box (le 8 (length v) ++ (v ++ pad (8 + length v)))
-    ∙ omega (arith, length-box (boxOf m (8 + length v) 3 1 0 0 0), length-append (le 8 (length v)) (v ++ pad (8 + length v)), length-le 8 (length v), length-append v (pad (8 + length v)), length-pad (8 + length v))
+    ∙ omega (arith, length-box (boxOf m (8 + length v) boxRemote nodeLeaf 0 0 0), length-append (le 8 (length v)) (v ++ pad (8 + length v)), length-le 8 (length v), length-append v (pad (8 + length v)), length-pad (8 + length v))
 
 frame-by : (b c : Bool) (m : Call) (v : List ℕ) → length (cond b [] (cond c (remoteFrame m v) [])) ≡ cond b 0 (cond c (frameLen (8 + length v)) 0)
 frame-by true c m v = refl
 frame-by false true m v = length-remote-frame m v
 frame-by false false m v = refl
 
-pub length-far : (m : Call) (e : Entry) → length (farFrame m e) ≡ farLen (m .limit) (length (e .val)) (e .kept)
-unfolding farFrame farLen
-length-far m e = frame-by (ltb (length (e .val)) (m .limit)) (eqb (e .kept) 0) m (e .val)
+pub length-remote-of : (m : Call) (e : Entry) → length (remoteFrameOf m e) ≡ remoteLen (m .limit) (length (e .val)) (e .kept)
+unfolding remoteFrameOf remoteLen
+length-remote-of m e = frame-by (ltb (length (e .val)) (m .limit)) (eqb (e .kept) 0) m (e .val)
 
-pub length-fars : (m : Call) (es : List Entry) → length (farFrames m es) ≡ fars (m .limit) es
-unfolding farFrames fars
-length-fars m [] = refl
-length-fars m (e ∷ es) = omega (arith, length-append (farFrame m e) (farFrames m es), length-far m e, length-fars m es)
+pub length-remotes : (m : Call) (es : List Entry) → length (remoteFrames m es) ≡ remotesLen (m .limit) es
+unfolding remoteFrames remotesLen
+length-remotes m [] = refl
+length-remotes m (e ∷ es) = omega (arith, length-append (remoteFrameOf m e) (remoteFrames m es), length-remote-of m e, length-remotes m es)
 
 -- ---- history pages
 
-pub length-old : (limit far : ℕ) (e : Entry) → length (oldRec limit far e) ≡ 12 + valLen limit e
+pub length-old : (limit remote : ℕ) (e : Entry) → length (oldRec limit remote e) ≡ 12 + valLen limit e
 unfolding oldRec
-length-old limit far e = omega (arith, length-append (verBytes (e .ver)) (valBytes limit far noHist e), length-ver (e .ver), length-plain limit far e)
+length-old limit remote e = omega (arith, length-append (verBytes (e .ver)) (valBytes limit remote noHist e), length-ver (e .ver), length-plain limit remote e)
 
 pub length-slots : (limit off : ℕ) (es : List Entry) → length (oldSlots limit off es) ≡ 4 * length es
 unfolding oldSlots
 length-slots limit off [] = refl
 length-slots limit off (e ∷ es) = omega (arith, length-append (le 4 off) (oldSlots limit (off + (12 + valLen limit e)) es), length-le 4 off, length-slots limit (off + (12 + valLen limit e)) es)
 
-pub length-recs : (limit far : ℕ) (es : List Entry) → length (oldRecs limit far es) + 4 * length es ≡ total (costsOf limit es)
+pub length-recs : (limit remote : ℕ) (es : List Entry) → length (oldRecs limit remote es) + 4 * length es ≡ total (costsOf limit es)
 unfolding oldRecs costsOf cost total
-length-recs limit far [] = refl
-length-recs limit far (e ∷ es) =
-    let next = far + farLen limit (length (e .val)) (e .kept) in
-    omega (arith, length-append (oldRec limit far e) (oldRecs limit next es), length-old limit far e, length-recs limit next es)
+length-recs limit remote [] = refl
+length-recs limit remote (e ∷ es) =
+    let next = remote + remoteLen limit (length (e .val)) (e .kept) in
+    omega (arith, length-append (oldRec limit remote e) (oldRecs limit next es), length-old limit remote e, length-recs limit next es)
 
-pub length-hist-head : (m : Call) (link n size : ℕ) → length (histHead m link n size) ≡ 72
+pub length-hist-head : (m : Call) (link n size : ℕ) → length (histHead m link n size) ≡ slotsAt
 unfolding histHead
-length-hist-head m link n size =
-    length-append (boxBytes (boxOf m size 1 1 1 link (m .txid))) (baseBytes (baseOf size n 0 0 0 0 0 0))
-    ∙ omega (arith, length-box (boxOf m size 1 1 1 link (m .txid)), length-base (baseOf size n 0 0 0 0 0 0))
+length-hist-head m link n size = length-heads (pageBox m size nodeLeaf flagSibling link) (baseOf size n 0 0 0 0 0 0)
 
 -- a page and its remote frames end where the next page starts
 pub length-page : (m : Call) (at link : ℕ) (es : List Entry) → at + length (histPage m at link es) ≡ pageEnd (m .limit) at es
 unfolding histPage pageEnd histSize
 length-page m at link es =
     let s = baseLen + total (costsOf (m .limit) es) in
-    let f = farFrames m es in
+    let f = remoteFrames m es in
     let r = oldRecs (m .limit) (at + frameLen s) es in
     let o = oldSlots (m .limit) (baseLen + 4 * length es) es in
     let h = histHead m link (length es) s in
@@ -145,7 +143,7 @@ length-page m at link es =
       length-slots (m .limit) (baseLen + 4 * length es) es,
       length-recs (m .limit) (at + frameLen s) es,
       length-pad s,
-      length-fars m es,
+      length-remotes m es,
     )
 
 -- ---- costs

@@ -1,5 +1,7 @@
 -- The crate's laws.
 pub mod Asked
+pub mod Tables
+pub mod Exactly
 pub mod Lengths
 pub mod Leaf
 pub mod Cases

@@ -4,6 +4,7 @@ use Prim.Native.Nat.{ℕ, _%_}
 use mathlib.Core.Bool.{Bool, cond, _&&_}
 use lib.Dec.{ltb, leb, eqb}
 use Rattle.frames.specs.Refusals.{numberOf}
+use Rattle.frames.specs.Limits.{maxBudget, maxLimit, minBudget}
 use Rattle.build_image.specs.declared.Built.{Built}
 use Rattle.build_image.specs.declared.Call.{Call}
 
@@ -17,10 +18,10 @@ callOf limit budget group txid lsn checkpoint = record { limit = limit; budget =
 
 -- 1 BAD LIMIT: "inline limit not 1..65,536; budget not 256..131,072"
 abbrev pub limitOk : ℕ → Bool
-limitOk limit = leb 1 limit && leb limit 65536
+limitOk limit = leb 1 limit && leb limit maxLimit
 
 abbrev pub budgetOk : ℕ → Bool
-budgetOk budget = leb 256 budget && leb budget 131072
+budgetOk budget = leb minBudget budget && leb budget maxBudget
 
 abbrev pub limitsOk : ℕ → ℕ → Bool
 limitsOk limit budget = limitOk limit && budgetOk budget

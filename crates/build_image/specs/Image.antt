@@ -1,95 +1,79 @@
 -- The bytes that a build writes: document 01, building rules 2 to 6, in its order. History pages with their remote frames, the leaf's
 -- frame, the heads' remote frames; and an index page's frame.
 -- Assumes nothing.
-use Prim.Native.Nat.{ℕ, zero, suc, _+_, _-_, _*_, _≤_}
+use Prim.Native.Nat.{ℕ, zero, suc, _+_, _-_, _*_}
 use mathlib.Core.List.{List, [], _∷_, _++_}
 use mathlib.Core.Bool.{Bool, true, false, cond}
 use lib.ListN.{length, take, drop, replicate}
 use lib.Dec.{ltb, eqb}
 use Rattle.numbers.specs.Number.{le}
-use Rattle.lengths.specs.Leb128.{uleb}
 use Rattle.frames.specs.declared.BoxHeader.{BoxHeader}
-use Rattle.frames.specs.declared.BaseHeader.{BaseHeader}
-use Rattle.frames.specs.Layout.{addr, pageId, boxLen, baseLen, frameLen}
-use Rattle.frames.specs.Stored.{boxBytes, baseBytes}
+use Rattle.frames.specs.Layout.{baseLen, boxBase, boxRemote, nodeLeaf, nodeIndex, flagSibling, addr, frameLen}
+use Rattle.frames.specs.Stored.{boxBytes, pageBytes, baseOf}
 use Rattle.values.specs.declared.HistRef.{HistRef}
-use Rattle.values.specs.Keys.{verBytes, leafKey, indexKey}
+use Rattle.values.specs.Keys.{verBytes, leafKey, indexKey, indexKeySize}
 use Rattle.values.specs.Vals.{histOf, noHist, inlineBytes, remoteBytes, sizeOf}
 use Rattle.build_paging.specs.Cuts.{cutsFrom, cuts, total}
 use Rattle.build_sources.specs.Source.{Entry, only, olds, heads}
 use Rattle.build_image.specs.declared.Call.{Call}
-use Rattle.build_image.specs.Sizes.{pad, farLen, valLen, cost, costsOf, fars, keyLen, oldRun, sums, counted, roomOf}
+use Rattle.build_image.specs.Sizes.{pad, remoteLen, valLen, costsOf, remotesLen, keyLen, oldRun, sums, counted, roomOf}
 
 -- ---- headers
 
 -- kind, node_type, flag, link and txid as given; group and lsn are the call's
 abbrev pub boxOf : Call → ℕ → ℕ → ℕ → ℕ → ℕ → ℕ → BoxHeader
 boxOf m payload kind node flag link txid =
-    record { «payload_size» = payload; kind = kind; «node_type» = node; flag = flag; group = m .group; link = addr link; txid = txid; lsn = m .lsn }
+    record { «payload_size» = payload; «box_kind» = kind; «node_type» = node; flag = flag; group = m .group; link = addr link; txid = txid; lsn = m .lsn }
 
--- "split_elems, merging_child, merging and padding are 0"
-abbrev pub baseOf : ℕ → ℕ → ℕ → ℕ → ℕ → ℕ → ℕ → ℕ → BaseHeader
-baseOf size elems sibling lo hi prefix index many =
-    record {
-      size = size;
-      elems = elems;
-      «split_elems» = 0;
-      «right_sibling» = pageId sibling;
-      «merging_child» = pageId 0;
-      «lo_len» = lo;
-      «hi_len» = hi;
-      «prefix_len» = prefix;
-      merging = 0;
-      «is_index» = index;
-      «has_multiple_versions» = many;
-      padding = 0;
-    }
+-- of a page: payload_size, node_type, flag and link as given
+abbrev pub pageBox : Call → ℕ → ℕ → ℕ → ℕ → BoxHeader
+pageBox m payload node flag link = boxOf m payload boxBase node flag link (m .txid)
 
 -- ---- values and remote frames
 
 -- a remote's address: where its new frame will stand, or where it stands already
-unfoldable pub farAddr : ℕ → ℕ → ℕ
-farAddr far kept = cond (eqb kept 0) far kept
+unfoldable pub remoteAddr : ℕ → ℕ → ℕ
+remoteAddr remote kept = cond (eqb kept 0) remote kept
 
 -- "Inline exactly when size is below the inline limit"
 unfoldable pub valBytes : ℕ → ℕ → HistRef → Entry → List ℕ
-unfolding inlineBytes remoteBytes farAddr
-valBytes limit far h e = cond (ltb (length (e .val)) limit) (inlineBytes h (e .val)) (remoteBytes h (length (e .val)) (farAddr far (e .kept)))
+unfolding inlineBytes remoteBytes remoteAddr
+valBytes limit remote h e = cond (ltb (length (e .val)) limit) (inlineBytes h (e .val)) (remoteBytes h (length (e .val)) (remoteAddr remote (e .kept)))
 
 -- "A remote frame has txid 0, node_type 1"; "Remote frame payload: size u64, bytes"
 unfoldable pub remoteFrame : Call → List ℕ → List ℕ
 unfolding boxBytes le pad
-remoteFrame m v = boxBytes (boxOf m (8 + length v) 3 1 0 0 0) ++ (le 8 (length v) ++ (v ++ pad (8 + length v)))
+remoteFrame m v = boxBytes (boxOf m (8 + length v) boxRemote nodeLeaf 0 0 0) ++ (le 8 (length v) ++ (v ++ pad (8 + length v)))
 
 -- the frame that an entry's value takes, if any
-unfoldable pub farFrame : Call → Entry → List ℕ
+unfoldable pub remoteFrameOf : Call → Entry → List ℕ
 unfolding remoteFrame
-farFrame m e = cond (ltb (length (e .val)) (m .limit)) [] (cond (eqb (e .kept) 0) (remoteFrame m (e .val)) [])
+remoteFrameOf m e = cond (ltb (length (e .val)) (m .limit)) [] (cond (eqb (e .kept) 0) (remoteFrame m (e .val)) [])
 
-unfoldable pub farFrames : Call → List Entry → List ℕ
-unfolding farFrame
-farFrames m [] = []
-farFrames m (e ∷ es) = farFrame m e ++ farFrames m es
+unfoldable pub remoteFrames : Call → List Entry → List ℕ
+unfolding remoteFrameOf
+remoteFrames m [] = []
+remoteFrames m (e ∷ es) = remoteFrameOf m e ++ remoteFrames m es
 
 -- the addresses of remotes, as the hints list them
-unfoldable pub farAddrs : ℕ → ℕ → List Entry → List ℕ
-unfolding farAddr farLen
-farAddrs limit far [] = []
-farAddrs limit far (e ∷ es) =
-    cond (ltb (length (e .val)) limit) (farAddrs limit far es)
-    (farAddr far (e .kept) ∷ farAddrs limit (far + farLen limit (length (e .val)) (e .kept)) es)
+unfoldable pub remoteAddrs : ℕ → ℕ → List Entry → List ℕ
+unfolding remoteAddr remoteLen
+remoteAddrs limit remote [] = []
+remoteAddrs limit remote (e ∷ es) =
+    cond (ltb (length (e .val)) limit) (remoteAddrs limit remote es)
+    (remoteAddr remote (e .kept) ∷ remoteAddrs limit (remote + remoteLen limit (length (e .val)) (e .kept)) es)
 
 -- ---- history pages (rules 3 and 4)
 
 -- "History key: version only"; its value has no history
 unfoldable pub oldRec : ℕ → ℕ → Entry → List ℕ
 unfolding verBytes valBytes
-oldRec limit far e = verBytes (e .ver) ++ valBytes limit far noHist e
+oldRec limit remote e = verBytes (e .ver) ++ valBytes limit remote noHist e
 
 unfoldable pub oldRecs : ℕ → ℕ → List Entry → List ℕ
-unfolding oldRec farLen
-oldRecs limit far [] = []
-oldRecs limit far (e ∷ es) = oldRec limit far e ++ oldRecs limit (far + farLen limit (length (e .val)) (e .kept)) es
+unfolding oldRec remoteLen
+oldRecs limit remote [] = []
+oldRecs limit remote (e ∷ es) = oldRec limit remote e ++ oldRecs limit (remote + remoteLen limit (length (e .val)) (e .kept)) es
 
 -- "elems slots of u32 (record offset from the base header)"
 unfoldable pub oldSlots : ℕ → ℕ → List Entry → List ℕ
@@ -99,8 +83,8 @@ oldSlots limit off (e ∷ es) = le 4 off ++ oldSlots limit (off + (12 + valLen l
 
 -- "(flag sibling, no boundaries, sibling id 0)"
 unfoldable pub histHead : Call → ℕ → ℕ → ℕ → List ℕ
-unfolding boxBytes baseBytes
-histHead m link n size = boxBytes (boxOf m size 1 1 1 link (m .txid)) ++ baseBytes (baseOf size n 0 0 0 0 0 0)
+unfolding pageBytes
+histHead m link n size = pageBytes (pageBox m size nodeLeaf flagSibling link) (baseOf size n 0 0 0 0 0 0)
 
 -- a history page that holds these
 unfoldable pub histSize : ℕ → List Entry → ℕ
@@ -109,16 +93,16 @@ histSize limit es = baseLen + total (costsOf limit es)
 
 -- "each followed by its remote frames": the page at `at`
 unfoldable pub histPage : Call → ℕ → ℕ → List Entry → List ℕ
-unfolding histHead oldSlots oldRecs pad farFrames histSize
+unfolding histHead oldSlots oldRecs pad remoteFrames histSize
 histPage m at link es =
     histHead m link (length es) (histSize (m .limit) es)
     ++ (oldSlots (m .limit) (baseLen + 4 * length es) es
-    ++ (oldRecs (m .limit) (at + frameLen (histSize (m .limit) es)) es ++ (pad (histSize (m .limit) es) ++ farFrames m es)))
+    ++ (oldRecs (m .limit) (at + frameLen (histSize (m .limit) es)) es ++ (pad (histSize (m .limit) es) ++ remoteFrames m es)))
 
 -- where the next page stands
 unfoldable pub pageEnd : ℕ → ℕ → List Entry → ℕ
-unfolding histSize fars
-pageEnd limit at es = at + frameLen (histSize limit es) + fars limit es
+unfolding histSize remotesLen
+pageEnd limit at es = at + frameLen (histSize limit es) + remotesLen limit es
 
 abbrev pub linkTo : ℕ → List ℕ → ℕ
 linkTo next [] = 0
@@ -144,21 +128,21 @@ starts limit at (n ∷ ns) es = at ∷ starts limit (pageEnd limit at (take n es
 
 -- and their remotes'
 unfoldable pub histAddrs : ℕ → ℕ → List ℕ → List Entry → List ℕ
-unfolding farAddrs pageEnd histSize
+unfolding remoteAddrs pageEnd histSize
 histAddrs limit at [] es = []
 histAddrs limit at (n ∷ ns) es =
-    farAddrs limit (at + frameLen (histSize limit (take n es))) (take n es) ++ histAddrs limit (pageEnd limit at (take n es)) ns (drop n es)
+    remoteAddrs limit (at + frameLen (histSize limit (take n es))) (take n es) ++ histAddrs limit (pageEnd limit at (take n es)) ns (drop n es)
 
 -- where each old version stands: its page and slot
-pub record Place : Type 0 where
+pub record PageSlot : Type 0 where
   pub page : ℕ
   pub slot : ℕ
 
-unfoldable pub placesIn : ℕ → ℕ → ℕ → List Place
+unfoldable pub placesIn : ℕ → ℕ → ℕ → List PageSlot
 placesIn page slot zero = []
 placesIn page slot (suc n) = record { page = page; slot = slot } ∷ placesIn page (slot + 1) n
 
-unfoldable pub places : ℕ → ℕ → List ℕ → List Entry → List Place
+unfoldable pub places : ℕ → ℕ → List ℕ → List Entry → List PageSlot
 unfolding placesIn pageEnd
 places limit at [] es = []
 places limit at (n ∷ ns) es = placesIn at 0 n ++ places limit (pageEnd limit at (take n es)) ns (drop n es)
@@ -166,22 +150,22 @@ places limit at (n ∷ ns) es = placesIn at 0 n ++ places limit (pageEnd limit a
 -- ---- the leaf page
 
 -- "address u64, slot u16, count u32": the first of k old versions stands at the first of the places
-abbrev pub refOf : List Place → ℕ → HistRef
+abbrev pub refOf : List PageSlot → ℕ → HistRef
 refOf [] k = histOf 0 0 k
 refOf (p ∷ ps) k = histOf (p .page) (p .slot) k
 
 -- "Leaf key: length, version, key without the page's prefix"
 unfoldable pub headRec : ℕ → ℕ → ℕ → HistRef → Entry → List ℕ
 unfolding leafKey valBytes
-headRec limit p far h e = leafKey (e .ver) (drop p (e .key)) ++ valBytes limit far h e
+headRec limit p remote h e = leafKey (e .ver) (drop p (e .key)) ++ valBytes limit remote h e
 
 -- a head with k old versions behind it names the first of the places; each old version drops one
-unfoldable pub headRecs : ℕ → ℕ → ℕ → List Place → List Entry → List ℕ
-unfolding headRec farLen oldRun
-headRecs limit p far ps [] = []
-headRecs limit p far ps (e ∷ es) =
-    cond (e .old) (headRecs limit p far (drop 1 ps) es)
-    (headRec limit p far (refOf ps (oldRun es)) e ++ headRecs limit p (far + farLen limit (length (e .val)) (e .kept)) ps es)
+unfoldable pub headRecs : ℕ → ℕ → ℕ → List PageSlot → List Entry → List ℕ
+unfolding headRec remoteLen oldRun
+headRecs limit p remote ps [] = []
+headRecs limit p remote ps (e ∷ es) =
+    cond (e .old) (headRecs limit p remote (drop 1 ps) es)
+    (headRec limit p remote (refOf ps (oldRun es)) e ++ headRecs limit p (remote + remoteLen limit (length (e .val)) (e .kept)) ps es)
 
 abbrev pub any : ℕ → Bool
 any zero = false
@@ -207,18 +191,21 @@ hints room ps rs =
     (le 4 (length ps) ++ (les 8 ps ++ (le 4 (length rs) ++ (les 8 rs ++ replicate (room - (8 + 8 * length ps + 8 * length rs)) 0))))
 
 -- boundaries, the count of their common bytes, and the right sibling
-pub record Bounds : Type 0 where
+pub record Borders : Type 0 where
   pub lo : List ℕ
   pub hi : List ℕ
   pub prefix : ℕ
   pub sibling : ℕ
 
--- where the first record stands
-abbrev pub firstOf : Bounds → ℕ → ℕ
-firstOf b n = baseLen + 4 * n + length (b .lo) + length (b .hi)
+-- where the first record stands: behind n slots and boundaries of these lengths
+abbrev pub firstAt : ℕ → ℕ → ℕ → ℕ
+firstAt n lo hi = baseLen + 4 * n + lo + hi
+
+abbrev pub firstOf : Borders → ℕ → ℕ
+firstOf b n = firstAt n (length (b .lo)) (length (b .hi))
 
 -- rule 5: "size is 40 + 4 per head + lo + hi + .."
-unfoldable pub leafSize : Call → Bounds → List Entry → ℕ
+unfoldable pub leafSize : Call → Borders → List Entry → ℕ
 unfolding sums only
 leafSize m b es = firstOf b (length (heads es)) + sums (m .limit) (b .prefix) false es
 
@@ -234,29 +221,28 @@ oneIf zero = 0
 oneIf (suc k) = 1
 
 -- the leaf's frame, which stands at `at`, behind history from `first` on
-unfoldable pub leafFrame : Call → Bounds → ℕ → ℕ → List Entry → List ℕ
-unfolding leafSize leafRoom boxBytes baseBytes headSlots headRecs places starts histAddrs farAddrs hints pad only cutsFrom costsOf
+unfoldable pub leafFrame : Call → Borders → ℕ → ℕ → List Entry → List ℕ
+unfolding leafSize leafRoom pageBytes headSlots headRecs places starts histAddrs remoteAddrs hints pad only cutsFrom costsOf
 leafFrame m b first at es =
     let size = leafSize m b es in
     let room = leafRoom m es in
-    let far = at + frameLen (size + room) in
-    let recs = headRecs (m .limit) (b .prefix) far (places (m .limit) first (cutsOf m es) (olds es)) es in
-    boxBytes (boxOf m (size + room) 1 1 0 0 (m .txid))
-    ++ (baseBytes (baseOf size (length (heads es)) (b .sibling) (length (b .lo)) (length (b .hi)) (b .prefix) 0 (oneIf (length (olds es))))
+    let remote = at + frameLen (size + room) in
+    let recs = headRecs (m .limit) (b .prefix) remote (places (m .limit) first (cutsOf m es) (olds es)) es in
+    pageBytes (pageBox m (size + room) nodeLeaf 0 0) (baseOf size (length (heads es)) (b .sibling) (length (b .lo)) (length (b .hi)) (b .prefix) 0 (oneIf (length (olds es))))
     ++ (headSlots (m .limit) (b .prefix) (firstOf b (length (heads es))) es
     ++ (b .lo
     ++ (b .hi
     ++ (recs
     ++ (replicate (size - (firstOf b (length (heads es)) + length recs)) 0
-    ++ (hints room (starts (m .limit) first (cutsOf m es) (olds es)) (histAddrs (m .limit) first (cutsOf m es) (olds es) ++ farAddrs (m .limit) far (heads es))
-    ++ pad (size + room))))))))
+    ++ (hints room (starts (m .limit) first (cutsOf m es) (olds es)) (histAddrs (m .limit) first (cutsOf m es) (olds es) ++ remoteAddrs (m .limit) remote (heads es))
+    ++ pad (size + room)))))))
 
 -- rule 4: "History pages come first .. Then the leaf page, then the heads' remote frames"
-unfoldable pub leafImage : Call → Bounds → ℕ → List Entry → List ℕ
-unfolding history historyEnd leafFrame farFrames cutsFrom costsOf only
+unfoldable pub leafImage : Call → Borders → ℕ → List Entry → List ℕ
+unfolding history historyEnd leafFrame remoteFrames cutsFrom costsOf only
 leafImage m b at es =
     history m at (cutsOf m es) (olds es)
-    ++ (leafFrame m b at (historyEnd (m .limit) at (cutsOf m es) (olds es)) es ++ farFrames m (heads es))
+    ++ (leafFrame m b at (historyEnd (m .limit) at (cutsOf m es) (olds es)) es ++ remoteFrames m (heads es))
 
 -- ---- the index page: no history, no hints
 
@@ -266,8 +252,8 @@ indexRecs p [] = []
 indexRecs p (e ∷ es) = indexKey (drop p (e .key)) ++ (le 8 (e .page) ++ indexRecs p es)
 
 unfoldable pub indexKeyLen : ℕ → ℕ → ℕ
-unfolding uleb
-indexKeyLen p n = length (uleb (n - p)) + (n - p)
+unfolding indexKeySize
+indexKeyLen p n = indexKeySize (n - p)
 
 unfoldable pub indexSums : ℕ → List Entry → ℕ
 unfolding indexKeyLen
@@ -279,13 +265,16 @@ unfolding le indexKeyLen
 indexSlots p off [] = []
 indexSlots p off (e ∷ es) = le 4 off ++ indexSlots p (off + (indexKeyLen p (length (e .key)) + 8)) es
 
-unfoldable pub indexSize : Bounds → List Entry → ℕ
-unfolding indexSums
-indexSize b es = firstOf b (length es) + indexSums (b .prefix) es
+-- by the lengths of the boundaries and of the prefix
+abbrev pub indexSizeAt : ℕ → ℕ → ℕ → List Entry → ℕ
+indexSizeAt lo hi p es = firstAt (length es) lo hi + indexSums p es
 
-unfoldable pub indexImage : Call → Bounds → List Entry → List ℕ
-unfolding boxBytes baseBytes indexSlots indexRecs pad indexSize
+unfoldable pub indexSize : Borders → List Entry → ℕ
+unfolding indexSums
+indexSize b es = indexSizeAt (length (b .lo)) (length (b .hi)) (b .prefix) es
+
+unfoldable pub indexImage : Call → Borders → List Entry → List ℕ
+unfolding pageBytes indexSlots indexRecs pad indexSize
 indexImage m b es =
-    boxBytes (boxOf m (indexSize b es) 1 2 0 0 (m .txid))
-    ++ (baseBytes (baseOf (indexSize b es) (length es) (b .sibling) (length (b .lo)) (length (b .hi)) (b .prefix) 1 0)
-    ++ (indexSlots (b .prefix) (firstOf b (length es)) es ++ (b .lo ++ (b .hi ++ (indexRecs (b .prefix) es ++ pad (indexSize b es))))))
+    pageBytes (pageBox m (indexSize b es) nodeIndex 0 0) (baseOf (indexSize b es) (length es) (b .sibling) (length (b .lo)) (length (b .hi)) (b .prefix) 1 0)
+    ++ (indexSlots (b .prefix) (firstOf b (length es)) es ++ (b .lo ++ (b .hi ++ (indexRecs (b .prefix) es ++ pad (indexSize b es)))))

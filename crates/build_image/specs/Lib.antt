@@ -1,5 +1,6 @@
 -- The crate's definitions.
 pub mod Call
+pub mod Table
 pub mod Prefix
 pub mod Sizes
 pub mod Image

@@ -5,7 +5,7 @@ use mathlib.Core.List.{List, [], _∷_}
 use mathlib.Core.Bool.{Bool, true, false, cond}
 use lib.ListN.{length, replicate}
 use lib.Dec.{ltb, eqb}
-use Rattle.lengths.specs.Leb128.{uleb}
+use Rattle.values.specs.Keys.{leafKeySize}
 use Rattle.frames.specs.Layout.{boxLen, frameLen}
 use Rattle.values.specs.Vals.{sizeOf}
 use Rattle.build_sources.specs.Source.{Entry}
@@ -15,8 +15,8 @@ unfoldable pub pad : ℕ → List ℕ
 pad payload = replicate (frameLen payload - (boxLen + payload)) 0
 
 -- the remote frame that a value of n bytes takes: none below the limit, and none where it keeps the one it has
-unfoldable pub farLen : ℕ → ℕ → ℕ → ℕ
-farLen limit n kept = cond (ltb n limit) 0 (cond (eqb kept 0) (frameLen (8 + n)) 0)
+unfoldable pub remoteLen : ℕ → ℕ → ℕ → ℕ
+remoteLen limit n kept = cond (ltb n limit) 0 (cond (eqb kept 0) (frameLen (8 + n)) 0)
 
 -- a value without history
 abbrev pub valLen : ℕ → Entry → ℕ
@@ -33,15 +33,15 @@ costsOf limit [] = []
 costsOf limit (e ∷ es) = cost limit e ∷ costsOf limit es
 
 -- the remote frames of some entries
-unfoldable pub fars : ℕ → List Entry → ℕ
-unfolding farLen
-fars limit [] = 0
-fars limit (e ∷ es) = farLen limit (length (e .val)) (e .kept) + fars limit es
+unfoldable pub remotesLen : ℕ → List Entry → ℕ
+unfolding remoteLen
+remotesLen limit [] = 0
+remotesLen limit (e ∷ es) = remoteLen limit (length (e .val)) (e .kept) + remotesLen limit es
 
 -- a leaf key of n bytes in all, p of them the page's prefix
 unfoldable pub keyLen : ℕ → ℕ → ℕ
-unfolding uleb
-keyLen p n = length (uleb (12 + (n - p))) + (12 + (n - p))
+unfolding leafKeySize
+keyLen p n = leafKeySize (n - p)
 
 -- how many old versions stand in front
 unfoldable pub oldRun : List Entry → ℕ

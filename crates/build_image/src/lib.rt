@@ -1,12 +1,19 @@
-// What every build shares: what a call is told and answers, what numbers 1 and 2 ask, and sizes and addresses as numbers. The image itself
-// is a definition (specs/Image.antt); the crates above write it.
+// What every build shares: what a call is told and answers, what numbers 1 and 2 ask, sizes and addresses as numbers, and a page's two
+// headers. The image itself is a definition (specs/Image.antt); the crates above write it.
 use frames::Addr;
+use frames::BaseHeader;
+use frames::BoxHeader;
 use frames::Refusal;
 ghost use mathlib.Core.Path.{_≡_};
-ghost use Prim.Native.Nat.{_≤_};
+ghost use Prim.Native.Nat.{_+_, _≤_};
+ghost use lib.ListN.{length};
+ghost use Rattle.spans.specs.Span.{put};
+ghost use Rattle.frames.specs.Layout.{slotsAt};
+ghost use Rattle.frames.specs.Limits.{maxValue};
+ghost use Rattle.frames.specs.Stored.{pageBytes};
 ghost use Rattle.build_image.specs.Call.{larger, callOf, limitOk, budgetOk, limitsOk, nextOk};
-ghost use Rattle.build_image.specs.Sizes.{farLen};
-ghost use Rattle.build_image.specs.Image.{farAddr};
+ghost use Rattle.build_image.specs.Sizes.{remoteLen};
+ghost use Rattle.build_image.specs.Image.{pageBox, remoteAddr};
 
 // What a build is told beside its entries: the inline limit, the budget of a history page, and what its frames' headers carry.
 pub struct Call {
@@ -47,14 +54,14 @@ pub fn call_of(limit: usize, budget: usize, group: u8, txid: u64, lsn: u64, chec
 pub fn limit_ok(limit: usize) -> bool
     ensures { λ r. ⌜ r ≡ limitOk limit ⌝ }
 {
-    (1 <= limit) & (limit <= 65536)
+    (1 <= limit) & (limit <= BaseHeader::MAX_LIMIT)
 }
 
 // "budget not 256..131,072" is BAD LIMIT.
 fn budget_ok(budget: usize) -> bool
     ensures { λ r. ⌜ r ≡ budgetOk budget ⌝ }
 {
-    (256 <= budget) & (budget <= 131072)
+    (BaseHeader::MIN_BUDGET <= budget) & (budget <= BaseHeader::MAX_BUDGET)
 }
 
 // Both.
@@ -74,9 +81,9 @@ pub fn next_ok(len: usize, next: usize) -> bool
 }
 
 // The remote frame that a value of n bytes takes.
-pub fn far_len(limit: usize, n: usize, kept: Addr) -> usize
-    requires { ⌜ n ≤ 65536 ⌝ }
-    ensures { λ r. ⌜ r ≡ farLen limit n (kept .0) ⌝ }
+pub fn remote_len(limit: usize, n: usize, kept: Addr) -> usize
+    requires { ⌜ n ≤ maxValue ⌝ }
+    ensures { λ r. ⌜ r ≡ remoteLen limit n (kept .0) ⌝ }
 {
     if n < limit {
         return 0;
@@ -88,11 +95,38 @@ pub fn far_len(limit: usize, n: usize, kept: Addr) -> usize
 }
 
 // A remote's address: where its new frame will stand, or where it stands already.
-pub fn far_addr(far: usize, kept: Addr) -> u64
-    ensures { λ r. ⌜ r ≡ farAddr far (kept .0) ⌝ }
+pub fn remote_addr(remote: usize, kept: Addr) -> u64
+    ensures { λ r. ⌜ r ≡ remoteAddr remote (kept .0) ⌝ }
 {
     if kept.0 == 0 {
-        return far as u64;
+        return remote as u64;
     }
     kept.0
+}
+
+// Both headers of a page of this call.
+pub fn page_head(
+    a: &mut [u8],
+    at: usize,
+    m: Call,
+    payload: u32,
+    node: u8,
+    flag: u8,
+    link: Addr,
+    b: BaseHeader,
+)
+    requires { ⌜ at + slotsAt ≤ length (now a) ⌝ }
+    ensures { λ _. ⌜ now (a .exit) ≡ put (now (a .entry)) at (pageBytes (pageBox m payload node flag (link .0)) b) ⌝ }
+{
+    let h = BoxHeader {
+        payload_size: payload,
+        box_kind: BoxHeader::BASE,
+        node_type: node,
+        flag: flag,
+        group: m.group,
+        link: link,
+        txid: m.txid,
+        lsn: m.lsn,
+    };
+    frames::put_page(a, at, h, b);
 }

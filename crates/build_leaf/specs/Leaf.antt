@@ -7,66 +7,66 @@ use mathlib.Core.Bool.{Bool, true, cond}
 use lib.ListN.{length, take, drop, replicate}
 use lib.Dec.{ltb}
 use Rattle.numbers.specs.Number.{le}
-use Rattle.frames.specs.Layout.{baseLen, frameLen}
-use Rattle.frames.specs.Stored.{boxBytes, baseBytes}
+use Rattle.frames.specs.Layout.{nodeLeaf, frameLen}
+use Rattle.frames.specs.Stored.{pageBytes, baseOf}
+use Rattle.frames.specs.Limits.{maxKey, maxSize}
 use Rattle.build_paging.specs.Cuts.{cutsFrom, cuts}
 use Rattle.build_sources.specs.declared.Cursor.{Cursor}
 use Rattle.build_sources.specs.Source.{Entry, entries, only, olds, heads}
 use Rattle.build_image.specs.declared.Call.{Call}
-use Rattle.build_image.specs.Sizes.{costsOf, fars}
-use Rattle.build_image.specs.Image.{boxOf, baseOf, farAddr, farAddrs, histSize, pageEnd, starts, histAddrs, places, headSlots, headRecs, les, hints, cutsOf, oneIf}
-use Rattle.build_bounds.specs.declared.Edges.{Edges}
+use Rattle.build_image.specs.Sizes.{costsOf, remotesLen}
+use Rattle.build_image.specs.Image.{pageBox, remoteAddr, remoteAddrs, histSize, pageEnd, starts, histAddrs, places, headSlots, headRecs, les, hints, firstAt, cutsOf, oneIf}
+use Rattle.build_bounds.specs.declared.Boundaries.{Boundaries}
 use Rattle.build_totals.specs.declared.Totals.{Totals}
 use Rattle.build_leaf.specs.declared.Page.{Page}
 
 -- what the judge allows: number 8's size, number 1's boundaries
-pub record Small (t : Totals) (e : Edges) : Type 0 where
-  pub size : t .size + t .room ≤ 16777216
-  pub lo : e .lo .len ≤ 4096
-  pub hi : e .hi .len ≤ 4096
-  pub prefix : e .prefix ≤ 4096
+pub record Small (t : Totals) (e : Boundaries) : Type 0 where
+  pub size : t .size + t .room ≤ maxSize
+  pub lo : e .lo .len ≤ maxKey
+  pub hi : e .hi .len ≤ maxKey
+  pub prefix : e .prefix ≤ maxKey
 
 -- ---- the frame
 
-unfoldable pub leafHead : Call → Totals → Edges → List ℕ
-unfolding boxBytes baseBytes
+unfoldable pub leafHead : Call → Totals → Boundaries → List ℕ
+unfolding pageBytes
 leafHead m t e =
-    boxBytes (boxOf m (t .size + t .room) 1 1 0 0 (m .txid))
-    ++ baseBytes (baseOf (t .size) (t .heads) (e .sibling .0) (e .lo .len) (e .hi .len) (e .prefix) 0 (oneIf (t .olds)))
+    pageBytes (pageBox m (t .size + t .room) nodeLeaf 0 0) (baseOf (t .size) (t .heads) (e .sibling .0) (e .lo .len) (e .hi .len) (e .prefix) 0 (oneIf (t .olds)))
 
 -- where the first record stands
-abbrev pub recsAt : Totals → Edges → ℕ
-recsAt t e = baseLen + 4 * t .heads + e .lo .len + e .hi .len
+abbrev pub recsAt : Totals → Boundaries → ℕ
+recsAt t e = firstAt (t .heads) (e .lo .len) (e .hi .len)
 
 -- headers, slots and the boundaries' bytes
-unfoldable pub leafFront : Call → Totals → Edges → List ℕ → List ℕ → List Entry → List ℕ
+unfoldable pub leafFront : Call → Totals → Boundaries → List ℕ → List ℕ → List Entry → List ℕ
 unfolding leafHead headSlots
 leafFront m t e lo hi es = leafHead m t e ++ (headSlots (m .limit) (e .prefix) (recsAt t e) es ++ (lo ++ hi))
 
 -- the hints of a leaf whose history stands from `first` on and whose heads' remote frames stand from `far` on
 unfoldable pub hintBytes : Call → ℕ → ℕ → ℕ → List Entry → List ℕ
-unfolding starts histAddrs farAddrs hints only cutsFrom costsOf
-hintBytes m room first far es =
-    hints room (starts (m .limit) first (cutsOf m es) (olds es)) (histAddrs (m .limit) first (cutsOf m es) (olds es) ++ farAddrs (m .limit) far (heads es))
+unfolding starts histAddrs remoteAddrs hints only cutsFrom costsOf
+hintBytes m room first remote es =
+    hints room (starts (m .limit) first (cutsOf m es) (olds es)) (histAddrs (m .limit) first (cutsOf m es) (olds es) ++ remoteAddrs (m .limit) remote (heads es))
 
 -- records and tail, which take `gap`; hints; `over` zeros that round the frame up
 unfoldable pub leafBack : Call → ℕ → ℕ → ℕ → ℕ → ℕ → ℕ → List Entry → List ℕ
 unfolding headRecs places hintBytes only cutsFrom costsOf
-leafBack m p room first far gap over es =
-    let recs = headRecs (m .limit) p far (places (m .limit) first (cutsOf m es) (olds es)) es in
-    recs ++ (replicate (gap - length recs) 0 ++ (hintBytes m room first far es ++ replicate over 0))
+leafBack m p room first remote gap over es =
+    let recs = headRecs (m .limit) p remote (places (m .limit) first (cutsOf m es) (olds es)) es in
+    recs ++ (replicate (gap - length recs) 0 ++ (hintBytes m room first remote es ++ replicate over 0))
 
 -- ---- hints
 
 -- one entry's: the address of its remote, if it has one
 unfoldable pub hintIf : ℕ → ℕ → ℕ → ℕ → List ℕ
-unfolding farAddr le
-hintIf limit far n kept = cond (ltb n limit) [] (le 8 (farAddr far kept))
+unfolding remoteAddr le
+hintIf limit remote n kept = cond (ltb n limit) [] (le 8 (remoteAddr remote kept))
 
 -- one history page's: its remotes (b true), or its own address
 unfoldable pub pageHint : Bool → ℕ → ℕ → List Entry → List ℕ
-unfolding les farAddrs histSize le
-pageHint b limit at es = cond b (les 8 (farAddrs limit (at + frameLen (histSize limit es)) es)) (le 8 at)
+unfolding les remoteAddrs histSize le
+pageHint b limit at es = cond b (les 8 (remoteAddrs limit (at + frameLen (histSize limit es)) es)) (le 8 at)
 
 unfoldable pub pageHints : Bool → ℕ → ℕ → List ℕ → List Entry → List ℕ
 unfolding pageHint pageEnd
@@ -78,26 +78,26 @@ hintsAt b m at os = pageHints b (m .limit) at (cuts (m .budget) (costsOf (m .lim
 
 -- the remotes' addresses: "history's first, then heads'"
 abbrev pub remoteHints : Call → ℕ → ℕ → List Entry → List ℕ
-remoteHints m first far es = hintsAt true m first (olds es) ++ les 8 (farAddrs (m .limit) far (heads es))
+remoteHints m first remote es = hintsAt true m first (olds es) ++ les 8 (remoteAddrs (m .limit) remote (heads es))
 
 -- what a step to the history page at an address says: l is the list, w the arena below the mark
 pub record Turned (l w : List ℕ) (m : Call) (c : Cursor) (at : ℕ) (r : Page) : Type 0 where
   pub none : r .count ≡ 0 → only true (entries l w c) ≡ []
   pub cut : (r .count ≡ 0 → ⊥) → cuts (m .budget) (costsOf (m .limit) (only true (entries l w c))) ≡ r .count ∷ cuts (m .budget) (costsOf (m .limit) (only true (entries l w (r .rest))))
-  pub far : (r .count ≡ 0 → ⊥) → r .far ≡ at + frameLen (histSize (m .limit) (take (r .count) (only true (entries l w c))))
+  pub remote : (r .count ≡ 0 → ⊥) → r .remote ≡ at + frameLen (histSize (m .limit) (take (r .count) (only true (entries l w c))))
   pub next : (r .count ≡ 0 → ⊥) → r .next ≡ pageEnd (m .limit) at (take (r .count) (only true (entries l w c)))
   pub rest : (r .count ≡ 0 → ⊥) → only true (entries l w (r .rest)) ≡ drop (r .count) (only true (entries l w c))
   pub count : r .count ≤ length (only true (entries l w c))
 
 -- the totals' counts are those of the hints, which fit in their room
-pub record Hinted (m : Call) (t : Totals) (first far : ℕ) (es : List Entry) : Type 0 where
+pub record Hinted (m : Call) (t : Totals) (first remote : ℕ) (es : List Entry) : Type 0 where
   pub count : t .heads ≡ length (heads es)
   pub pages : t .pages ≡ length (cutsOf m es)
-  pub remotes : t .remotes ≡ length (histAddrs (m .limit) first (cutsOf m es) (olds es) ++ farAddrs (m .limit) far (heads es))
+  pub remotes : t .remotes ≡ length (histAddrs (m .limit) first (cutsOf m es) (olds es) ++ remoteAddrs (m .limit) remote (heads es))
   pub room : (t .room ≡ 0 → ⊥) → 8 + 8 * t .pages + 8 * t .remotes ≤ t .room
-  pub small : t .room ≤ 16777216
+  pub small : t .room ≤ maxSize
 
 -- a page's remote frames lie below the arena's end
-pub record Reach (l w : List ℕ) (limit : ℕ) (c : Cursor) (at far n end : ℕ) : Type 0 where
-  pub stands : far ≡ at + frameLen (histSize limit (take n (only true (entries l w c))))
-  pub ends : far + fars limit (take n (only true (entries l w c))) ≤ end
+pub record Reach (l w : List ℕ) (limit : ℕ) (c : Cursor) (at remote n end : ℕ) : Type 0 where
+  pub stands : remote ≡ at + frameLen (histSize limit (take n (only true (entries l w c))))
+  pub ends : remote + remotesLen limit (take n (only true (entries l w c))) ≤ end

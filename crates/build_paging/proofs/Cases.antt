@@ -4,14 +4,15 @@ use mathlib.Core.Path.{_≡_, refl}
 use mathlib.Core.List.{List, [], _∷_}
 use Prim.Native.Nat.{ℕ, _+_, _*_}
 use lib.ListN.{replicate}
-use Rattle.build_paging.specs.Cuts.{pageStart, fits, taken, cutsFrom, cuts, total}
+use Rattle.frames.specs.Layout.{baseLen}
+use Rattle.build_paging.specs.Cuts.{fits, taken, cutsFrom, cuts, total}
 
 -- "each adds 12 + value size + 4", and an inline value's size is 5 + n
 abbrev pub inlineCost : ℕ → ℕ
 inlineCost n = 12 + (5 + n) + 4
 
 -- P8 "budget 256, limit 64, 52-byte old values: two a page; 51 bytes: three, exactly 256"
-pub p8 : (cuts 256 (replicate 7 (inlineCost 52)) ≡ 2 ∷ 2 ∷ 2 ∷ 1 ∷ []) × (cuts 256 (replicate 7 (inlineCost 51)) ≡ 3 ∷ 3 ∷ 1 ∷ []) × (pageStart + total (replicate 3 (inlineCost 51)) ≡ 256)
+pub p8 : (cuts 256 (replicate 7 (inlineCost 52)) ≡ 2 ∷ 2 ∷ 2 ∷ 1 ∷ []) × (cuts 256 (replicate 7 (inlineCost 51)) ≡ 3 ∷ 3 ∷ 1 ∷ []) × (baseLen + total (replicate 3 (inlineCost 51)) ≡ 256)
 unfolding cutsFrom fits total
 p8 = (refl, refl, refl)
 

@@ -12,7 +12,8 @@ use native.Mathlib.Omega.{arith}
 use lib.Dec.{leb, eqb}
 use lib.ListN.{length, take, drop}
 use borrow.Author.Tests.{le-leb, lt-leb, leb-true, leb-false, eq-eqb, ne-eqb, eqb-true}
-use Rattle.build_paging.specs.Cuts.{pageStart, fits, taken, cutsFrom, cuts, firstCut, some, total}
+use Rattle.frames.specs.Layout.{baseLen}
+use Rattle.build_paging.specs.Cuts.{fits, taken, cutsFrom, cuts, firstCut, some, total}
 
 -- ---- the test
 
@@ -88,8 +89,8 @@ cut-told budget n t [] p = rw (ne-eqb n 0 (λ e. omega arith), add-zero) refl
 cut-told budget n t (s ∷ ss) p = told-by (fits budget n t s) budget n t s ss refl (λ q. cut-told budget (n + 1) (t + s) ss q)
 
 -- a page takes at least one, if any is left
-pub first-some : (budget s : ℕ) (ss : List ℕ) → firstCut budget (s ∷ ss) ≡ suc (taken budget 1 (pageStart + s) ss)
-first-some budget s ss = taken-more budget 0 pageStart s ss (fits-first budget 0 pageStart s refl)
+pub first-some : (budget s : ℕ) (ss : List ℕ) → firstCut budget (s ∷ ss) ≡ suc (taken budget 1 (baseLen + s) ss)
+first-some budget s ss = taken-more budget 0 baseLen s ss (fits-first budget 0 baseLen s refl)
 
 pub first-none : (budget : ℕ) (ss : List ℕ) → firstCut budget ss ≡ 0 → ss ≡ []
 first-none budget [] e = refl
@@ -116,8 +117,8 @@ told budget ss k e =
     record {
       count = e;
       some = λ z. first-none budget ss (sym e ∙ z);
-      cut = λ p. rw e (cut-told budget 0 pageStart ss (omega (arith, e)) ∙ ap (λ (j : ℕ). j ∷ cuts budget (drop (firstCut budget ss) ss)) (omega arith));
-      long = omega (arith, e, taken-long budget 0 pageStart ss);
+      cut = λ p. rw e (cut-told budget 0 baseLen ss (omega (arith, e)) ∙ ap (λ (j : ℕ). j ∷ cuts budget (drop (firstCut budget ss) ss)) (omega arith));
+      long = omega (arith, e, taken-long budget 0 baseLen ss);
     }
 
 -- there is a next page exactly where any are left
@@ -152,18 +153,18 @@ over budget n t (s ∷ ss) p h = taken-stop budget n t s ss (fits-none budget n 
 
 -- each page is within the budget, or holds one that is too large alone
 pub page-fits : (budget s : ℕ) (ss : List ℕ)
-    → (pageStart + total (take (firstCut budget (s ∷ ss)) (s ∷ ss)) ≤ budget) ⊎ ((firstCut budget (s ∷ ss) ≡ 1) × (budget < pageStart + s))
+    → (baseLen + total (take (firstCut budget (s ∷ ss)) (s ∷ ss)) ≤ budget) ⊎ ((firstCut budget (s ∷ ss) ≡ 1) × (budget < baseLen + s))
 unfolding total
 page-fits budget s ss =
-    by-order (pageStart + s) budget
-    (λ h. inl (rw (first-some budget s ss) (omega (arith, within budget 1 (pageStart + s) ss (omega arith) h))))
-    (λ h. inr (omega (arith, first-some budget s ss, over budget 1 (pageStart + s) ss (omega arith) h), h))
+    by-order (baseLen + s) budget
+    (λ h. inl (rw (first-some budget s ss) (omega (arith, within budget 1 (baseLen + s) ss (omega arith) h))))
+    (λ h. inr (omega (arith, first-some budget s ss, over budget 1 (baseLen + s) ss (omega arith) h), h))
 
-one-alone : (k most : ℕ) (l : List ℕ) → k ≡ 1 → pageStart + total (take 1 l) ≤ most → pageStart + total (take k l) ≤ most
+one-alone : (k most : ℕ) (l : List ℕ) → k ≡ 1 → baseLen + total (take 1 l) ≤ most → baseLen + total (take k l) ≤ most
 one-alone k most l e h = rw e h
 
 -- so a bound of the budget and of the first size bounds the page
-pub page-most : (budget most : ℕ) (ss : List ℕ) → budget ≤ most → pageStart ≤ most → pageStart + total (take 1 ss) ≤ most → pageStart + total (take (firstCut budget ss) ss) ≤ most
+pub page-most : (budget most : ℕ) (ss : List ℕ) → budget ≤ most → baseLen ≤ most → baseLen + total (take 1 ss) ≤ most → baseLen + total (take (firstCut budget ss) ss) ≤ most
 unfolding total taken
 page-most budget most [] b l h = omega arith
 page-most budget most (s ∷ ss) b l h = ⊎-elim (λ q. omega arith) (λ q. one-alone (firstCut budget (s ∷ ss)) most (s ∷ ss) (q .0) h) (page-fits budget s ss)

@@ -4,10 +4,7 @@ use Prim.Native.Nat.{ℕ, suc, _+_}
 use mathlib.Core.List.{List, [], _∷_}
 use mathlib.Core.Bool.{Bool, true, false, cond, _||_}
 use lib.Dec.{leb, eqb}
-
--- "Page starts at 40"
-abbrev pub pageStart : ℕ
-pageStart = 40
+use Rattle.frames.specs.Layout.{baseLen}
 
 -- "one is taken while the total is at most the budget. One too large alone gets its own page": n stand in the page, which is t long
 unfoldable pub fits : ℕ → ℕ → ℕ → ℕ → Bool
@@ -19,19 +16,19 @@ unfolding fits
 taken budget n t [] = 0
 taken budget n t (s ∷ ss) = cond (fits budget n t s) (suc (taken budget (n + 1) (t + s) ss)) 0
 
--- the counts of all pages, that of the page under way first
+-- the counts of all pages, that of the page under way first: "Page starts at 40", with its header
 unfoldable pub cutsFrom : ℕ → ℕ → ℕ → List ℕ → List ℕ
 unfolding fits
 cutsFrom budget n t [] = cond (eqb n 0) [] (n ∷ [])
-cutsFrom budget n t (s ∷ ss) = cond (fits budget n t s) (cutsFrom budget (n + 1) (t + s) ss) (n ∷ cutsFrom budget 1 (pageStart + s) ss)
+cutsFrom budget n t (s ∷ ss) = cond (fits budget n t s) (cutsFrom budget (n + 1) (t + s) ss) (n ∷ cutsFrom budget 1 (baseLen + s) ss)
 
 -- "Old versions fill history pages greedily"
 abbrev pub cuts : ℕ → List ℕ → List ℕ
-cuts budget ss = cutsFrom budget 0 pageStart ss
+cuts budget ss = cutsFrom budget 0 baseLen ss
 
 -- the first page's count
 abbrev pub firstCut : ℕ → List ℕ → ℕ
-firstCut budget ss = taken budget 0 pageStart ss
+firstCut budget ss = taken budget 0 baseLen ss
 
 -- whether there are any
 abbrev pub some : List ℕ → Bool

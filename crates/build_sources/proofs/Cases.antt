@@ -8,7 +8,7 @@ use Rattle.spans.specs.Span.{part, partOr}
 use Rattle.numbers.specs.Number.{ofLe, ofBe, beAt}
 use Rattle.order.specs.Order.{cmpBytes}
 use Rattle.order.specs.Version.{verOf, newerThan}
-use Rattle.build_sources.specs.declared.Begun.{Begun}
+use Rattle.build_sources.specs.declared.Started.{Started}
 use Rattle.build_sources.specs.Keys.{keyBytes}
 use Rattle.build_sources.specs.Lists.{begunOf, firstOf, sameKey, recordAt, indexAt, spotAt}
 use Rattle.build_sources.specs.Source.{Entry, after, listF, wellF, stepOf, nextOf, leftOf, entryOf, entries, wellFormed}
@@ -20,7 +20,7 @@ p7List =
     0 ∷ 1 ∷ 97 ∷ 0 ∷ 0 ∷ 0 ∷ 0 ∷ 0 ∷ 0 ∷ 0 ∷ 5 ∷ 0 ∷ 0 ∷ 0 ∷ 0 ∷ 0 ∷ 0 ∷ 0 ∷ 2 ∷ 120 ∷ 121 ∷
     0 ∷ 1 ∷ 97 ∷ 0 ∷ 0 ∷ 0 ∷ 0 ∷ 0 ∷ 0 ∷ 0 ∷ 3 ∷ 0 ∷ 0 ∷ 0 ∷ 0 ∷ 0 ∷ 0 ∷ 0 ∷ 1 ∷ 122 ∷ []
 
-pub p7-opens : begunOf p7List 0 ≡ Begun.From (firstOf 0)
+pub p7-opens : begunOf p7List 0 ≡ Started.From (firstOf 0)
 unfolding p7List begunOf beAt ofBe ofLe part
 p7-opens = refl
 

@@ -9,8 +9,8 @@ use denote.Ref.{RefT, now}
 use denote.Triple.Clauses.{AtExit}
 use Rattle.spans.specs.Only.{Decides, decides}
 use Rattle.build_sources.specs.declared.Cursor.{Cursor}
-use Rattle.build_sources.specs.declared.Begun.{Begun}
-use Rattle.build_sources.specs.declared.Step.{Step}
+use Rattle.build_sources.specs.declared.Started.{Started}
+use Rattle.build_sources.specs.declared.EntryRead.{EntryRead}
 use Rattle.build_sources.specs.Lists.{begunOf}
 use Rattle.build_sources.specs.declared.Risen.{Risen}
 use Rattle.build_sources.specs.Source.{nextOf, entries, wellFormed}
@@ -28,15 +28,15 @@ use Rattle.build_sources.proofs.rises.Reads as rises
 use Rattle.build_sources.proofs.begins as begins-fn
 use Rattle.build_sources.proofs.begins.Reads as begins
 
-pub open-records-decided : (κs : Lfts 1) (l : RefT (List ℕ)) (x : AtExit records-fn.ended κs) → Decides (λ (r : Begun). records.Post κs (l, tt) r x) (λ (r : Begun). r)
-open-records-decided κs l x = decides (λ (r : Begun). r) (begunOf (now l) 0)
+pub open-records-decided : (κs : Lfts 1) (l : RefT (List ℕ)) (x : AtExit records-fn.ended κs) → Decides (λ (r : Started). records.Post κs (l, tt) r x) (λ (r : Started). r)
+open-records-decided κs l x = decides (λ (r : Started). r) (begunOf (now l) 0)
 
-pub open-index-decided : (κs : Lfts 1) (l : RefT (List ℕ)) (x : AtExit index-fn.ended κs) → Decides (λ (r : Begun). index.Post κs (l, tt) r x) (λ (r : Begun). r)
-open-index-decided κs l x = decides (λ (r : Begun). r) (begunOf (now l) 1)
+pub open-index-decided : (κs : Lfts 1) (l : RefT (List ℕ)) (x : AtExit index-fn.ended κs) → Decides (λ (r : Started). index.Post κs (l, tt) r x) (λ (r : Started). r)
+open-index-decided κs l x = decides (λ (r : Started). r) (begunOf (now l) 1)
 
 module _ (κs : Lfts 2) (l w : RefT (List ℕ)) (c : Cursor) where
-  pub next-decided : (x : AtExit next-fn.ended κs) → Decides (λ (r : Step). next.Post κs (l, (w, (c, tt))) r x) (λ (r : Step). r)
-  next-decided x = decides (λ (r : Step). r) (nextOf (now l) (now w) c)
+  pub next-decided : (x : AtExit next-fn.ended κs) → Decides (λ (r : EntryRead). next.Post κs (l, (w, (c, tt))) r x) (λ (r : EntryRead). r)
+  next-decided x = decides (λ (r : EntryRead). r) (nextOf (now l) (now w) c)
 
   pub well-decided : (x : AtExit well-fn.ended κs) → Decides (λ (r : Bool). well.Post κs (l, (w, (c, tt))) r x) (λ (r : Bool). r)
   well-decided x = decides (λ (r : Bool). r) (wellFormed (now l) (now w) c)

@@ -12,7 +12,7 @@ use Rattle.order.specs.declared.Order.the-variants.{Less, Equal, Greater}
 use Rattle.order.specs.Order.{cmpBytes, startsWith}
 use Rattle.order.specs.Version.{newerThan}
 use Rattle.build_sources.specs.declared.Cursor.{Cursor}
-use Rattle.build_sources.specs.declared.Item.{Item}
+use Rattle.build_sources.specs.declared.EntryAt.{EntryAt}
 use Rattle.build_sources.specs.Keys.{keyBytes, srcOf}
 use Rattle.build_sources.specs.Source.{Entry, entryOf, entries, leftOf}
 use Rattle.build_sources.specs.declared.Risen.{Risen}
@@ -23,16 +23,16 @@ use Rattle.build_sources.proofs.Paged.{left-small}
 use Rattle.build_sources.proofs.Sourced.{Found}
 
 -- the key of an entry, by where it lies
-pub key-of : (l w : List ℕ) (i : Item) (b : Bool) → i .low ≡ b → keyBytes (srcOf l w b) (i .key) ≡ entryOf l w i .key
+pub key-of : (l w : List ℕ) (i : EntryAt) (b : Bool) → i .ground ≡ b → keyBytes (srcOf l w b) (i .key) ≡ entryOf l w i .key
 unfolding entryOf
 key-of l w i b e = rw e refl
 
-pub by-keys : (l w : List ℕ) (a b : Item) (x y : Bool) (o : Order) → a .low ≡ x → b .low ≡ y
+pub by-keys : (l w : List ℕ) (a b : EntryAt) (x y : Bool) (o : Order) → a .ground ≡ x → b .ground ≡ y
     → o ≡ cmpBytes (keyBytes (srcOf l w x) (a .key)) (keyBytes (srcOf l w y) (b .key)) → o ≡ cmpBytes (entryOf l w a .key) (entryOf l w b .key)
 by-keys l w a b x y o p q h = h ∙ rw (key-of l w a x p, key-of l w b y q) refl
 
 -- one entry against the one before
-module _ (l w : List ℕ) (a b : Item) (o : Order) (e : o ≡ cmpBytes (entryOf l w a .key) (entryOf l w b .key)) where
+module _ (l w : List ℕ) (a b : EntryAt) (o : Order) (e : o ≡ cmpBytes (entryOf l w a .key) (entryOf l w b .key)) where
   pub above-less : o ≡ Less → true ≡ above (entryOf l w a) (entryOf l w b)
   unfolding above
   above-less h = rw (sym e ∙ h) refl
@@ -50,7 +50,7 @@ module _ (l w : List ℕ) (x : Entry) (c : Cursor) where
   unfolding risingFrom
   rising-end e = rw e refl
 
-  module _ (i : Item) (d : Cursor) (f : Found l w c i d) where
+  module _ (i : EntryAt) (d : Cursor) (f : Found l w c i d) where
     rising-not : above x (entryOf l w i) ≡ false → false ≡ risingFrom x (entries l w c)
     unfolding risingFrom
     rising-not h = rw (f .list, h) refl
@@ -68,7 +68,7 @@ module _ (l w : List ℕ) (c : Cursor) where
   unfolding prefixed
   prefixed-end p e = rw e refl
 
-  module _ (i : Item) (d : Cursor) (f : Found l w c i d) where
+  module _ (i : EntryAt) (d : Cursor) (f : Found l w c i d) where
     pub rises-on : (r : Risen) → r ≡ risenOf (entryOf l w i ∷ entries l w d) → r ≡ risenOf (entries l w c)
     rises-on r h = rw (f .list) h
 
@@ -123,7 +123,7 @@ module _ (l w : List ℕ) (x₀ : Entry) (c₀ : Cursor) (x : Entry) (c : Cursor
   pub risen-end : entries l w c ≡ [] → Up n ≡ risenOf (x₀ ∷ entries l w c₀)
   risen-end e = is-up (x₀ ∷ entries l w c₀) n (rising-all (rising-end l w x c e)) (omega (arith, h .all, ap length e))
 
-  module _ (i : Item) (d : Cursor) (f : Found l w c i d) where
+  module _ (i : EntryAt) (d : Cursor) (f : Found l w c i d) where
     pub risen-stop : above x (entryOf l w i) ≡ false → Not ≡ risenOf (x₀ ∷ entries l w c₀)
     risen-stop e = is-not (x₀ ∷ entries l w c₀) (rising-all (rising-not l w x c i d f e))
 
@@ -134,7 +134,7 @@ module _ (l w : List ℕ) (x₀ : Entry) (c₀ : Cursor) (x : Entry) (c : Cursor
 -- the count stays a number that a usize holds
 pub left-long : (l w : List ℕ) (c : Cursor) → leftOf l w c ≤ length l + 562949953421312
 unfolding leftOf
-left-long l w c = go (eqb (c .kind) 2)
+left-long l w c = go (eqb (c .source) 2)
   where
     go : (t : Bool) → cond t (pagesLeft c) (length l - c .at) ≤ length l + 562949953421312
     go true = omega (arith, left-small c)

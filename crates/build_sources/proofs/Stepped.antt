@@ -9,9 +9,9 @@ use borrow.Author.Tests.{le-leb, lt-leb}
 use Rattle.walks.specs.declared.Walk.{Walk}
 use Rattle.build_sources.specs.declared.Cursor.{Cursor}
 use Rattle.build_sources.specs.declared.Key.{Key}
-use Rattle.build_sources.specs.declared.Item.{Item}
+use Rattle.build_sources.specs.declared.EntryAt.{EntryAt}
 use Rattle.build_sources.specs.declared.Spot.{Spot}
-use Rattle.build_sources.specs.declared.Step.{Step}
+use Rattle.build_sources.specs.declared.EntryRead.{EntryRead}
 use Rattle.build_sources.specs.Keys.{keyBytes}
 use Rattle.build_sources.specs.Lists.{cursorAt, sameKey, recordAt, spotAt}
 use Rattle.build_sources.specs.Source.{listNext, stepOf, nextOf}
@@ -28,13 +28,13 @@ unfolding recordAt sameKey keyBytes
 record-bare s c = refl
 
 -- the cursor past an entry carries the walk on
-pub walk-kept : (c : Cursor) (i : Item) (past : ℕ) (w : Walk) → w ≡ c .walk
-    → Step.Got i (record { kind = c .kind; seen = true; key = i .key; at = past; walk = w; pre = c .pre; then = c .then }) ≡ stepOf c (Spot.At i past)
+pub walk-kept : (c : Cursor) (i : EntryAt) (past : ℕ) (w : Walk) → w ≡ c .walk
+    → EntryRead.Got i (record { source = c .source; seen = true; key = i .key; at = past; walk = w; pre = c .pre; then = c .then }) ≡ stepOf c (Spot.At i past)
 unfolding stepOf
 walk-kept c i past w e = rw e refl
 
-module _ (l w : List ℕ) (c : Cursor) (h : c .kind ≡ 0) where
-  pub record-end : length l ≤ c .at → Step.End ≡ nextOf l w c
+module _ (l w : List ℕ) (c : Cursor) (h : c .source ≡ 0) where
+  pub record-end : length l ≤ c .at → EntryRead.End ≡ nextOf l w c
   unfolding nextOf listNext
   record-end e = rw (h, le-leb (length l) (c .at) e)
 

@@ -6,19 +6,19 @@ use mathlib.Core.Bool.{Bool, true, false}
 use Prim.Native.Nat.{ℕ, zero, suc, _+_, _-_, _≤_, _<_}
 use native.Mathlib.Omega.{arith}
 use Rattle.build_sources.specs.declared.Cursor.{Cursor}
-use Rattle.build_sources.specs.declared.Item.{Item}
-use Rattle.build_sources.specs.declared.Step.{Step}
-use Rattle.build_sources.specs.declared.Step.the-variants.{Got, End, Bad}
+use Rattle.build_sources.specs.declared.EntryAt.{EntryAt}
+use Rattle.build_sources.specs.declared.EntryRead.{EntryRead}
+use Rattle.build_sources.specs.declared.EntryRead.the-variants.{Got, End, Bad}
 use Rattle.build_sources.specs.Source.{Entry, after, listF, wellF}
 
-pub after-same {ℓ} : {X : Type ℓ} (st : Step) (go go′ : Item → Cursor → X) (e b : X)
-    → ((i : Item) (d : Cursor) → st ≡ Got i d → go i d ≡ go′ i d) → after st go e b ≡ after st go′ e b
+pub after-same {ℓ} : {X : Type ℓ} (st : EntryRead) (go go′ : EntryAt → Cursor → X) (e b : X)
+    → ((i : EntryAt) (d : Cursor) → st ≡ Got i d → go i d ≡ go′ i d) → after st go e b ≡ after st go′ e b
 unfolding after
 after-same (Got i d) go go′ e b h = h i d refl
 after-same End go go′ e b h = refl
 after-same Bad go go′ e b h = refl
 
-module _ (nx : Cursor → Step) (en : Item → Entry) (left : Cursor → ℕ) (falls : (c : Cursor) (i : Item) (d : Cursor) → nx c ≡ Got i d → left d < left c) where
+module _ (nx : Cursor → EntryRead) (en : EntryAt → Entry) (left : Cursor → ℕ) (falls : (c : Cursor) (i : EntryAt) (d : Cursor) → nx c ≡ Got i d → left d < left c) where
   pub list-same : (f g : ℕ) (c : Cursor) → left c < f → left c < g → listF nx en f c ≡ listF nx en g c
   unfolding listF
   list-same zero g c h k = absurd (omega arith)

@@ -9,6 +9,7 @@ use Rattle.spans.specs.Span.{part}
 use Rattle.order.specs.Order.{cmpBytes, isEqual}
 use Rattle.frames.specs.declared.RemoteRead.{RemoteRead}
 use Rattle.frames.specs.Layout.{addr, remoteAt}
+use Rattle.frames.specs.Limits.{maxKey, maxValue}
 use Rattle.build_sources.specs.Source.{Entry}
 
 -- each element has the property
@@ -34,8 +35,8 @@ pub record Held (s : List ℕ) (a : ℕ) (v : List ℕ) : Type 0 where
 
 -- "key over 4,096, value over 65,536" is refused
 pub record Short (e : Entry) : Type 0 where
-  pub key : length (e .key) ≤ 4096
-  pub val : length (e .val) ≤ 65536
+  pub key : length (e .key) ≤ maxKey
+  pub val : length (e .val) ≤ maxValue
 
 -- its numbers have their widths: "txid u64, cmd u32", an address and a page id u64
 pub record Wide (e : Entry) : Type 0 where

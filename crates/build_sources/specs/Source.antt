@@ -9,10 +9,11 @@ use lib.ListN.{length, drop}
 use lib.Dec.{leb, eqb}
 use Rattle.spans.specs.Span.{part}
 use Rattle.order.specs.declared.Ver.{Ver}
+use Rattle.frames.specs.Limits.{maxKey, maxValue}
 use Rattle.build_sources.specs.declared.Cursor.{Cursor}
-use Rattle.build_sources.specs.declared.Item.{Item}
+use Rattle.build_sources.specs.declared.EntryAt.{EntryAt}
 use Rattle.build_sources.specs.declared.Spot.{Spot}
-use Rattle.build_sources.specs.declared.Step.{Step}
+use Rattle.build_sources.specs.declared.EntryRead.{EntryRead}
 use Rattle.build_sources.specs.declared.Pick.{Pick}
 use Rattle.build_sources.specs.Keys.{keyBytes, srcOf}
 use Rattle.build_sources.specs.Lists.{spotAt}
@@ -29,60 +30,60 @@ pub record Entry : Type 0 where
 
 -- ---- any source, by its step nx and the entry that an item stands for, en
 
-unfoldable pub after {ℓ} : {X : Type ℓ} → Step → (Item → Cursor → X) → X → X → X
-after (Step.Got i c) go e b = go i c
-after Step.End go e b = e
-after Step.Bad go e b = b
+unfoldable pub after {ℓ} : {X : Type ℓ} → EntryRead → (EntryAt → Cursor → X) → X → X → X
+after (EntryRead.Got i c) go e b = go i c
+after EntryRead.End go e b = e
+after EntryRead.Bad go e b = b
 
-unfoldable pub listF : (Cursor → Step) → (Item → Entry) → ℕ → Cursor → List Entry
+unfoldable pub listF : (Cursor → EntryRead) → (EntryAt → Entry) → ℕ → Cursor → List Entry
 unfolding after
 listF nx en zero c = []
 listF nx en (suc f) c = after (nx c) (λ i d. en i ∷ listF nx en f d) [] []
 
-unfoldable pub wellF : (Cursor → Step) → ℕ → Cursor → Bool
+unfoldable pub wellF : (Cursor → EntryRead) → ℕ → Cursor → Bool
 unfolding after
 wellF nx zero c = false
 wellF nx (suc f) c = after (nx c) (λ i d. wellF nx f d) true false
 
 -- ---- the sources there are
 
-abbrev pub pastOf : Cursor → ℕ → Item → Cursor
-pastOf c past i = record { kind = c .kind; seen = true; key = i .key; at = past; walk = c .walk; pre = c .pre; then = c .then }
+abbrev pub pastOf : Cursor → ℕ → EntryAt → Cursor
+pastOf c past i = record { source = c .source; seen = true; key = i .key; at = past; walk = c .walk; pre = c .pre; then = c .then }
 
-unfoldable pub stepOf : Cursor → Spot → Step
-stepOf c (Spot.At i past) = Step.Got i (pastOf c past i)
-stepOf c Spot.Out = Step.Bad
+unfoldable pub stepOf : Cursor → Spot → EntryRead
+stepOf c (Spot.At i past) = EntryRead.Got i (pastOf c past i)
+stepOf c Spot.Out = EntryRead.Bad
 
 -- a list ends where its slice ends
-unfoldable pub listNext : List ℕ → Cursor → Step
+unfoldable pub listNext : List ℕ → Cursor → EntryRead
 unfolding stepOf spotAt
-listNext l c = cond (leb (length l) (c .at)) Step.End (stepOf c (spotAt l c))
+listNext l c = cond (leb (length l) (c .at)) EntryRead.End (stepOf c (spotAt l c))
 
-unfoldable pub nextOf : List ℕ → List ℕ → Cursor → Step
+unfoldable pub nextOf : List ℕ → List ℕ → Cursor → EntryRead
 unfolding listNext pagesNext
-nextOf l w c = cond (eqb (c .kind) 2) (pagesNext w c) (listNext l c)
+nextOf l w c = cond (eqb (c .source) 2) (pagesNext w c) (listNext l c)
 
 unfoldable pub leftOf : List ℕ → List ℕ → Cursor → ℕ
 unfolding pagesLeft
-leftOf l w c = cond (eqb (c .kind) 2) (pagesLeft c) (length l - c .at)
+leftOf l w c = cond (eqb (c .source) 2) (pagesLeft c) (length l - c .at)
 
 -- an item lies in its slice, and keeps document 01's lengths
-pub record Placed (l w : List ℕ) (i : Item) : Type 0 where
-  pub pre : i .key .pat + i .key .plen ≤ length (srcOf l w (i .low))
-  pub rest : i .key .kat + i .key .klen ≤ length (srcOf l w (i .low))
-  pub val : i .vat + i .vlen ≤ length (srcOf l w (i .low))
-  pub ksmall : i .key .plen + i .key .klen ≤ 4096
-  pub vsmall : i .vlen ≤ 65536
+pub record Placed (l w : List ℕ) (i : EntryAt) : Type 0 where
+  pub pre : i .key .pat + i .key .plen ≤ length (srcOf l w (i .ground))
+  pub rest : i .key .kat + i .key .klen ≤ length (srcOf l w (i .ground))
+  pub val : i .vat + i .vlen ≤ length (srcOf l w (i .ground))
+  pub ksmall : i .key .plen + i .key .klen ≤ maxKey
+  pub vsmall : i .vlen ≤ maxValue
 
 -- what an item stands for
-unfoldable pub entryOf : List ℕ → List ℕ → Item → Entry
+unfoldable pub entryOf : List ℕ → List ℕ → EntryAt → Entry
 unfolding keyBytes part
 entryOf l w i =
     record {
       old = i .old;
-      key = keyBytes (srcOf l w (i .low)) (i .key);
+      key = keyBytes (srcOf l w (i .ground)) (i .key);
       ver = i .ver;
-      val = part (srcOf l w (i .low)) (i .vat) (i .vlen);
+      val = part (srcOf l w (i .ground)) (i .vat) (i .vlen);
       kept = i .kept .0;
       page = i .page .0;
     }
@@ -114,7 +115,7 @@ abbrev pub heads : List Entry → List Entry
 heads es = only false es
 
 -- what a step to the next wanted entry says
-pub record Chosen (l w : List ℕ) (b : Bool) (c : Cursor) (i : Item) (d : Cursor) : Type 0 where
+pub record Chosen (l w : List ℕ) (b : Bool) (c : Cursor) (i : EntryAt) (d : Cursor) : Type 0 where
   pub list : only b (entries l w c) ≡ entryOf l w i ∷ only b (entries l w d)
   pub placed : Placed l w i
   pub klen : length (entryOf l w i .key) ≡ i .key .plen + i .key .klen

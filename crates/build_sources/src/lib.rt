@@ -2,6 +2,9 @@
 // a source knows the step's equation and the laws that follow from it, never the cursor, so a source that is added here (a part of a
 // page, more pages) changes no pass. `list` is the lent slice, `low` the arena below the next free address.
 use frames::Addr;
+use frames::BaseHeader;
+use frames::NULL_ADDR;
+use frames::NULL_PID;
 use frames::Opened;
 use frames::PageId;
 use frames::Refusal;
@@ -9,12 +12,12 @@ use order::Order;
 use order::Ver;
 use pages::BoundsRead;
 use pages::Place;
-use walks::Past;
+use walks::OldPlace;
 use walks::Sheet;
 use walks::Walk;
 ghost use mathlib.Core.Path.{_≡_};
 ghost use mathlib.Core.List.{_∷_, _++_};
-ghost use Prim.Native.Nat.{_+_, _≤_, _<_};
+ghost use Prim.Native.Nat.{_+_, _<_};
 ghost use lib.ListN.{length, getD};
 ghost use Rattle.order.specs.Order.{cmpBytes, startsWith};
 ghost use Rattle.build_sources.specs.Keys.{keyBytes};
@@ -33,7 +36,7 @@ pub struct Key {
 
 // Where reading stands: which source, and the key of the entry before; a list's place; a page's walk and prefix, and the page behind.
 pub struct Cursor {
-    pub kind: u8,
+    pub source: u8,
     pub seen: bool,
     pub key: Key,
     pub at: usize,
@@ -51,8 +54,8 @@ impl Cursor {
 }
 
 // Where an entry lies: below the free address (low) or in the lent slice. `old` says that its key is that of the entry before.
-pub struct Item {
-    pub low: bool,
+pub struct EntryAt {
+    pub ground: bool,
     pub old: bool,
     pub key: Key,
     pub ver: Ver,
@@ -62,24 +65,24 @@ pub struct Item {
     pub page: PageId,
 }
 
-pub enum Begun {
+pub enum Started {
     From(Cursor),
     Bad,
 }
 
 pub enum Spot {
-    At(Item, usize),
+    At(EntryAt, usize),
     Out,
 }
 
-pub enum Step {
-    Got(Item, Cursor),
+pub enum EntryRead {
+    Got(EntryAt, Cursor),
     End,
     Bad,
 }
 
 pub enum Pick {
-    One(Item, Cursor),
+    One(EntryAt, Cursor),
     None,
 }
 
@@ -180,12 +183,12 @@ fn begins_in(s: &[u8], k: Key, pre: &[u8]) -> bool
 }
 
 // Whether an entry's key begins with pre.
-fn key_begins(list: &[u8], low: &[u8], i: Item, pre: &[u8]) -> bool
-    ensures { λ b. ⌜ b ≡ startsWith (now (pre .entry)) (entryOf (now (list .entry)) (now (low .entry)) i .key) ⌝ }
+fn key_begins(list: &[u8], ground: &[u8], i: EntryAt, pre: &[u8]) -> bool
+    ensures { λ b. ⌜ b ≡ startsWith (now (pre .entry)) (entryOf (now (list .entry)) (now (ground .entry)) i .key) ⌝ }
 {
     let k = i.key;
-    if i.low {
-        return begins_in(low, k, pre);
+    if i.ground {
+        return begins_in(ground, k, pre);
     }
     begins_in(list, k, pre)
 }
@@ -196,39 +199,24 @@ fn key_begins(list: &[u8], low: &[u8], i: Item, pre: &[u8]) -> bool
 fn no_walk() -> Walk
     ensures { λ r. ⌜ r ≡ noWalk ⌝ }
 {
+    let older = walks::no_older();
+    let page = older.page;
     Walk {
-        page: Sheet {
-            at: 0,
-            elems: 0,
-            front: 0,
-            end: 0,
-            prefix_len: 0,
-        },
+        page: page,
         way: 0,
         pos: 0,
         heads: 0,
         key: Place { at: 0, len: 0 },
-        past: Past {
-            page: Sheet {
-                at: 0,
-                elems: 0,
-                front: 0,
-                end: 0,
-                prefix_len: 0,
-            },
-            link: Addr(0),
-            slot: 0,
-            left: 0,
-        },
+        older: older,
     }
 }
 
 // In front of a source's first entry.
-fn first_of(kind: u8) -> Cursor
-    ensures { λ r. ⌜ r ≡ firstOf kind ⌝ }
+fn first_of(source: u8) -> Cursor
+    ensures { λ r. ⌜ r ≡ firstOf source ⌝ }
 {
     Cursor {
-        kind: kind,
+        source: source,
         seen: false,
         key: Key {
             pat: 0,
@@ -239,38 +227,38 @@ fn first_of(kind: u8) -> Cursor
         at: 5,
         walk: no_walk(),
         pre: Place { at: 0, len: 0 },
-        then: Addr(0),
+        then: NULL_ADDR,
     }
 }
 
 // ---- lists
 
 // The five bytes before a list's entries: version 1, and the count of the bytes that follow.
-fn begin(list: &[u8], kind: u8) -> Begun
-    ensures { λ r. ⌜ r ≡ begunOf (now (list .entry)) kind ⌝ }
+fn begin(list: &[u8], source: u8) -> Started
+    ensures { λ r. ⌜ r ≡ begunOf (now (list .entry)) source ⌝ }
 {
     let n = list.len();
     if n < 5 {
-        return Begun::Bad;
+        return Started::Bad;
     }
     if list[0] != 1 {
-        return Begun::Bad;
+        return Started::Bad;
     }
     if numbers::read_u32_be(list, 1) as usize != n - 5 {
-        return Begun::Bad;
+        return Started::Bad;
     }
-    Begun::From(first_of(kind))
+    Started::From(first_of(source))
 }
 
 // Opens a record list.
-pub fn open_records(list: &[u8]) -> Begun
+pub fn open_records(list: &[u8]) -> Started
     ensures { λ r. ⌜ r ≡ begunOf (now (list .entry)) 0 ⌝ }
 {
     begin(list, Cursor::RECORDS)
 }
 
 // Opens an index list.
-pub fn open_index(list: &[u8]) -> Begun
+pub fn open_index(list: &[u8]) -> Started
     ensures { λ r. ⌜ r ≡ begunOf (now (list .entry)) 1 ⌝ }
 {
     begin(list, Cursor::INDEX)
@@ -338,7 +326,7 @@ fn record_at(
         return Spot::Out;
     }
     let klen = numbers::read_u16_be(s, at) as usize;
-    if 4096 < klen {
+    if BaseHeader::MAX_KEY < klen {
         return Spot::Out;
     }
     if n - (at + 2) < klen + 16 {
@@ -346,7 +334,7 @@ fn record_at(
     }
     let tat = at + 2 + klen;
     let vlen = numbers::read_u32_be(s, tat + 12) as usize;
-    if 65536 < vlen {
+    if BaseHeader::MAX_VALUE < vlen {
         return Spot::Out;
     }
     let vat = tat + 16;
@@ -365,15 +353,15 @@ fn record_at(
         numbers::read_u32_be(s, tat + 8),
     );
     Spot::At(
-        Item {
-            low: false,
+        EntryAt {
+            ground: false,
             old: old,
             key: k,
             ver: v,
             vat: vat,
             vlen: vlen,
-            kept: Addr(0),
-            page: PageId(0),
+            kept: NULL_ADDR,
+            page: NULL_PID,
         },
         vat + vlen,
     )
@@ -392,7 +380,7 @@ fn index_at(s: &[u8], c: Cursor) -> Spot
         return Spot::Out;
     }
     let klen = numbers::read_u16_be(s, at) as usize;
-    if 4096 < klen {
+    if BaseHeader::MAX_KEY < klen {
         return Spot::Out;
     }
     if n - (at + 2) < klen + 8 {
@@ -409,14 +397,14 @@ fn index_at(s: &[u8], c: Cursor) -> Spot
     let v = Ver::new(0, 0);
     let page = PageId(numbers::read_u64_be(s, tat));
     Spot::At(
-        Item {
-            low: false,
+        EntryAt {
+            ground: false,
             old: old,
             key: k,
             ver: v,
             vat: 0,
             vlen: 0,
-            kept: Addr(0),
+            kept: NULL_ADDR,
             page: page,
         },
         tat + 8,
@@ -426,7 +414,7 @@ fn index_at(s: &[u8], c: Cursor) -> Spot
 fn spot_at(s: &[u8], c: Cursor) -> Spot
     ensures { λ r. ⌜ r ≡ spotAt (now (s .entry)) c ⌝ }
 {
-    if c.kind == Cursor::INDEX {
+    if c.source == Cursor::INDEX {
         return index_at(s, c);
     }
     record_at(
@@ -441,24 +429,24 @@ fn spot_at(s: &[u8], c: Cursor) -> Spot
 }
 
 // The entry of a list at a cursor, and the cursor past it.
-fn list_next(list: &[u8], c: Cursor) -> Step
+fn list_next(list: &[u8], c: Cursor) -> EntryRead
     ensures { λ r. ⌜ r ≡ listNext (now (list .entry)) c ⌝ }
 {
     let at = c.at;
     if list.len() <= at {
-        return Step::End;
+        return EntryRead::End;
     }
     let Spot::At(i, past) = spot_at(list, c) else {
-        return Step::Bad;
+        return EntryRead::Bad;
     };
     let k = i.key;
     let walk = c.walk;
     let pre = c.pre;
     let then = c.then;
-    Step::Got(
+    EntryRead::Got(
         i,
         Cursor {
-            kind: c.kind,
+            source: c.source,
             seen: true,
             key: k,
             at: past,
@@ -472,29 +460,29 @@ fn list_next(list: &[u8], c: Cursor) -> Step
 // ---- pages below the free address
 
 // A walk over a whole page.
-fn whole(low: &[u8], a: Addr) -> walks::Begun
-    ensures { λ r. ⌜ r ≡ wholeAt (now (low .entry)) a ⌝ }
+fn whole(ground: &[u8], a: Addr) -> walks::Begun
+    ensures { λ r. ⌜ r ≡ wholeAt (now (ground .entry)) a ⌝ }
 {
-    let Opened::Is(b) = frames::open_at(low, a) else {
+    let Opened::Is(b) = frames::open_at(ground, a) else {
         return walks::Begun::Refused(Refusal::BadFrame);
     };
-    walks::forward(low, a, 0, b.elems)
+    walks::forward(ground, a, 0, b.elems)
 }
 
 // The cursor in front of a page's first record, with another page behind it or none; the key before stays.
-fn page_first(low: &[u8], c: Cursor, a: Addr, then: Addr) -> Begun
-    ensures { λ r. ⌜ r ≡ pageFirst (now (low .entry)) c a then ⌝ }
+fn page_first(ground: &[u8], c: Cursor, a: Addr, then: Addr) -> Started
+    ensures { λ r. ⌜ r ≡ pageFirst (now (ground .entry)) c a then ⌝ }
 {
-    let walks::Begun::Is(v) = whole(low, a) else {
-        return Begun::Bad;
+    let walks::Begun::Is(v) = whole(ground, a) else {
+        return Started::Bad;
     };
-    let BoundsRead::Is(e) = pages::bounds_at(low, a) else {
-        return Begun::Bad;
+    let BoundsRead::Is(e) = pages::bounds_at(ground, a) else {
+        return Started::Bad;
     };
     let key = c.key;
     let pre = e.prefix;
-    Begun::From(Cursor {
-        kind: c.kind,
+    Started::From(Cursor {
+        source: c.source,
         seen: c.seen,
         key: key,
         at: c.at,
@@ -505,15 +493,15 @@ fn page_first(low: &[u8], c: Cursor, a: Addr, then: Addr) -> Begun
 }
 
 // Opens two pages, the left one first.
-pub fn open_pages(low: &[u8], left: Addr, right: Addr) -> Begun
-    ensures { λ r. ⌜ r ≡ pageFirst (now (low .entry)) (firstOf 2) left right ⌝ }
+pub fn open_pages(ground: &[u8], left: Addr, right: Addr) -> Started
+    ensures { λ r. ⌜ r ≡ pageFirst (now (ground .entry)) (firstOf 2) left right ⌝ }
 {
-    page_first(low, first_of(Cursor::PAGES), left, right)
+    page_first(ground, first_of(Cursor::PAGES), left, right)
 }
 
 // A walk's record as an entry, with the cursor past it; none where a place lies outside or keeps no length of document 01.
 fn item_at(
-    low: &[u8],
+    ground: &[u8],
     c: Cursor,
     rest: Place,
     ver: Ver,
@@ -521,26 +509,26 @@ fn item_at(
     kept: Addr,
     page: PageId,
     v: Walk,
-) -> Step
-    ensures { λ r. ⌜ r ≡ itemAt (now (low .entry)) c rest ver value kept page v ⌝ }
+) -> EntryRead
+    ensures { λ r. ⌜ r ≡ itemAt (now (ground .entry)) c rest ver value kept page v ⌝ }
 {
-    let n = low.len();
+    let n = ground.len();
     let pre = c.pre;
     let then = c.then;
     if !spans::room(n, pre.at, pre.len) {
-        return Step::Bad;
+        return EntryRead::Bad;
     }
     if !spans::room(n, rest.at, rest.len) {
-        return Step::Bad;
+        return EntryRead::Bad;
     }
     if !spans::room(n, value.at, value.len) {
-        return Step::Bad;
+        return EntryRead::Bad;
     }
-    if 4096 < pre.len + rest.len {
-        return Step::Bad;
+    if BaseHeader::MAX_KEY < pre.len + rest.len {
+        return EntryRead::Bad;
     }
-    if 65536 < value.len {
-        return Step::Bad;
+    if BaseHeader::MAX_VALUE < value.len {
+        return EntryRead::Bad;
     }
     let k = Key {
         pat: pre.at,
@@ -548,10 +536,10 @@ fn item_at(
         kat: rest.at,
         klen: rest.len,
     };
-    let old = same_key(low, c, k);
-    Step::Got(
-        Item {
-            low: true,
+    let old = same_key(ground, c, k);
+    EntryRead::Got(
+        EntryAt {
+            ground: true,
             old: old,
             key: k,
             ver: ver,
@@ -561,7 +549,7 @@ fn item_at(
             page: page,
         },
         Cursor {
-            kind: c.kind,
+            source: c.source,
             seen: true,
             key: k,
             at: c.at,
@@ -573,78 +561,78 @@ fn item_at(
 }
 
 // The next record of the page that a cursor walks; its counts are those of a page.
-fn walk_next(low: &[u8], c: Cursor) -> Step
-    ensures { λ r. ⌜ r ≡ walked (now (low .entry)) c ⌝ }
+fn walk_next(ground: &[u8], c: Cursor) -> EntryRead
+    ensures { λ r. ⌜ r ≡ walked (now (ground .entry)) c ⌝ }
 {
     let w = c.walk;
-    if 65535 < w.heads {
-        return Step::Bad;
+    if BaseHeader::MAX_ENTRIES < w.heads {
+        return EntryRead::Bad;
     }
-    if 4294967295 < w.past.left {
-        return Step::Bad;
+    if 4294967295 < w.older.left {
+        return EntryRead::Bad;
     }
-    let st = w.step(low);
+    let st = w.step(ground);
     match st {
         walks::Step::Found(x, v) => {
             let k = x.key;
             let r = x.ver;
             let p = x.value;
             let f = x.remote;
-            item_at(low, c, k, r, p, f, PageId(0), v)
+            item_at(ground, c, k, r, p, f, NULL_PID, v)
         }
         walks::Step::Leads(x, v) => {
             let k = x.key;
             let g = x.page;
             item_at(
-                low,
+                ground,
                 c,
                 k,
                 Ver::new(0, 0),
                 Place { at: 0, len: 0 },
-                Addr(0),
+                NULL_ADDR,
                 g,
                 v,
             )
         }
-        walks::Step::End => Step::End,
-        walks::Step::Refused(_) => Step::Bad,
+        walks::Step::End => EntryRead::End,
+        walks::Step::Refused(_) => EntryRead::Bad,
     }
 }
 
 // The first record of the page behind.
-fn turn(low: &[u8], c: Cursor) -> Step
-    ensures { λ r. ⌜ r ≡ turned (now (low .entry)) c ⌝ }
+fn turn(ground: &[u8], c: Cursor) -> EntryRead
+    ensures { λ r. ⌜ r ≡ turned (now (ground .entry)) c ⌝ }
 {
     let then = c.then;
     if then.0 == 0 {
-        return Step::End;
+        return EntryRead::End;
     }
-    let Begun::From(d) = page_first(low, c, then, Addr(0)) else {
-        return Step::Bad;
+    let Started::From(d) = page_first(ground, c, then, NULL_ADDR) else {
+        return EntryRead::Bad;
     };
-    walk_next(low, d)
+    walk_next(ground, d)
 }
 
 // The next record of the pages.
-fn pages_next(low: &[u8], c: Cursor) -> Step
-    ensures { λ r. ⌜ r ≡ pagesNext (now (low .entry)) c ⌝ }
+fn pages_next(ground: &[u8], c: Cursor) -> EntryRead
+    ensures { λ r. ⌜ r ≡ pagesNext (now (ground .entry)) c ⌝ }
 {
-    let st = walk_next(low, c);
+    let st = walk_next(ground, c);
     match st {
-        Step::Got(i, d) => Step::Got(i, d),
-        Step::End => turn(low, c),
-        Step::Bad => Step::Bad,
+        EntryRead::Got(i, d) => EntryRead::Got(i, d),
+        EntryRead::End => turn(ground, c),
+        EntryRead::Bad => EntryRead::Bad,
     }
 }
 
 // ---- the step
 
 // The entry at a cursor of any source, and the cursor past it.
-fn any_next(list: &[u8], low: &[u8], c: Cursor) -> Step
-    ensures { λ r. ⌜ r ≡ nextOf (now (list .entry)) (now (low .entry)) c ⌝ }
+fn any_next(list: &[u8], ground: &[u8], c: Cursor) -> EntryRead
+    ensures { λ r. ⌜ r ≡ nextOf (now (list .entry)) (now (ground .entry)) c ⌝ }
 {
-    if c.kind == Cursor::PAGES {
-        return pages_next(low, c);
+    if c.source == Cursor::PAGES {
+        return pages_next(ground, c);
     }
     list_next(list, c)
 }
@@ -668,32 +656,32 @@ fn apart(w: Walk) -> Walk
             at: w.key.at,
             len: w.key.len,
         },
-        past: Past {
+        older: OldPlace {
             page: Sheet {
-                at: w.past.page.at,
-                elems: w.past.page.elems,
-                front: w.past.page.front,
-                end: w.past.page.end,
-                prefix_len: w.past.page.prefix_len,
+                at: w.older.page.at,
+                elems: w.older.page.elems,
+                front: w.older.page.front,
+                end: w.older.page.end,
+                prefix_len: w.older.page.prefix_len,
             },
-            link: Addr(w.past.link.0),
-            slot: w.past.slot,
-            left: w.past.left,
+            link: Addr(w.older.link.0),
+            slot: w.older.slot,
+            left: w.older.left,
         },
     }
 }
 
 // The same. A record list's step stands here, by itself: a build's passes spend their time in it.
-pub fn next(list: &[u8], low: &[u8], c: Cursor) -> Step
-    ensures { λ r. ⌜ r ≡ nextOf (now (list .entry)) (now (low .entry)) c ⌝ }
+pub fn next(list: &[u8], ground: &[u8], c: Cursor) -> EntryRead
+    ensures { λ r. ⌜ r ≡ nextOf (now (list .entry)) (now (ground .entry)) c ⌝ }
 {
-    if c.kind != Cursor::RECORDS {
+    if c.source != Cursor::RECORDS {
         let d = c;
-        let st = any_next(list, low, d);
+        let st = any_next(list, ground, d);
         return st;
     }
     if list.len() <= c.at {
-        return Step::End;
+        return EntryRead::End;
     }
     let Spot::At(i, past) = record_at(
         list,
@@ -704,16 +692,16 @@ pub fn next(list: &[u8], low: &[u8], c: Cursor) -> Step
         c.key.kat,
         c.key.klen,
     ) else {
-        return Step::Bad;
+        return EntryRead::Bad;
     };
     let k = i.key;
     let walk = apart(c.walk);
     let pre = c.pre;
     let then = c.then;
-    Step::Got(
+    EntryRead::Got(
         i,
         Cursor {
-            kind: c.kind,
+            source: c.source,
             seen: true,
             key: k,
             at: past,
@@ -731,23 +719,23 @@ fn is_wanted(want: bool, old: bool) -> bool
 }
 
 // The next old version, or the next head, with the cursor past it.
-pub fn next_of(list: &[u8], low: &[u8], want: bool, from: Cursor) -> Pick
-    ensures { λ r. ⌜ ChosenBy (now (list .entry)) (now (low .entry)) want from r ⌝ }
+pub fn next_of(list: &[u8], ground: &[u8], want: bool, from: Cursor) -> Pick
+    ensures { λ r. ⌜ ChosenBy (now (list .entry)) (now (ground .entry)) want from r ⌝ }
 {
     let mut c = from;
     loop {
-        let st = next(list, low, c);
+        let st = next(list, ground, c);
         match st {
-            Step::Got(i, d) => {
+            EntryRead::Got(i, d) => {
                 if is_wanted(want, i.old) {
                     return Pick::One(i, d);
                 }
                 c = d;
             }
-            Step::End => {
+            EntryRead::End => {
                 return Pick::None;
             }
-            Step::Bad => {
+            EntryRead::Bad => {
                 return Pick::None;
             }
         }
@@ -757,20 +745,20 @@ pub fn next_of(list: &[u8], low: &[u8], want: bool, from: Cursor) -> Pick
 // ---- judging a whole source
 
 // Whether the entries end where the source ends.
-pub fn well(list: &[u8], low: &[u8], from: Cursor) -> bool
-    ensures { λ r. ⌜ r ≡ wellFormed (now (list .entry)) (now (low .entry)) from ⌝ }
+pub fn well(list: &[u8], ground: &[u8], from: Cursor) -> bool
+    ensures { λ r. ⌜ r ≡ wellFormed (now (list .entry)) (now (ground .entry)) from ⌝ }
 {
     let mut c = from;
     loop {
-        let st = next(list, low, c);
+        let st = next(list, ground, c);
         match st {
-            Step::Got(_, d) => {
+            EntryRead::Got(_, d) => {
                 c = d;
             }
-            Step::End => {
+            EntryRead::End => {
                 return true;
             }
-            Step::Bad => {
+            EntryRead::Bad => {
                 return false;
             }
         }
@@ -778,30 +766,30 @@ pub fn well(list: &[u8], low: &[u8], from: Cursor) -> bool
 }
 
 // The keys of two entries.
-fn compare_items(list: &[u8], low: &[u8], a: Item, b: Item) -> Order
-    ensures { λ o. ⌜ o ≡ cmpBytes (entryOf (now (list .entry)) (now (low .entry)) a .key) (entryOf (now (list .entry)) (now (low .entry)) b .key) ⌝ }
+fn compare_items(list: &[u8], ground: &[u8], a: EntryAt, b: EntryAt) -> Order
+    ensures { λ o. ⌜ o ≡ cmpBytes (entryOf (now (list .entry)) (now (ground .entry)) a .key) (entryOf (now (list .entry)) (now (ground .entry)) b .key) ⌝ }
 {
     let k = a.key;
     let j = b.key;
-    if a.low {
-        if b.low {
-            return compare_keys(low, k, low, j);
+    if a.ground {
+        if b.ground {
+            return compare_keys(ground, k, ground, j);
         }
-        return compare_keys(low, k, list, j);
+        return compare_keys(ground, k, list, j);
     }
-    if b.low {
-        return compare_keys(list, k, low, j);
+    if b.ground {
+        return compare_keys(list, k, ground, j);
     }
     compare_keys(list, k, list, j)
 }
 
 // Whether an entry is above the one before.
-fn is_above(list: &[u8], low: &[u8], a: Item, b: Item) -> bool
-    ensures { λ r. ⌜ r ≡ above (entryOf (now (list .entry)) (now (low .entry)) a) (entryOf (now (list .entry)) (now (low .entry)) b) ⌝ }
+fn is_above(list: &[u8], ground: &[u8], a: EntryAt, b: EntryAt) -> bool
+    ensures { λ r. ⌜ r ≡ above (entryOf (now (list .entry)) (now (ground .entry)) a) (entryOf (now (list .entry)) (now (ground .entry)) b) ⌝ }
 {
     let v = a.ver;
     let w = b.ver;
-    let o = compare_items(list, low, a, b);
+    let o = compare_items(list, ground, a, b);
     match o {
         Order::Less => true,
         Order::Equal => v.newer(w),
@@ -810,27 +798,27 @@ fn is_above(list: &[u8], low: &[u8], a: Item, b: Item) -> bool
 }
 
 // Whether each entry from a cursor on is above the one before, the first above this one; and how many there are, this one too.
-fn rises_from(list: &[u8], low: &[u8], first: Item, from: Cursor) -> Risen
-    ensures { λ r. ⌜ r ≡ risenOf (entryOf (now (list .entry)) (now (low .entry)) first ∷ entries (now (list .entry)) (now (low .entry)) from) ⌝ }
+fn rises_from(list: &[u8], ground: &[u8], first: EntryAt, from: Cursor) -> Risen
+    ensures { λ r. ⌜ r ≡ risenOf (entryOf (now (list .entry)) (now (ground .entry)) first ∷ entries (now (list .entry)) (now (ground .entry)) from) ⌝ }
 {
     let mut last = first;
     let mut c = from;
     let mut n: usize = 1;
     loop {
-        let st = next(list, low, c);
+        let st = next(list, ground, c);
         match st {
-            Step::Got(i, d) => {
-                if !is_above(list, low, last, i) {
+            EntryRead::Got(i, d) => {
+                if !is_above(list, ground, last, i) {
                     return Risen::Not;
                 }
                 last = i;
                 c = d;
                 n += 1;
             }
-            Step::End => {
+            EntryRead::End => {
                 return Risen::Up(n);
             }
-            Step::Bad => {
+            EntryRead::Bad => {
                 return Risen::Up(n);
             }
         }
@@ -838,35 +826,35 @@ fn rises_from(list: &[u8], low: &[u8], first: Item, from: Cursor) -> Risen
 }
 
 // Whether each entry is above the one before, and how many there are.
-pub fn rises(list: &[u8], low: &[u8], from: Cursor) -> Risen
-    ensures { λ r. ⌜ r ≡ risenOf (entries (now (list .entry)) (now (low .entry)) from) ⌝ }
+pub fn rises(list: &[u8], ground: &[u8], from: Cursor) -> Risen
+    ensures { λ r. ⌜ r ≡ risenOf (entries (now (list .entry)) (now (ground .entry)) from) ⌝ }
 {
-    let st = any_next(list, low, from);
+    let st = any_next(list, ground, from);
     match st {
-        Step::Got(i, d) => rises_from(list, low, i, d),
-        Step::End => Risen::Up(0),
-        Step::Bad => Risen::Up(0),
+        EntryRead::Got(i, d) => rises_from(list, ground, i, d),
+        EntryRead::End => Risen::Up(0),
+        EntryRead::Bad => Risen::Up(0),
     }
 }
 
 // Whether each key begins with pre.
-pub fn begins(list: &[u8], low: &[u8], from: Cursor, pre: &[u8]) -> bool
-    ensures { λ r. ⌜ r ≡ prefixed (now (pre .entry)) (entries (now (list .entry)) (now (low .entry)) from) ⌝ }
+pub fn begins(list: &[u8], ground: &[u8], from: Cursor, pre: &[u8]) -> bool
+    ensures { λ r. ⌜ r ≡ prefixed (now (pre .entry)) (entries (now (list .entry)) (now (ground .entry)) from) ⌝ }
 {
     let mut c = from;
     loop {
-        let st = next(list, low, c);
+        let st = next(list, ground, c);
         match st {
-            Step::Got(i, d) => {
-                if !key_begins(list, low, i, pre) {
+            EntryRead::Got(i, d) => {
+                if !key_begins(list, ground, i, pre) {
                     return false;
                 }
                 c = d;
             }
-            Step::End => {
+            EntryRead::End => {
                 return true;
             }
-            Step::Bad => {
+            EntryRead::Bad => {
                 return true;
             }
         }

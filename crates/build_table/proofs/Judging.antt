@@ -14,28 +14,30 @@ use Rattle.spans.proofs.Part.{partOr-in}
 use Rattle.spans.proofs.Tests.{ask}
 use Rattle.order.specs.Order.{startsWith}
 use Rattle.order.proofs.Laws.{starts-split}
-use Rattle.frames.specs.Layout.{addr, frameLen}
+use Rattle.frames.specs.Layout.{addr, frameLen, baseLen}
 use Rattle.frames.specs.declared.Refusal.{Refusal}
 use Rattle.frames.specs.declared.Refusal.the-variants.{OutOfOrder, WrongPrefix, TooBig, NoRoom}
+use Rattle.frames.specs.Limits.{maxEntries, maxSize}
 use Rattle.build_sources.specs.Keys.{srcOf}
 use Rattle.build_sources.specs.declared.Cursor.{Cursor}
 use Rattle.build_sources.specs.Source.{Entry, entries}
 use Rattle.build_sources.specs.Judged.{rising, prefixed}
 use Rattle.build_image.specs.declared.Call.{Call}
-use Rattle.build_image.specs.Image.{Bounds, indexSums, indexSize, indexImage}
+use Rattle.build_image.specs.Image.{indexSums, indexSizeAt, indexSize, indexImage, Borders}
 use Rattle.build_image.proofs.Index.{length-index}
 use Rattle.build_heads.specs.Steps.{Long}
-use Rattle.build_bounds.specs.declared.Edge.{Edge}
-use Rattle.build_bounds.specs.declared.Edges.{Edges}
-use Rattle.build_bounds.specs.Edges.{Within, Inside, edgeBytes, boundsOf}
-use Rattle.build_bounds.proofs.Laws.{length-edge}
+use Rattle.build_bounds.specs.declared.Boundary.{Boundary}
+use Rattle.build_bounds.specs.declared.Boundaries.{Boundaries}
+use Rattle.build_bounds.specs.Boundaries.{Within, BothWithin, boundaryBytes, boundsOf}
+use Rattle.build_bounds.proofs.Laws.{length-boundary}
 use Rattle.build_index.specs.Parts.{Ready}
 use Rattle.build_table.specs.declared.IndexVerdict.{IndexVerdict}
 use Rattle.build_table.specs.declared.IndexVerdict.the-variants.{Fits, No}
 use Rattle.build_image.specs.declared.Built.the-variants.{At, Refused}
-use Rattle.build_table.specs.Table.{Row, row, judged, entryRows}
-use Rattle.build_table.specs.Index.{Held, sizeAt, indexVerdict, indexEnd, indexRows, indexAnswer, indexArena}
-use Rattle.build_table.proofs.Tables.{All, all-go, refuses, passes}
+use Rattle.build_image.specs.Table.{Row, judged}
+use Rattle.build_table.specs.Table.{entryRows}
+use Rattle.build_table.specs.Index.{Held, indexVerdict, indexEnd, indexRows, indexAnswer, indexArena}
+use Rattle.build_image.proofs.Tables.{All, all-go, refuses, passes}
 
 pub and-both : (x y : Bool) → x && y ≡ true → (x ≡ true) × (y ≡ true)
 and-both true y e = (refl, e)
@@ -71,28 +73,28 @@ take-part : (s : List ℕ) (at n p : ℕ) → p ≤ n → take p (part s at n) �
 unfolding part
 take-part s at n p h = take-take p n (lib.ListN.drop at s) h
 
-module _ (lo w : List ℕ) (e : Edge) (p : ℕ) (h : Within lo w e) (k : p ≤ e .len) where
-  pub in-low : e .low ≡ true → partOr w (e .at) p ≡ take p (edgeBytes lo w e)
-  unfolding Within edgeBytes
-  in-low q =
+module _ (lo w : List ℕ) (e : Boundary) (p : ℕ) (h : Within lo w e) (k : p ≤ e .len) where
+  pub in-ground : e .ground ≡ true → partOr w (e .at) p ≡ take p (boundaryBytes lo w e)
+  unfolding Within boundaryBytes
+  in-ground q =
       partOr-in w (e .at) p (let z : e .at + e .len ≤ length w = rw q at h in omega (arith, z))
       ∙ sym (ap (λ (b : Bool). take p (part (srcOf lo w b) (e .at) (e .len))) q ∙ take-part w (e .at) (e .len) p k)
 
-  pub in-lent : e .low ≡ false → partOr lo (e .at) p ≡ take p (edgeBytes lo w e)
-  unfolding Within edgeBytes
+  pub in-lent : e .ground ≡ false → partOr lo (e .at) p ≡ take p (boundaryBytes lo w e)
+  unfolding Within boundaryBytes
   in-lent q =
       partOr-in lo (e .at) p (let z : e .at + e .len ≤ length lo = rw q at h in omega (arith, z))
       ∙ sym (ap (λ (b : Bool). take p (part (srcOf lo w b) (e .at) (e .len))) q ∙ take-part lo (e .at) (e .len) p k)
 
-pub held-long : (lo w : List ℕ) (e : Edges) (es : List Entry) → Held lo w e → prefixed (take (e .prefix) (edgeBytes lo w (e .lo))) es ≡ true → Long (e .prefix) es
+pub held-long : (lo w : List ℕ) (e : Boundaries) (es : List Entry) → Held lo w e → prefixed (take (e .prefix) (boundaryBytes lo w (e .lo))) es ≡ true → Long (e .prefix) es
 held-long lo w e es h q =
     subst (λ (k : ℕ). Long k es)
-    (length-take-le (e .prefix) (edgeBytes lo w (e .lo)) (omega (arith, length-edge lo w (e .lo) (h .within), h .shared)))
-    (longs (take (e .prefix) (edgeBytes lo w (e .lo))) es q)
+    (length-take-le (e .prefix) (boundaryBytes lo w (e .lo)) (omega (arith, length-boundary lo w (e .lo) (h .within), h .shared)))
+    (longs (take (e .prefix) (boundaryBytes lo w (e .lo))) es q)
 
 -- ---- an index page
 
-module _ (len next : ℕ) (p : List ℕ) (e : Edges) (es : List Entry) where
+module _ (len next : ℕ) (p : List ℕ) (e : Boundaries) (es : List Entry) where
   pub index-six : rising es ≡ false → No OutOfOrder ≡ indexVerdict len next p e es
   unfolding indexVerdict
   index-six h = rw h refl
@@ -103,43 +105,43 @@ module _ (len next : ℕ) (p : List ℕ) (e : Edges) (es : List Entry) where
     index-seven h = rw (h6, h) refl
 
     module _ (h7 : prefixed p es ≡ true) (n : ℕ) (en : n ≡ length es) where
-      pub index-many : 65535 < n → No TooBig ≡ indexVerdict len next p e es
+      pub index-many : maxEntries < n → No TooBig ≡ indexVerdict len next p e es
       unfolding indexVerdict
-      index-many h = rw (h6, h7, lt-leb (length es) 65535 (rw en at h)) refl
+      index-many h = rw (h6, h7, lt-leb (length es) maxEntries (rw en at h)) refl
 
-      module _ (h8 : n ≤ 65535) (s : ℕ) (eq : s ≡ indexSums (e .prefix) es) where
-        size-is : 40 + 4 * n + e .lo .len + e .hi .len + s ≡ sizeAt e es
+      module _ (h8 : n ≤ maxEntries) (s : ℕ) (eq : s ≡ indexSums (e .prefix) es) where
+        size-is : baseLen + 4 * n + e .lo .len + e .hi .len + s ≡ indexSizeAt (e .lo .len) (e .hi .len) (e .prefix) es
         size-is = rw (en, eq) refl
 
-        few : leb (length es) 65535 ≡ true
-        few = le-leb (length es) 65535 (rw en at h8)
+        few : leb (length es) maxEntries ≡ true
+        few = le-leb (length es) maxEntries (rw en at h8)
 
-        pub index-large : 16777216 < 40 + 4 * n + e .lo .len + e .hi .len + s → No TooBig ≡ indexVerdict len next p e es
+        pub index-large : maxSize < baseLen + 4 * n + e .lo .len + e .hi .len + s → No TooBig ≡ indexVerdict len next p e es
         unfolding indexVerdict
-        index-large h = rw (h6, h7, few, lt-leb (sizeAt e es) 16777216 (rw size-is at h)) refl
+        index-large h = rw (h6, h7, few, lt-leb (indexSizeAt (e .lo .len) (e .hi .len) (e .prefix) es) maxSize (rw size-is at h)) refl
 
-        module _ (hs : 40 + 4 * n + e .lo .len + e .hi .len + s ≤ 16777216) (x : ℕ) (ex : x ≡ frameLen (40 + 4 * n + e .lo .len + e .hi .len + s)) where
-          small : leb (sizeAt e es) 16777216 ≡ true
-          small = le-leb (sizeAt e es) 16777216 (rw size-is at hs)
+        module _ (hs : baseLen + 4 * n + e .lo .len + e .hi .len + s ≤ maxSize) (x : ℕ) (ex : x ≡ frameLen (baseLen + 4 * n + e .lo .len + e .hi .len + s)) where
+          small : leb (indexSizeAt (e .lo .len) (e .hi .len) (e .prefix) es) maxSize ≡ true
+          small = le-leb (indexSizeAt (e .lo .len) (e .hi .len) (e .prefix) es) maxSize (rw size-is at hs)
 
-          room-is : (t : Bool) → t ≡ leb (next + x) len → leb (next + frameLen (sizeAt e es)) len ≡ t
+          room-is : (t : Bool) → t ≡ leb (next + x) len → leb (next + frameLen (indexSizeAt (e .lo .len) (e .hi .len) (e .prefix) es)) len ≡ t
           room-is t q = sym (q ∙ ap (λ (k : ℕ). leb (next + k) len) (ex ∙ ap frameLen size-is))
 
           pub index-full : (t : Bool) → t ≡ leb (next + x) len → t ≡ false → No NoRoom ≡ indexVerdict len next p e es
           unfolding indexVerdict
           index-full t q h = rw (h6, h7, few, small, room-is t q ∙ h) refl
 
-          pub index-fits : (t : Bool) → t ≡ leb (next + x) len → t ≡ true → Fits n (40 + 4 * n + e .lo .len + e .hi .len + s) ≡ indexVerdict len next p e es
+          pub index-fits : (t : Bool) → t ≡ leb (next + x) len → t ≡ true → Fits n (baseLen + 4 * n + e .lo .len + e .hi .len + s) ≡ indexVerdict len next p e es
           unfolding indexVerdict
           index-fits t q h = rw (h6, h7, few, small, room-is t q ∙ h) (ap₂ Fits en size-is)
 
 -- ---- what is built
 
-same-size : (lo hi w : List ℕ) (e : Edges) (es : List Entry) → Inside lo hi w e → sizeAt e es ≡ indexSize (boundsOf lo hi w e) es
+same-size : (lo hi w : List ℕ) (e : Boundaries) (es : List Entry) → BothWithin lo hi w e → indexSizeAt (e .lo .len) (e .hi .len) (e .prefix) es ≡ indexSize (boundsOf lo hi w e) es
 unfolding indexSize
-same-size lo hi w e es h = omega (arith, length-edge lo w (e .lo) (h .low), length-edge hi w (e .hi) (h .high))
+same-size lo hi w e es h = omega (arith, length-boundary lo w (e .lo) (h .ground), length-boundary hi w (e .hi) (h .high))
 
-same-end : (next : ℕ) (m : Call) (b : Bounds) (es : List Entry) → next + frameLen (indexSize b es) ≡ indexEnd next m b es
+same-end : (next : ℕ) (m : Call) (b : Borders) (es : List Entry) → next + frameLen (indexSize b es) ≡ indexEnd next m b es
 unfolding indexEnd
 same-end next m b es = ap (λ (k : ℕ). next + k) (sym (length-index m b es))
 
@@ -149,24 +151,24 @@ apart n s r e = absurd (let z : _≡_ {A = ℕ} 0 1 = cc in omega arith)
 one-no : (r q : Refusal) → No r ≡ No q → r ≡ q
 one-no r q e = cc
 
-module _ (a l : List ℕ) (next : ℕ) (c : Cursor) (m : Call) (lo hi : List ℕ) (e : Edges) (le : next ≤ length a) (h : Held lo (take next a) e) (i : Inside lo hi (take next a) e) where
+module _ (a l : List ℕ) (next : ℕ) (c : Cursor) (m : Call) (lo hi : List ℕ) (e : Boundaries) (le : next ≤ length a) (h : Held lo (take next a) e) (i : BothWithin lo hi (take next a) e) where
   abbrev es : List Entry
   es = entries l (take next a) c
 
-  abbrev b : Bounds
+  abbrev b : Borders
   b = boundsOf lo hi (take next a) e
 
   abbrev rows : List Row
   rows = indexRows (length a) next m b es
 
   -- the judge's rows are the table's
-  judge-is : indexVerdict (length a) next (take (e .prefix) (edgeBytes lo (take next a) (e .lo))) e es ≡ judged rows No (Fits (length es) (indexSize b es))
+  judge-is : indexVerdict (length a) next (take (e .prefix) (boundaryBytes lo (take next a) (e .lo))) e es ≡ judged rows No (Fits (length es) (indexSize b es))
   unfolding indexVerdict
   judge-is =
       ap (λ (s : ℕ). judged (entryRows (take (b .prefix) (b .lo)) es s (next + frameLen s) (length a)) No (Fits (length es) s)) (same-size lo hi (take next a) e es i)
       ∙ ap (λ (x : ℕ). judged (entryRows (take (b .prefix) (b .lo)) es (indexSize b es) x (length a)) No (Fits (length es) (indexSize b es))) (same-end next m b es)
 
-  module _ (v : IndexVerdict) (ev : v ≡ indexVerdict (length a) next (take (e .prefix) (edgeBytes lo (take next a) (e .lo))) e es) where
+  module _ (v : IndexVerdict) (ev : v ≡ indexVerdict (length a) next (take (e .prefix) (boundaryBytes lo (take next a) (e .lo))) e es) where
     pub index-refused : (r : Refusal) → v ≡ No r → (Refused r ≡ indexAnswer a next m b es) × (a ≡ indexArena a next m b es)
     unfolding indexAnswer indexArena
     index-refused r q =
@@ -185,13 +187,13 @@ module _ (a l : List ℕ) (next : ℕ) (c : Cursor) (m : Call) (lo hi : List ℕ
       s-is : s ≡ indexSize b es
       s-is = let z = passed .0 in cc
 
-      both : (leb (length es) 65535 ≡ true) × (leb (indexSize b es) 16777216 ≡ true)
+      both : (leb (length es) maxEntries ≡ true) × (leb (indexSize b es) maxSize ≡ true)
       both = and-both _ _ (passed .1 .1 .1 .0)
 
       pub index-ready : Ready a next next lo hi e es n s
       index-ready =
-          let k : length es ≤ 65535 = leb-true _ _ (both .0) in
-          let j : indexSize b es ≤ 16777216 = leb-true _ _ (both .1) in
+          let k : length es ≤ maxEntries = leb-true _ _ (both .0) in
+          let j : indexSize b es ≤ maxSize = leb-true _ _ (both .1) in
           let u : indexEnd next m b es ≤ length a = leb-true _ _ (passed .1 .1 .1 .1 .0) in
           record {
             over = omega arith;
@@ -205,7 +207,7 @@ module _ (a l : List ℕ) (next : ℕ) (c : Cursor) (m : Call) (lo hi : List ℕ
             room = omega (arith, ap frameLen s-is, same-end next m b es, u);
           }
 
-      pub index-small : s ≤ 16777216
+      pub index-small : s ≤ maxSize
       index-small = index-ready .small
 
       pub index-built : (a₁ : List ℕ) (x : ℕ) → a₁ ≡ put a next (indexImage m b es) → x ≡ frameLen s → (At (addr next) (next + x) ≡ indexAnswer a next m b es) × (a₁ ≡ indexArena a next m b es)

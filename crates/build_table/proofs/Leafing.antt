@@ -9,48 +9,50 @@ use borrow.Author.Tests.{leb-true, le-leb, lt-leb}
 use lib.Dec.{leb, eqb}
 use lib.ListN.{length, take, length-append}
 use Rattle.spans.specs.Span.{put}
-use Rattle.frames.specs.Layout.{addr, frameLen}
+use Rattle.frames.specs.Layout.{addr, frameLen, baseLen}
 use Rattle.frames.specs.declared.Refusal.{Refusal}
 use Rattle.frames.specs.declared.Refusal.the-variants.{OutOfOrder, WrongPrefix, TooBig, NoRoom}
+use Rattle.frames.specs.Limits.{maxEntries, maxSize}
 use Rattle.build_paging.specs.Cuts.{cuts}
 use Rattle.build_sources.specs.declared.Cursor.{Cursor}
 use Rattle.build_sources.specs.Source.{Entry, entries, only, wanted, olds, heads}
 use Rattle.build_sources.specs.Judged.{rising, prefixed}
 use Rattle.build_image.specs.declared.Call.{Call}
-use Rattle.build_image.specs.Sizes.{costsOf, fars, sums, counted, roomOf}
-use Rattle.build_image.specs.Image.{Bounds, cutsOf, historyEnd, histAddrs, farAddrs, leafSize, leafRoom, leafImage}
+use Rattle.build_image.specs.Sizes.{costsOf, remotesLen, sums, counted, roomOf}
+use Rattle.build_image.specs.Image.{cutsOf, historyEnd, histAddrs, remoteAddrs, leafSize, leafRoom, leafImage, Borders}
 use Rattle.build_image.proofs.Leaf.{remotes, length-addrs, remotes-kinds, length-leaf-image}
 use Rattle.build_history.specs.Runs.{Sane}
 use Rattle.build_heads.specs.Steps.{Long}
-use Rattle.build_bounds.specs.declared.Edges.{Edges}
-use Rattle.build_bounds.specs.Edges.{Within, Inside, edgeBytes, boundsOf}
-use Rattle.build_bounds.proofs.Laws.{length-edge}
+use Rattle.build_bounds.specs.declared.Boundaries.{Boundaries}
+use Rattle.build_bounds.specs.Boundaries.{Within, BothWithin, boundaryBytes, boundsOf}
+use Rattle.build_bounds.proofs.Laws.{length-boundary}
 use Rattle.build_totals.specs.declared.Totals.{Totals}
 use Rattle.build_totals.specs.declared.Tally.{Tally}
 use Rattle.build_totals.specs.declared.Pages.{Pages}
-use Rattle.build_totals.specs.Totals.{leafAt, farAt, remotesOf, totalsOf}
+use Rattle.build_totals.specs.Totals.{leafAt, remoteAt, remotesOf, totalsOf}
 use Rattle.build_totals.specs.Tally.{nothing, tallyOf}
 use Rattle.build_totals.specs.Pages.{pagesOf}
-use Rattle.build_totals.proofs.Tallying.{heads-are, olds-are, sums-are, counted-are, remotes-are, far-is}
+use Rattle.build_totals.proofs.Tallying.{heads-are, olds-are, sums-are, counted-are, remotes-are, remote-is}
 use Rattle.build_totals.proofs.Paged.{hist-remotes}
 use Rattle.build_leaf.specs.Leaf.{Small}
 use Rattle.build_table.specs.declared.LeafVerdict.{LeafVerdict}
 use Rattle.build_table.specs.declared.LeafVerdict.the-variants.{Fits, No}
 use Rattle.build_image.specs.declared.Built.the-variants.{At, Refused}
-use Rattle.build_table.specs.Table.{Row, row, judged, entryRows}
+use Rattle.build_image.specs.Table.{Row, judged}
+use Rattle.build_table.specs.Table.{entryRows}
 use Rattle.build_table.specs.Index.{Held}
 use Rattle.build_table.specs.Leaf.{leafEnd, leafRows, leafAnswer, leafArena, leafVerdict}
-use Rattle.build_table.proofs.Tables.{All, all-go, refuses, passes}
+use Rattle.build_image.proofs.Tables.{All, all-go, refuses, passes}
 use Rattle.build_table.proofs.Judging.{and-both, held-long}
 
 -- ---- the totals, field by field
 
-totals-open : (m : Call) (b : Bounds) (at : ℕ) (es : List Entry)
+totals-open : (m : Call) (b : Borders) (at : ℕ) (es : List Entry)
     → record { heads = length (heads es); olds = length (olds es); pages = length (cutsOf m es); remotes = length (remotesOf m b at es); size = leafSize m b es; room = leafRoom m es; leaf = leafAt m at es; end = totalsOf m b at es .end } ≡ totalsOf m b at es
 unfolding totalsOf
 totals-open m b at es = refl
 
-module _ (m : Call) (b : Bounds) (at : ℕ) (es : List Entry) where
+module _ (m : Call) (b : Borders) (at : ℕ) (es : List Entry) where
   pub tot-leaf : totalsOf m b at es .leaf ≡ leafAt m at es
   unfolding totalsOf
   tot-leaf = refl
@@ -64,14 +66,14 @@ module _ (m : Call) (b : Bounds) (at : ℕ) (es : List Entry) where
   tot-room = refl
 
   pub tot-end : totalsOf m b at es .end ≡ leafEnd at m b es
-  unfolding totalsOf farAt leafAt leafEnd
+  unfolding totalsOf remoteAt leafAt leafEnd
   tot-end = sym (length-leaf-image m b at es)
 
   remotes-all : length (remotesOf m b at es) ≡ remotes (m .limit) es
   unfolding remotesOf
   remotes-all =
-      length-append (histAddrs (m .limit) at (cutsOf m es) (olds es)) (farAddrs (m .limit) (farAt m b at es) (heads es))
-      ∙ omega (arith, hist-remotes (m .limit) (m .budget) (olds es) at, length-addrs (m .limit) (heads es) (farAt m b at es), remotes-kinds (m .limit) es)
+      length-append (histAddrs (m .limit) at (cutsOf m es) (olds es)) (remoteAddrs (m .limit) (remoteAt m b at es) (heads es))
+      ∙ omega (arith, hist-remotes (m .limit) (m .budget) (olds es) at, length-addrs (m .limit) (heads es) (remoteAt m b at es), remotes-kinds (m .limit) es)
 
   totals-by : (hs os ps rs size room leaf end : ℕ) → hs ≡ length (heads es) → os ≡ length (olds es) → ps ≡ length (cutsOf m es) → rs ≡ remotes (m .limit) es
       → size ≡ leafSize m b es → room ≡ leafRoom m es → leaf ≡ leafAt m at es → end ≡ leafEnd at m b es
@@ -91,10 +93,10 @@ end-of : (limit budget at : ℕ) (os : List Entry) → pagesOf limit budget 0 at
 unfolding pagesOf
 end-of limit budget at os = refl
 
-size-of : (m : Call) (lo hi w : List ℕ) (e : Edges) (es : List Entry) (h s : ℕ) → Inside lo hi w e → h ≡ length (heads es) → s ≡ sums (m .limit) (e .prefix) false es
-    → 40 + 4 * h + e .lo .len + e .hi .len + s ≡ leafSize m (boundsOf lo hi w e) es
+size-of : (m : Call) (lo hi w : List ℕ) (e : Boundaries) (es : List Entry) (h s : ℕ) → BothWithin lo hi w e → h ≡ length (heads es) → s ≡ sums (m .limit) (e .prefix) false es
+    → baseLen + 4 * h + e .lo .len + e .hi .len + s ≡ leafSize m (boundsOf lo hi w e) es
 unfolding leafSize
-size-of m lo hi w e es h s i eh es′ = omega (arith, eh, es′, length-edge lo w (e .lo) (i .low), length-edge hi w (e .hi) (i .high))
+size-of m lo hi w e es h s i eh es′ = omega (arith, eh, es′, length-boundary lo w (e .lo) (i .ground), length-boundary hi w (e .hi) (i .high))
 
 room-by : (m : Call) (es : List Entry) (n k : ℕ) → n ≡ length (cutsOf m es) → k ≡ counted (m .limit) es → roomOf n k ≡ leafRoom m es
 unfolding leafRoom
@@ -104,21 +106,21 @@ leaf-by : (m : Call) (at : ℕ) (es : List Entry) (x : ℕ) → x ≡ historyEnd
 unfolding leafAt
 leaf-by m at es x e = e
 
-end-by : (m : Call) (b : Bounds) (at : ℕ) (es : List Entry) (l x f : ℕ) → l ≡ historyEnd (m .limit) at (cutsOf m es) (olds es) → x ≡ frameLen (leafSize m b es + leafRoom m es) → f ≡ fars (m .limit) (heads es)
+end-by : (m : Call) (b : Borders) (at : ℕ) (es : List Entry) (l x f : ℕ) → l ≡ historyEnd (m .limit) at (cutsOf m es) (olds es) → x ≡ frameLen (leafSize m b es + leafRoom m es) → f ≡ remotesLen (m .limit) (heads es)
     → l + x + f ≡ leafEnd at m b es
 unfolding leafEnd
 end-by m b at es l x f el ex ef = rw (el, ex, ef) (sym (length-leaf-image m b at es))
 
-room-by-test : (t : Bool) (p q : ℕ) → p ≤ 65535 → q ≤ 65535 → cond t 0 (8 + 8 * p + 8 * q) ≤ 1048568
+room-by-test : (t : Bool) (p q : ℕ) → p ≤ maxEntries → q ≤ maxEntries → cond t 0 (8 + 8 * p + 8 * q) ≤ 1048568
 room-by-test true p q h k = omega arith
 room-by-test false p q h k = omega arith
 
-pub room-most : (p q : ℕ) → p ≤ 65535 → q ≤ 65535 → roomOf p q ≤ 1048568
+pub room-most : (p q : ℕ) → p ≤ maxEntries → q ≤ maxEntries → roomOf p q ≤ 1048568
 unfolding roomOf
 room-most p q h k = room-by-test (eqb (p + q) 0) p q h k
 
-module _ (m : Call) (lo hi w : List ℕ) (e : Edges) (i : Inside lo hi w e) (len next : ℕ) (es : List Entry) where
-  abbrev b : Bounds
+module _ (m : Call) (lo hi w : List ℕ) (e : Boundaries) (i : BothWithin lo hi w e) (len next : ℕ) (es : List Entry) where
+  abbrev b : Borders
   b = boundsOf lo hi w e
 
   pub leaf-six : rising es ≡ false → No OutOfOrder ≡ leafVerdict len next m b es
@@ -126,19 +128,19 @@ module _ (m : Call) (lo hi w : List ℕ) (e : Edges) (i : Inside lo hi w e) (len
   leaf-six h = rw h refl
 
   module _ (h6 : rising es ≡ true) where
-    pub leaf-seven : prefixed (take (e .prefix) (edgeBytes lo w (e .lo))) es ≡ false → No WrongPrefix ≡ leafVerdict len next m b es
+    pub leaf-seven : prefixed (take (e .prefix) (boundaryBytes lo w (e .lo))) es ≡ false → No WrongPrefix ≡ leafVerdict len next m b es
     unfolding leafVerdict
     leaf-seven h = rw (h6, h) refl
 
-    module _ (h7 : prefixed (take (e .prefix) (edgeBytes lo w (e .lo))) es ≡ true) (n : ℕ) (en : n ≡ length es) where
-      pub leaf-many : 65535 < n → No TooBig ≡ leafVerdict len next m b es
+    module _ (h7 : prefixed (take (e .prefix) (boundaryBytes lo w (e .lo))) es ≡ true) (n : ℕ) (en : n ≡ length es) where
+      pub leaf-many : maxEntries < n → No TooBig ≡ leafVerdict len next m b es
       unfolding leafVerdict
-      leaf-many h = rw (h6, h7, lt-leb (length es) 65535 (rw en at h)) refl
+      leaf-many h = rw (h6, h7, lt-leb (length es) maxEntries (rw en at h)) refl
 
-      module _ (h8 : n ≤ 65535) (tl : Tally) (et : tl ≡ tallyOf (m .limit) (e .prefix) nothing es) (g : Pages) (eg : g ≡ pagesOf (m .limit) (m .budget) 0 next (only true es))
+      module _ (h8 : n ≤ maxEntries) (tl : Tally) (et : tl ≡ tallyOf (m .limit) (e .prefix) nothing es) (g : Pages) (eg : g ≡ pagesOf (m .limit) (m .budget) 0 next (only true es))
           (room : ℕ) (er : room ≡ roomOf (g .count) (tl .counted)) where
         abbrev size : ℕ
-        size = 40 + 4 * tl .heads + e .lo .len + e .hi .len + tl .sums
+        size = baseLen + 4 * tl .heads + e .lo .len + e .hi .len + tl .sums
 
         heads-is : tl .heads ≡ length (heads es)
         heads-is = ap (λ (t : Tally). t .heads) et ∙ heads-are (m .limit) (e .prefix) nothing es ∙ omega arith
@@ -155,8 +157,8 @@ module _ (m : Call) (lo hi w : List ℕ) (e : Edges) (i : Inside lo hi w e) (len
         remotes-is : tl .remotes ≡ remotes (m .limit) es
         remotes-is = ap (λ (t : Tally). t .remotes) et ∙ remotes-are (m .limit) (e .prefix) nothing es ∙ omega arith
 
-        fars-is : tl .far ≡ fars (m .limit) (heads es)
-        fars-is = ap (λ (t : Tally). t .far) et ∙ far-is (m .limit) (e .prefix) nothing es ∙ omega arith
+        remotes-len-is : tl .remote ≡ remotesLen (m .limit) (heads es)
+        remotes-len-is = ap (λ (t : Tally). t .remote) et ∙ remote-is (m .limit) (e .prefix) nothing es ∙ omega arith
 
         pages-is : g .count ≡ length (cutsOf m es)
         pages-is = ap (λ (q : Pages). q .count) eg ∙ count-of (m .limit) (m .budget) next (olds es)
@@ -170,36 +172,36 @@ module _ (m : Call) (lo hi w : List ℕ) (e : Edges) (i : Inside lo hi w e) (len
         room-is : room ≡ leafRoom m es
         room-is = er ∙ room-by m es (g .count) (tl .counted) pages-is counted-is
 
-        few : leb (length es) 65535 ≡ true
-        few = le-leb (length es) 65535 (rw en at h8)
+        few : leb (length es) maxEntries ≡ true
+        few = le-leb (length es) maxEntries (rw en at h8)
 
         pay-is : size + room ≡ leafSize m b es + leafRoom m es
         pay-is = ap₂ (λ (x y : ℕ). x + y) size-is room-is
 
-        pub leaf-large : 16777216 < size + room → No TooBig ≡ leafVerdict len next m b es
+        pub leaf-large : maxSize < size + room → No TooBig ≡ leafVerdict len next m b es
         unfolding leafVerdict
-        leaf-large h = rw (h6, h7, few, lt-leb (leafSize m b es + leafRoom m es) 16777216 (rw pay-is at h)) refl
+        leaf-large h = rw (h6, h7, few, lt-leb (leafSize m b es + leafRoom m es) maxSize (rw pay-is at h)) refl
 
-        module _ (hs : size + room ≤ 16777216) (x : ℕ) (ex : x ≡ frameLen (size + room)) where
-          small : leb (leafSize m b es + leafRoom m es) 16777216 ≡ true
-          small = le-leb (leafSize m b es + leafRoom m es) 16777216 (rw pay-is at hs)
+        module _ (hs : size + room ≤ maxSize) (x : ℕ) (ex : x ≡ frameLen (size + room)) where
+          small : leb (leafSize m b es + leafRoom m es) maxSize ≡ true
+          small = le-leb (leafSize m b es + leafRoom m es) maxSize (rw pay-is at hs)
 
-          end-is : g .end + x + tl .far ≡ leafEnd next m b es
-          end-is = end-by m b next es (g .end) x (tl .far) leaf-is (ex ∙ ap frameLen pay-is) fars-is
+          end-is : g .end + x + tl .remote ≡ leafEnd next m b es
+          end-is = end-by m b next es (g .end) x (tl .remote) leaf-is (ex ∙ ap frameLen pay-is) remotes-len-is
 
-          pub leaf-full : len < g .end + x + tl .far → No NoRoom ≡ leafVerdict len next m b es
+          pub leaf-full : len < g .end + x + tl .remote → No NoRoom ≡ leafVerdict len next m b es
           unfolding leafVerdict
           leaf-full h = rw (h6, h7, few, small, lt-leb (leafEnd next m b es) len (rw end-is at h)) refl
 
-          fit-by : g .end + x + tl .far ≤ len → Fits (totalsOf m b next es) ≡ leafVerdict len next m b es
+          fit-by : g .end + x + tl .remote ≤ len → Fits (totalsOf m b next es) ≡ leafVerdict len next m b es
           unfolding leafVerdict
           fit-by h = rw (h6, h7, few, small, le-leb (leafEnd next m b es) len (rw end-is at h)) refl
 
-          pub leaf-fits : g .end + x + tl .far ≤ len
-              → Fits (record { heads = tl .heads; olds = tl .olds; pages = g .count; remotes = tl .remotes; size = size; room = room; leaf = g .end; end = g .end + x + tl .far }) ≡ leafVerdict len next m b es
+          pub leaf-fits : g .end + x + tl .remote ≤ len
+              → Fits (record { heads = tl .heads; olds = tl .olds; pages = g .count; remotes = tl .remotes; size = size; room = room; leaf = g .end; end = g .end + x + tl .remote }) ≡ leafVerdict len next m b es
           leaf-fits h =
               ap Fits
-              (totals-by m b next es (tl .heads) (tl .olds) (g .count) (tl .remotes) size room (g .end) (g .end + x + tl .far) heads-is olds-is pages-is remotes-is size-is room-is
+              (totals-by m b next es (tl .heads) (tl .olds) (g .count) (tl .remotes) size room (g .end) (g .end + x + tl .remote) heads-is olds-is pages-is remotes-is size-is room-is
               (leaf-by m next es (g .end) leaf-is) end-is)
               ∙ fit-by h
 
@@ -214,11 +216,11 @@ one-no r q e = cc
 one-fit : (t u : Totals) → Fits t ≡ Fits u → t ≡ u
 one-fit t u e = cc
 
-module _ (a l : List ℕ) (next : ℕ) (c : Cursor) (m : Call) (lo hi : List ℕ) (e : Edges) (h : Held lo (take next a) e) (i : Inside lo hi (take next a) e) where
+module _ (a l : List ℕ) (next : ℕ) (c : Cursor) (m : Call) (lo hi : List ℕ) (e : Boundaries) (h : Held lo (take next a) e) (i : BothWithin lo hi (take next a) e) where
   abbrev es : List Entry
   es = entries l (take next a) c
 
-  abbrev bs : Bounds
+  abbrev bs : Borders
   bs = boundsOf lo hi (take next a) e
 
   abbrev rows : List Row
@@ -247,20 +249,20 @@ module _ (a l : List ℕ) (next : ℕ) (c : Cursor) (m : Call) (lo hi : List ℕ
       pub leaf-totals : t ≡ totalsOf m (boundsOf lo hi (take next a) e) next (entries l (take next a) c)
       leaf-totals = sym (one-fit tot t (passed .0))
 
-      both : (leb (length es) 65535 ≡ true) × (leb (leafSize m bs es + leafRoom m es) 16777216 ≡ true)
+      both : (leb (length es) maxEntries ≡ true) × (leb (leafSize m bs es + leafRoom m es) maxSize ≡ true)
       both = and-both _ _ (passed .1 .1 .1 .0)
 
-      pub leaf-few : length (entries l (take next a) c) ≤ 65535
-      leaf-few = leb-true (length es) 65535 (both .0)
+      pub leaf-few : length (entries l (take next a) c) ≤ maxEntries
+      leaf-few = leb-true (length es) maxEntries (both .0)
 
       pub leaf-small : Small t e
       leaf-small =
-          let k : leafSize m bs es + leafRoom m es ≤ 16777216 = leb-true (leafSize m bs es + leafRoom m es) 16777216 (both .1) in
+          let k : leafSize m bs es + leafRoom m es ≤ maxSize = leb-true (leafSize m bs es + leafRoom m es) maxSize (both .1) in
           record {
             size = omega (arith, ap (λ (x : Totals). x .size) leaf-totals, tot-size m bs next es, ap (λ (x : Totals). x .room) leaf-totals, tot-room m bs next es, k);
-            lo = h .low;
+            lo = h .ground;
             hi = h .high;
-            prefix = omega (arith, h .shared, h .low);
+            prefix = omega (arith, h .shared, h .ground);
           }
 
       pub leaf-long : Long (e .prefix) (entries l (take next a) c)

@@ -8,49 +8,48 @@ use lib.Dec.{leb}
 use Rattle.spans.specs.Span.{put}
 use Rattle.frames.specs.declared.Refusal.{Refusal}
 use Rattle.frames.specs.Layout.{addr, frameLen}
+use Rattle.frames.specs.Limits.{maxKey}
 use Rattle.build_sources.specs.Source.{Entry}
 use Rattle.build_sources.specs.Judged.{rising, prefixed}
 use Rattle.build_image.specs.declared.Call.{Call}
-use Rattle.build_image.specs.Image.{Bounds, indexSums, indexSize, indexImage}
-use Rattle.build_bounds.specs.declared.Edges.{Edges}
-use Rattle.build_bounds.specs.Edges.{Within}
+use Rattle.build_image.specs.Image.{indexSums, indexSizeAt, indexSize, indexImage, Borders}
+use Rattle.build_bounds.specs.declared.Boundaries.{Boundaries}
+use Rattle.build_bounds.specs.Boundaries.{Within}
 use Rattle.build_image.specs.declared.Built.{Built}
 use Rattle.build_table.specs.declared.IndexVerdict.{IndexVerdict}
-use Rattle.build_table.specs.Table.{Row, row, judged, entryRows}
+use Rattle.build_image.specs.Table.{Row, judged}
+use Rattle.build_table.specs.Table.{entryRows}
 
 -- "next plus all rounded frames"
-unfoldable pub indexEnd : ℕ → Call → Bounds → List Entry → ℕ
+unfoldable pub indexEnd : ℕ → Call → Borders → List Entry → ℕ
 unfolding indexImage
 indexEnd next m b es = next + length (indexImage m b es)
 
 -- 6, 7, 8, 9
-abbrev pub indexRows : ℕ → ℕ → Call → Bounds → List Entry → List Row
+abbrev pub indexRows : ℕ → ℕ → Call → Borders → List Entry → List Row
 indexRows len next m b es = entryRows (take (b .prefix) (b .lo)) es (indexSize b es) (indexEnd next m b es) len
 
 -- the answer: the page's address and the new next free address
-unfoldable pub indexAnswer : List ℕ → ℕ → Call → Bounds → List Entry → Built
+unfoldable pub indexAnswer : List ℕ → ℕ → Call → Borders → List Entry → Built
 unfolding rising prefixed indexSize indexEnd
 indexAnswer a next m b es = judged (indexRows (length a) next m b es) Built.Refused (Built.At (addr next) (indexEnd next m b es))
 
 -- the arena afterwards: one store of one image, or nothing
-unfoldable pub indexArena : List ℕ → ℕ → Call → Bounds → List Entry → List ℕ
+unfoldable pub indexArena : List ℕ → ℕ → Call → Borders → List Entry → List ℕ
 unfolding rising prefixed indexSize indexEnd put indexImage
 indexArena a next m b es = judged (indexRows (length a) next m b es) (λ r. a) (put a next (indexImage m b es))
 
 -- ---- the same in the judge's numbers
 
--- an index page's size, by its boundaries' lengths
-abbrev pub sizeAt : Edges → List Entry → ℕ
-sizeAt e es = 40 + 4 * length es + e .lo .len + e .hi .len + indexSums (e .prefix) es
-
-unfoldable pub indexVerdict : ℕ → ℕ → List ℕ → Edges → List Entry → IndexVerdict
+unfoldable pub indexVerdict : ℕ → ℕ → List ℕ → Boundaries → List Entry → IndexVerdict
 unfolding rising prefixed indexSums
 indexVerdict len next p e es =
-    judged (entryRows p es (sizeAt e es) (next + frameLen (sizeAt e es)) len) IndexVerdict.No (IndexVerdict.Fits (length es) (sizeAt e es))
+    let size = indexSizeAt (e .lo .len) (e .hi .len) (e .prefix) es in
+    judged (entryRows p es size (next + frameLen size) len) IndexVerdict.No (IndexVerdict.Fits (length es) size)
 
 -- what a judge is told of the boundaries
-pub record Held (lo w : List ℕ) (e : Edges) : Type 0 where
+pub record Held (lo w : List ℕ) (e : Boundaries) : Type 0 where
   pub within : Within lo w (e .lo)
   pub shared : e .prefix ≤ e .lo .len
-  pub low : e .lo .len ≤ 4096
-  pub high : e .hi .len ≤ 4096
+  pub ground : e .lo .len ≤ maxKey
+  pub high : e .hi .len ≤ maxKey

@@ -11,33 +11,34 @@ use Rattle.frames.specs.Layout.{addr}
 use Rattle.build_sources.specs.Source.{Entry}
 use Rattle.build_sources.specs.Judged.{rising, prefixed}
 use Rattle.build_image.specs.declared.Call.{Call}
-use Rattle.build_image.specs.Image.{Bounds, leafSize, leafRoom, leafImage}
+use Rattle.build_image.specs.Image.{Borders, leafSize, leafRoom, leafImage}
 use Rattle.build_totals.specs.declared.Totals.{Totals}
 use Rattle.build_totals.specs.Totals.{leafAt, totalsOf}
 use Rattle.build_image.specs.declared.Built.{Built}
 use Rattle.build_table.specs.declared.LeafVerdict.{LeafVerdict}
-use Rattle.build_table.specs.Table.{Row, row, judged, entryRows}
+use Rattle.build_image.specs.Table.{Row, judged}
+use Rattle.build_table.specs.Table.{entryRows}
 
 -- "next plus all rounded frames"
-unfoldable pub leafEnd : ℕ → Call → Bounds → List Entry → ℕ
+unfoldable pub leafEnd : ℕ → Call → Borders → List Entry → ℕ
 unfolding leafImage
 leafEnd next m b es = next + length (leafImage m b next es)
 
 -- 6, 7, 8, 9
-abbrev pub leafRows : ℕ → ℕ → Call → Bounds → List Entry → List Row
+abbrev pub leafRows : ℕ → ℕ → Call → Borders → List Entry → List Row
 leafRows len next m b es = entryRows (take (b .prefix) (b .lo)) es (leafSize m b es + leafRoom m es) (leafEnd next m b es) len
 
 -- the answer: the leaf's address, behind its history pages, and the new next free address
-unfoldable pub leafAnswer : List ℕ → ℕ → Call → Bounds → List Entry → Built
+unfoldable pub leafAnswer : List ℕ → ℕ → Call → Borders → List Entry → Built
 unfolding rising prefixed leafSize leafRoom leafEnd leafAt
 leafAnswer a next m b es = judged (leafRows (length a) next m b es) Built.Refused (Built.At (addr (leafAt m next es)) (leafEnd next m b es))
 
 -- the arena afterwards: one store of one image, or nothing
-unfoldable pub leafArena : List ℕ → ℕ → Call → Bounds → List Entry → List ℕ
+unfoldable pub leafArena : List ℕ → ℕ → Call → Borders → List Entry → List ℕ
 unfolding rising prefixed leafSize leafRoom leafEnd put leafImage
 leafArena a next m b es = judged (leafRows (length a) next m b es) (λ r. a) (put a next (leafImage m b next es))
 
 -- what its judge finds
-unfoldable pub leafVerdict : ℕ → ℕ → Call → Bounds → List Entry → LeafVerdict
+unfoldable pub leafVerdict : ℕ → ℕ → Call → Borders → List Entry → LeafVerdict
 unfolding rising prefixed leafSize leafRoom leafEnd totalsOf
 leafVerdict len next m b es = judged (leafRows len next m b es) LeafVerdict.No (LeafVerdict.Fits (totalsOf m b next es))

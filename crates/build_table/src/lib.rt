@@ -1,21 +1,21 @@
 // Building from any source: the whole input is judged without writing, then written strictly upward from the next free address. The
 // numbers 6 to 9 are judged on the entries, whatever holds them; 1 to 3 are the calls' own (crate base).
-use build_bounds::Edge;
-use build_bounds::Edges;
+use build_bounds::Boundaries;
+use build_bounds::Boundary;
 use build_image::Built;
 use build_image::Call;
 use build_sources::Cursor;
 use build_sources::Risen;
 use build_totals::Totals;
 use frames::Addr;
+use frames::BaseHeader;
 use frames::Refusal;
 ghost use mathlib.Core.Path.{_≡_};
-ghost use Prim.Native.Nat.{_+_, _≤_};
+ghost use Prim.Native.Nat.{_≤_};
 ghost use lib.ListN.{length, take};
-ghost use Rattle.frames.specs.Layout.{frameLen};
 ghost use Rattle.build_sources.specs.Source.{entries};
 ghost use Rattle.build_sources.specs.Judged.{prefixed};
-ghost use Rattle.build_bounds.specs.Edges.{Within, Inside, edgeBytes, boundsOf};
+ghost use Rattle.build_bounds.specs.Boundaries.{Within, BothWithin, boundaryBytes, boundsOf};
 ghost use Rattle.build_table.specs.Table.{boundsOk, leafLimits};
 ghost use Rattle.build_table.specs.Index.{Held, indexVerdict, indexAnswer, indexArena};
 ghost use Rattle.build_table.specs.Leaf.{leafVerdict, leafAnswer, leafArena};
@@ -39,7 +39,7 @@ pub enum LeafVerdict {
 pub fn bounds_ok(lo: &[u8], hi: &[u8]) -> bool
     ensures { λ r. ⌜ r ≡ boundsOk (now (lo .entry)) (now (hi .entry)) ⌝ }
 {
-    (lo.len() <= 4096) & (hi.len() <= 4096)
+    (lo.len() <= BaseHeader::MAX_KEY) & (hi.len() <= BaseHeader::MAX_KEY)
 }
 
 // "inline limit not 1..65,536; budget not 256..131,072; lo or hi over 4,096" is BAD LIMIT.
@@ -54,18 +54,25 @@ pub fn limits_ok(limit: usize, budget: usize, lo: &[u8], hi: &[u8]) -> bool
 // ---- 7
 
 // Whether each key begins with the first p bytes of a boundary.
-pub fn begins_with(list: &[u8], low: &[u8], from: Cursor, lo: &[u8], e: Edge, p: usize) -> bool
-    requires { ⌜ Within (now lo) (now low) e ⌝ }
+pub fn begins_with(
+    list: &[u8],
+    ground: &[u8],
+    from: Cursor,
+    lo: &[u8],
+    e: Boundary,
+    p: usize,
+) -> bool
+    requires { ⌜ Within (now lo) (now ground) e ⌝ }
     requires { ⌜ p ≤ e .len ⌝ }
-    ensures { λ r. ⌜ r ≡ prefixed (take p (edgeBytes (now (lo .entry)) (now (low .entry)) e)) (entries (now (list .entry)) (now (low .entry)) from) ⌝ }
+    ensures { λ r. ⌜ r ≡ prefixed (take p (boundaryBytes (now (lo .entry)) (now (ground .entry)) e)) (entries (now (list .entry)) (now (ground .entry)) from) ⌝ }
 {
     if p == 0 {
         return true;
     }
-    if e.low {
-        return build_sources::begins(list, low, from, spans::part_of(low, e.at, p));
+    if e.ground {
+        return build_sources::begins(list, ground, from, spans::part_of(ground, e.at, p));
     }
-    build_sources::begins(list, low, from, spans::part_of(lo, e.at, p))
+    build_sources::begins(list, ground, from, spans::part_of(lo, e.at, p))
 }
 
 // ---- index pages
@@ -73,31 +80,35 @@ pub fn begins_with(list: &[u8], low: &[u8], from: Cursor, lo: &[u8], e: Edge, p:
 // Judges the entries of an index page: 6, 7, 8, 9. It writes nothing.
 pub fn judge_index(
     list: &[u8],
-    low: &[u8],
+    ground: &[u8],
     from: Cursor,
     len: usize,
     next: usize,
     lo: &[u8],
-    e: Edges,
+    e: Boundaries,
 ) -> IndexVerdict
-    requires { ⌜ Held (now lo) (now low) e ⌝ }
+    requires { ⌜ Held (now lo) (now ground) e ⌝ }
     requires { ⌜ next ≤ len ⌝ }
-    ensures { λ r. ⌜ r ≡ indexVerdict len next (take (e .prefix) (edgeBytes (now (lo .entry)) (now (low .entry)) (e .lo))) e (entries (now (list .entry)) (now (low .entry)) from) ⌝ }
+    ensures { λ r. ⌜ r ≡ indexVerdict len next (take (e .prefix) (boundaryBytes (now (lo .entry)) (now (ground .entry)) (e .lo))) e (entries (now (list .entry)) (now (ground .entry)) from) ⌝ }
 {
     let x = e.lo;
     let y = e.hi;
     let p = e.prefix;
-    let Risen::Up(n) = build_sources::rises(list, low, from) else {
+    let Risen::Up(n) = build_sources::rises(list, ground, from) else {
         return IndexVerdict::No(Refusal::OutOfOrder);
     };
-    if !begins_with(list, low, from, lo, x, p) {
+    if !begins_with(list, ground, from, lo, x, p) {
         return IndexVerdict::No(Refusal::WrongPrefix);
     }
-    if 65535 < n {
+    if BaseHeader::MAX_ENTRIES < n {
         return IndexVerdict::No(Refusal::TooBig);
     }
-    let size = 40 + 4 * n + x.len + y.len + build_index::index_sums(list, low, from, p);
-    if 16777216 < size {
+    let size = BaseHeader::HDR_LEN
+        + 4 * n
+        + x.len
+        + y.len
+        + build_index::index_sums(list, ground, from, p);
+    if BaseHeader::MAX_SIZE < size {
         return IndexVerdict::No(Refusal::TooBig);
     }
     if !spans::room(len, next, frames::frame_len(size as u32)) {
@@ -115,11 +126,11 @@ pub fn build_index(
     m: Call,
     lo: &[u8],
     hi: &[u8],
-    e: Edges,
+    e: Boundaries,
 ) -> Built
     requires { ⌜ next ≤ length (now a) ⌝ }
     requires { ⌜ Held (now lo) (take next (now a)) e ⌝ }
-    requires { ⌜ Inside (now lo) (now hi) (take next (now a)) e ⌝ }
+    requires { ⌜ BothWithin (now lo) (now hi) (take next (now a)) e ⌝ }
     ensures { λ r. ⌜ r ≡ indexAnswer (now (a .entry)) next m (boundsOf (now (lo .entry)) (now (hi .entry)) (take next (now (a .entry))) e) (entries (now (list .entry)) (take next (now (a .entry))) from) ⌝ }
     ensures { λ _. ⌜ now (a .exit) ≡ indexArena (now (a .entry)) next m (boundsOf (now (lo .entry)) (now (hi .entry)) (take next (now (a .entry))) e) (entries (now (list .entry)) (take next (now (a .entry))) from) ⌝ }
 {
@@ -139,43 +150,43 @@ pub fn build_index(
 // Judges the entries of a leaf: 6, 7, 8, 9. It writes nothing.
 pub fn judge_leaf(
     list: &[u8],
-    low: &[u8],
+    ground: &[u8],
     from: Cursor,
     len: usize,
     next: usize,
     m: Call,
     lo: &[u8],
     hi: &[u8],
-    e: Edges,
+    e: Boundaries,
 ) -> LeafVerdict
-    requires { ⌜ Held (now lo) (now low) e ⌝ }
-    requires { ⌜ Inside (now lo) (now hi) (now low) e ⌝ }
+    requires { ⌜ Held (now lo) (now ground) e ⌝ }
+    requires { ⌜ BothWithin (now lo) (now hi) (now ground) e ⌝ }
     requires { ⌜ Sane m ⌝ }
     requires { ⌜ (next ≤ len) × (len ≤ 9223372036854775807) ⌝ }
-    ensures { λ r. ⌜ r ≡ leafVerdict len next m (boundsOf (now (lo .entry)) (now (hi .entry)) (now (low .entry)) e) (entries (now (list .entry)) (now (low .entry)) from) ⌝ }
+    ensures { λ r. ⌜ r ≡ leafVerdict len next m (boundsOf (now (lo .entry)) (now (hi .entry)) (now (ground .entry)) e) (entries (now (list .entry)) (now (ground .entry)) from) ⌝ }
 {
     let x = e.lo;
     let y = e.hi;
     let p = e.prefix;
-    let Risen::Up(n) = build_sources::rises(list, low, from) else {
+    let Risen::Up(n) = build_sources::rises(list, ground, from) else {
         return LeafVerdict::No(Refusal::OutOfOrder);
     };
-    if !begins_with(list, low, from, lo, x, p) {
+    if !begins_with(list, ground, from, lo, x, p) {
         return LeafVerdict::No(Refusal::WrongPrefix);
     }
-    if 65535 < n {
+    if BaseHeader::MAX_ENTRIES < n {
         return LeafVerdict::No(Refusal::TooBig);
     }
-    let t = build_totals::tally_up(list, low, from, p, m.limit);
-    let g = build_totals::count_pages(list, low, from, next, m.limit, m.budget);
+    let t = build_totals::tally_up(list, ground, from, p, m.limit);
+    let g = build_totals::count_pages(list, ground, from, next, m.limit, m.budget);
     let pages = g.count;
     let leaf = g.end;
-    let size = 40 + 4 * t.heads + x.len + y.len + t.sums;
+    let size = BaseHeader::HDR_LEN + 4 * t.heads + x.len + y.len + t.sums;
     let room = build_totals::room_of(pages, t.counted);
-    if 16777216 < size + room {
+    if BaseHeader::MAX_SIZE < size + room {
         return LeafVerdict::No(Refusal::TooBig);
     }
-    let end = leaf + frames::frame_len((size + room) as u32) + t.far;
+    let end = leaf + frames::frame_len((size + room) as u32) + t.remote;
     if len < end {
         return LeafVerdict::No(Refusal::NoRoom);
     }
@@ -200,11 +211,11 @@ pub fn build_leaf(
     m: Call,
     lo: &[u8],
     hi: &[u8],
-    e: Edges,
+    e: Boundaries,
 ) -> Built
     requires { ⌜ next ≤ length (now a) ⌝ }
     requires { ⌜ Held (now lo) (take next (now a)) e ⌝ }
-    requires { ⌜ Inside (now lo) (now hi) (take next (now a)) e ⌝ }
+    requires { ⌜ BothWithin (now lo) (now hi) (take next (now a)) e ⌝ }
     requires { ⌜ Sane m ⌝ }
     ensures { λ r. ⌜ r ≡ leafAnswer (now (a .entry)) next m (boundsOf (now (lo .entry)) (now (hi .entry)) (take next (now (a .entry))) e) (entries (now (list .entry)) (take next (now (a .entry))) from) ⌝ }
     ensures { λ _. ⌜ now (a .exit) ≡ leafArena (now (a .entry)) next m (boundsOf (now (lo .entry)) (now (hi .entry)) (take next (now (a .entry))) e) (entries (now (list .entry)) (take next (now (a .entry))) from) ⌝ }

@@ -7,13 +7,14 @@ use Prim.Native.Nat.{ℕ, zero, suc, _+_, _-_, _*_, _≤_, _<_}
 use native.Mathlib.Omega.{arith}
 use lib.Dec.{ltb, eqb}
 use lib.ListN.{length}
+use Rattle.frames.specs.Limits.{maxEntries, maxKey, maxValue}
 use Rattle.values.specs.Vals.{sizeOf}
 use Rattle.build_sources.specs.declared.Cursor.{Cursor}
-use Rattle.build_sources.specs.declared.Item.{Item}
+use Rattle.build_sources.specs.declared.EntryAt.{EntryAt}
 use Rattle.build_sources.specs.Source.{Entry, entryOf, entries, only, olds, heads}
 use Rattle.build_sources.proofs.Sourced.{Found}
-use Rattle.build_image.specs.Sizes.{farLen, valLen, fars, keyLen, sums, counted}
-use Rattle.build_image.proofs.Lengths.{far-most}
+use Rattle.build_image.specs.Sizes.{remoteLen, valLen, remotesLen, keyLen, sums, counted}
+use Rattle.build_image.proofs.Lengths.{remote-most}
 use Rattle.build_image.proofs.Leaf.{remotes}
 use Rattle.build_heads.specs.Steps.{Long}
 use Rattle.build_heads.proofs.Slots.{key-most, size-most}
@@ -28,21 +29,21 @@ one-most true true = omega arith
 one-most true false = omega arith
 one-most false c = omega arith
 
-pub far-one-most : (b : Bool) → cond b 0 1 ≤ 1
-far-one-most true = omega arith
-far-one-most false = omega arith
+pub remote-one-most : (b : Bool) → cond b 0 1 ≤ 1
+remote-one-most true = omega arith
+remote-one-most false = omega arith
 
-pub second-most : (b : Bool) (limit n : ℕ) → n ≤ 65536 → cond b (sizeOf true limit n) 0 ≤ 65600
+pub second-most : (b : Bool) (limit n : ℕ) → n ≤ maxValue → cond b (sizeOf true limit n) 0 ≤ 65600
 second-most true limit n h = size-most true limit n h
 second-most false limit n h = omega arith
 
 pub old-is : (limit : ℕ) (t : Tally) (n kept x y z : ℕ) → x ≡ cond (t .after) (sizeOf true limit n) 0 → y ≡ cond (ltb n limit) (cond (eqb kept 0) 0 1) 1 → z ≡ cond (ltb n limit) 0 1
-    → record { heads = t .heads; olds = t .olds + 1; sums = t .sums + x; counted = t .counted + y; remotes = t .remotes + z; far = t .far; after = false } ≡ withOld limit t n kept
+    → record { heads = t .heads; olds = t .olds + 1; sums = t .sums + x; counted = t .counted + y; remotes = t .remotes + z; remote = t .remote; after = false } ≡ withOld limit t n kept
 old-is limit t n kept x y z ex ey ez = rw (ex, ey, ez) refl
 
 pub head-is : (limit p : ℕ) (t : Tally) (k n kept u v y z f : ℕ) → u ≡ keyLen p k → v ≡ sizeOf false limit n → y ≡ cond (ltb n limit) (cond (eqb kept 0) 0 1) 1 → z ≡ cond (ltb n limit) 0 1
-    → f ≡ farLen limit n kept
-    → record { heads = t .heads + 1; olds = t .olds; sums = t .sums + (u + v); counted = t .counted + y; remotes = t .remotes + z; far = t .far + f; after = true } ≡ withHead limit p t k n kept
+    → f ≡ remoteLen limit n kept
+    → record { heads = t .heads + 1; olds = t .olds; sums = t .sums + (u + v); counted = t .counted + y; remotes = t .remotes + z; remote = t .remote + f; after = true } ≡ withHead limit p t k n kept
 head-is limit p t k n kept u v y z f eu ev ey ez ef = rw (eu, ev, ey, ez, ef) refl
 
 module _ (limit p : ℕ) (t : Tally) (k n kept : ℕ) where
@@ -62,10 +63,10 @@ up t j k h b =
       sums = omega (arith, b .sums);
       counted = omega (arith, b .counted);
       remotes = omega (arith, b .remotes);
-      far = omega (arith, b .far);
+      remote = omega (arith, b .remote);
     }
 
-one-bounded : (limit p : ℕ) (t : Tally) (old : Bool) (k n kept j : ℕ) → Bounded t j → k ≤ 4096 → n ≤ 65536 → Bounded (withOne limit p t old k n kept) (j + 1)
+one-bounded : (limit p : ℕ) (t : Tally) (old : Bool) (k n kept j : ℕ) → Bounded t j → k ≤ maxKey → n ≤ maxValue → Bounded (withOne limit p t old k n kept) (j + 1)
 unfolding withOne
 one-bounded limit p t true k n kept j b hk hn =
     record {
@@ -73,8 +74,8 @@ one-bounded limit p t true k n kept j b hk hn =
       olds = omega (arith, b .olds);
       sums = omega (arith, b .sums, second-most (t .after) limit n hn);
       counted = omega (arith, b .counted, one-most (ltb n limit) (eqb kept 0));
-      remotes = omega (arith, b .remotes, far-one-most (ltb n limit));
-      far = omega (arith, b .far);
+      remotes = omega (arith, b .remotes, remote-one-most (ltb n limit));
+      remote = omega (arith, b .remote);
     }
 one-bounded limit p t false k n kept j b hk hn =
     record {
@@ -82,8 +83,8 @@ one-bounded limit p t false k n kept j b hk hn =
       olds = omega (arith, b .olds);
       sums = omega (arith, b .sums, key-most p k, size-most false limit n hn);
       counted = omega (arith, b .counted, one-most (ltb n limit) (eqb kept 0));
-      remotes = omega (arith, b .remotes, far-one-most (ltb n limit));
-      far = omega (arith, b .far, far-most limit n kept);
+      remotes = omega (arith, b .remotes, remote-one-most (ltb n limit));
+      remote = omega (arith, b .remote, remote-most limit n kept);
     }
 
 -- ---- all entries
@@ -91,23 +92,23 @@ one-bounded limit p t false k n kept j b hk hn =
 pub record Tallying (l w : List ℕ) (limit p : ℕ) (c₀ c : Cursor) (t : Tally) : Type 0 where
   pub goes : tallyOf limit p t (entries l w c) ≡ tallyOf limit p nothing (entries l w c₀)
   pub long : Long p (entries l w c)
-  pub few : length (entries l w c) ≤ 65535
-  pub bounded : Bounded t (65535 - length (entries l w c))
+  pub few : length (entries l w c) ≤ maxEntries
+  pub bounded : Bounded t (maxEntries - length (entries l w c))
 
-pub tally-begin : (l w : List ℕ) (limit p : ℕ) (c : Cursor) → Long p (entries l w c) → length (entries l w c) ≤ 65535 → Tallying l w limit p c c nothing
+pub tally-begin : (l w : List ℕ) (limit p : ℕ) (c : Cursor) → Long p (entries l w c) → length (entries l w c) ≤ maxEntries → Tallying l w limit p c c nothing
 tally-begin l w limit p c h k =
     record {
       goes = refl;
       long = h;
       few = k;
-      bounded = record { heads = omega arith; olds = omega arith; sums = omega arith; counted = omega arith; remotes = omega arith; far = omega arith };
+      bounded = record { heads = omega arith; olds = omega arith; sums = omega arith; counted = omega arith; remotes = omega arith; remote = omega arith };
     }
 
-same-old : (l w : List ℕ) (i : Item) → entryOf l w i .old ≡ i .old
+same-old : (l w : List ℕ) (i : EntryAt) → entryOf l w i .old ≡ i .old
 unfolding entryOf
 same-old l w i = refl
 
-same-kept : (l w : List ℕ) (i : Item) → entryOf l w i .kept ≡ i .kept .0
+same-kept : (l w : List ℕ) (i : EntryAt) → entryOf l w i .kept ≡ i .kept .0
 unfolding entryOf
 same-kept l w i = refl
 
@@ -116,17 +117,17 @@ unfolding tallyOf
 tally-nil limit p t es e = rw e refl
 
 module _ (l w : List ℕ) (limit p : ℕ) (c₀ c : Cursor) (t : Tally) (h : Tallying l w limit p c₀ c t) where
-  pub tally-end : entries l w c ≡ [] → (t ≡ tallyOf limit p nothing (entries l w c₀)) × Bounded t 65535
-  tally-end e = (sym (tally-nil limit p t (entries l w c) e) ∙ h .goes, up t (65535 - length (entries l w c)) 65535 (omega arith) (h .bounded))
+  pub tally-end : entries l w c ≡ [] → (t ≡ tallyOf limit p nothing (entries l w c₀)) × Bounded t maxEntries
+  tally-end e = (sym (tally-nil limit p t (entries l w c) e) ∙ h .goes, up t (maxEntries - length (entries l w c)) maxEntries (omega arith) (h .bounded))
 
-  module _ (i : Item) (d : Cursor) (f : Found l w c i d) where
+  module _ (i : EntryAt) (d : Cursor) (f : Found l w c i d) where
     longs : Long p (entryOf l w i ∷ entries l w d)
     longs = subst (λ (es : List Entry). Long p es) (f .list) (h .long)
 
-    pub tally-asks : (i .vlen ≤ 65536) × (((i .key .plen + i .key .klen ≤ 4096) × (p ≤ i .key .plen + i .key .klen)) × Bounded t 65535)
+    pub tally-asks : (i .vlen ≤ maxValue) × (((i .key .plen + i .key .klen ≤ maxKey) × (p ≤ i .key .plen + i .key .klen)) × Bounded t maxEntries)
     tally-asks =
         let q = longs .0 in
-        (f .placed .vsmall, ((f .placed .ksmall, omega (arith, q, f .klen)), up t (65535 - length (entries l w c)) 65535 (omega arith) (h .bounded)))
+        (f .placed .vsmall, ((f .placed .ksmall, omega (arith, q, f .klen)), up t (maxEntries - length (entries l w c)) maxEntries (omega arith) (h .bounded)))
 
     opened : tallyOf limit p t (entries l w c) ≡ tallyOf limit p (withOne limit p t (i .old) (i .key .plen + i .key .klen) (i .vlen) (i .kept .0)) (entries l w d)
     unfolding tallyOf
@@ -146,8 +147,8 @@ module _ (l w : List ℕ) (limit p : ℕ) (c₀ c : Cursor) (t : Tally) (h : Tal
           long = longs .1;
           few = omega (arith, n, h .few);
           bounded =
-              up _ (65535 - length (entries l w c) + 1) (65535 - length (entries l w d)) (omega (arith, n, h .few))
-              (one-bounded limit p t (i .old) (i .key .plen + i .key .klen) (i .vlen) (i .kept .0) (65535 - length (entries l w c)) (h .bounded) (f .placed .ksmall) (f .placed .vsmall));
+              up _ (maxEntries - length (entries l w c) + 1) (maxEntries - length (entries l w d)) (omega (arith, n, h .few))
+              (one-bounded limit p t (i .old) (i .key .plen + i .key .klen) (i .vlen) (i .kept .0) (maxEntries - length (entries l w c)) (h .bounded) (f .placed .ksmall) (f .placed .vsmall));
         })
 
 -- ---- what it is
@@ -208,13 +209,13 @@ module _ (limit p : ℕ) where
   remotes-are t [] = omega arith
   remotes-are t (e ∷ es) = remotes-are _ es ∙ remotes-by t (e .old) (length (e .key)) (length (e .val)) (e .kept) (remotes limit es)
 
-  far-by : (t : Tally) (e : Entry) (hs : List Entry) (b : Bool) (k : ℕ)
-      → withOne limit p t b k (length (e .val)) (e .kept) .far + fars limit hs ≡ t .far + fars limit (cond (not b) (e ∷ hs) hs)
-  unfolding withOne fars
-  far-by t e hs true k = refl
-  far-by t e hs false k = omega arith
+  remote-by : (t : Tally) (e : Entry) (hs : List Entry) (b : Bool) (k : ℕ)
+      → withOne limit p t b k (length (e .val)) (e .kept) .remote + remotesLen limit hs ≡ t .remote + remotesLen limit (cond (not b) (e ∷ hs) hs)
+  unfolding withOne remotesLen
+  remote-by t e hs true k = refl
+  remote-by t e hs false k = omega arith
 
-  pub far-is : (t : Tally) (es : List Entry) → tallyOf limit p t es .far ≡ t .far + fars limit (heads es)
-  unfolding tallyOf only fars
-  far-is t [] = omega arith
-  far-is t (e ∷ es) = far-is _ es ∙ far-by t e (heads es) (e .old) (length (e .key))
+  pub remote-is : (t : Tally) (es : List Entry) → tallyOf limit p t es .remote ≡ t .remote + remotesLen limit (heads es)
+  unfolding tallyOf only remotesLen
+  remote-is t [] = omega arith
+  remote-is t (e ∷ es) = remote-is _ es ∙ remote-by t e (heads es) (e .old) (length (e .key))

@@ -9,4 +9,4 @@ pub record Bounded (t : Tally) (k : ℕ) : Type 0 where
   pub sums : t .sums ≤ 69800 * k
   pub counted : t .counted ≤ k
   pub remotes : t .remotes ≤ k
-  pub far : t .far ≤ 65600 * k
+  pub remote : t .remote ≤ 65600 * k

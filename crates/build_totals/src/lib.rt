@@ -1,17 +1,17 @@
 // What a leaf build is going to write, measured before anything is written.
-use build_image::Call;
 use build_sources::Cursor;
-use build_sources::Item;
-use build_sources::Step;
+use build_sources::EntryAt;
+use build_sources::EntryRead;
 use frames::Addr;
 use values::Val;
 ghost use mathlib.Core.Path.{_≡_};
 ghost use mathlib.Core.Bool.{true, cond};
-ghost use Prim.Native.Nat.{_+_, _*_, _≤_};
+ghost use Prim.Native.Nat.{_+_, _≤_};
 ghost use lib.ListN.{length};
 ghost use lib.Dec.{ltb, eqb};
+ghost use Rattle.frames.specs.Limits.{maxBudget, maxEntries, maxKey, maxLimit, maxValue};
 ghost use Rattle.values.specs.Vals.{sizeOf};
-ghost use Rattle.build_sources.specs.Source.{Placed, entryOf, entries, only};
+ghost use Rattle.build_sources.specs.Source.{entries, only};
 ghost use Rattle.build_image.specs.Sizes.{roomOf};
 ghost use Rattle.build_heads.specs.Steps.{Long};
 ghost use Rattle.build_totals.specs.Tally.{nothing, withOld, withHead, withOne, tallyOf};
@@ -38,7 +38,7 @@ pub struct Tally {
     pub sums: usize,
     pub counted: usize,
     pub remotes: usize,
-    pub far: usize,
+    pub remote: usize,
     pub after: bool,
 }
 
@@ -50,7 +50,7 @@ pub struct Pages {
 
 // ---- one entry
 
-fn far_one(limit: usize, n: usize) -> usize
+fn remote_one(limit: usize, n: usize) -> usize
     ensures { λ r. ⌜ r ≡ cond (ltb n limit) 0 1 ⌝ }
 {
     if n < limit { 0 } else { 1 }
@@ -69,7 +69,7 @@ fn counted_one(limit: usize, n: usize, kept: Addr) -> usize
 }
 
 fn second(after: bool, limit: usize, n: usize) -> usize
-    requires { ⌜ n ≤ 65536 ⌝ }
+    requires { ⌜ n ≤ maxValue ⌝ }
     ensures { λ r. ⌜ r ≡ cond after (sizeOf true limit n) 0 ⌝ }
 {
     if after {
@@ -79,8 +79,8 @@ fn second(after: bool, limit: usize, n: usize) -> usize
 }
 
 fn with_old(limit: usize, t: Tally, n: usize, kept: Addr) -> Tally
-    requires { ⌜ n ≤ 65536 ⌝ }
-    requires { ⌜ Bounded t 65535 ⌝ }
+    requires { ⌜ n ≤ maxValue ⌝ }
+    requires { ⌜ Bounded t maxEntries ⌝ }
     ensures { λ r. ⌜ r ≡ withOld limit t n (kept .0) ⌝ }
 {
     Tally {
@@ -88,16 +88,16 @@ fn with_old(limit: usize, t: Tally, n: usize, kept: Addr) -> Tally
         olds: t.olds + 1,
         sums: t.sums + second(t.after, limit, n),
         counted: t.counted + counted_one(limit, n, kept),
-        remotes: t.remotes + far_one(limit, n),
-        far: t.far,
+        remotes: t.remotes + remote_one(limit, n),
+        remote: t.remote,
         after: false,
     }
 }
 
 fn with_head(limit: usize, p: usize, t: Tally, k: usize, n: usize, kept: Addr) -> Tally
-    requires { ⌜ n ≤ 65536 ⌝ }
-    requires { ⌜ (k ≤ 4096) × (p ≤ k) ⌝ }
-    requires { ⌜ Bounded t 65535 ⌝ }
+    requires { ⌜ n ≤ maxValue ⌝ }
+    requires { ⌜ (k ≤ maxKey) × (p ≤ k) ⌝ }
+    requires { ⌜ Bounded t maxEntries ⌝ }
     ensures { λ r. ⌜ r ≡ withHead limit p t k n (kept .0) ⌝ }
 {
     Tally {
@@ -105,16 +105,16 @@ fn with_head(limit: usize, p: usize, t: Tally, k: usize, n: usize, kept: Addr) -
         olds: t.olds,
         sums: t.sums + (build_heads::key_len(p, k) + Val::calc_size(false, limit, n as u32)),
         counted: t.counted + counted_one(limit, n, kept),
-        remotes: t.remotes + far_one(limit, n),
-        far: t.far + build_image::far_len(limit, n, kept),
+        remotes: t.remotes + remote_one(limit, n),
+        remote: t.remote + build_image::remote_len(limit, n, kept),
         after: true,
     }
 }
 
-fn with_one(limit: usize, p: usize, t: Tally, i: Item) -> Tally
-    requires { ⌜ i .vlen ≤ 65536 ⌝ }
-    requires { ⌜ (i .key .plen + i .key .klen ≤ 4096) × (p ≤ i .key .plen + i .key .klen) ⌝ }
-    requires { ⌜ Bounded t 65535 ⌝ }
+fn with_one(limit: usize, p: usize, t: Tally, i: EntryAt) -> Tally
+    requires { ⌜ i .vlen ≤ maxValue ⌝ }
+    requires { ⌜ (i .key .plen + i .key .klen ≤ maxKey) × (p ≤ i .key .plen + i .key .klen) ⌝ }
+    requires { ⌜ Bounded t maxEntries ⌝ }
     ensures { λ r. ⌜ r ≡ withOne limit p t (i .old) (i .key .plen + i .key .klen) (i .vlen) (i .kept .0) ⌝ }
 {
     let k = i.key;
@@ -127,11 +127,11 @@ fn with_one(limit: usize, p: usize, t: Tally, i: Item) -> Tally
 
 // ---- all entries
 
-pub fn tally_up(list: &[u8], low: &[u8], from: Cursor, p: usize, limit: usize) -> Tally
-    requires { ⌜ Long p (entries (now list) (now low) from) ⌝ }
-    requires { ⌜ length (entries (now list) (now low) from) ≤ 65535 ⌝ }
-    ensures { λ r. ⌜ r ≡ tallyOf limit p nothing (entries (now (list .entry)) (now (low .entry)) from) ⌝ }
-    ensures { λ r. ⌜ Bounded r 65535 ⌝ }
+pub fn tally_up(list: &[u8], ground: &[u8], from: Cursor, p: usize, limit: usize) -> Tally
+    requires { ⌜ Long p (entries (now list) (now ground) from) ⌝ }
+    requires { ⌜ length (entries (now list) (now ground) from) ≤ maxEntries ⌝ }
+    ensures { λ r. ⌜ r ≡ tallyOf limit p nothing (entries (now (list .entry)) (now (ground .entry)) from) ⌝ }
+    ensures { λ r. ⌜ Bounded r maxEntries ⌝ }
 {
     let mut c = from;
     let mut t = Tally {
@@ -140,20 +140,20 @@ pub fn tally_up(list: &[u8], low: &[u8], from: Cursor, p: usize, limit: usize) -
         sums: 0,
         counted: 0,
         remotes: 0,
-        far: 0,
+        remote: 0,
         after: false,
     };
     loop {
-        let st = build_sources::next(list, low, c);
+        let st = build_sources::next(list, ground, c);
         match st {
-            Step::Got(i, d) => {
+            EntryRead::Got(i, d) => {
                 t = with_one(limit, p, t, i);
                 c = d;
             }
-            Step::End => {
+            EntryRead::End => {
                 return t;
             }
-            Step::Bad => {
+            EntryRead::Bad => {
                 return t;
             }
         }
@@ -164,36 +164,36 @@ pub fn tally_up(list: &[u8], low: &[u8], from: Cursor, p: usize, limit: usize) -
 
 pub fn count_pages(
     list: &[u8],
-    low: &[u8],
+    ground: &[u8],
     from: Cursor,
     at: usize,
     limit: usize,
     budget: usize,
 ) -> Pages
-    requires { ⌜ (limit ≤ 65536) × (budget ≤ 131072) ⌝ }
-    requires { ⌜ length (only true (entries (now list) (now low) from)) ≤ 65535 ⌝ }
+    requires { ⌜ (limit ≤ maxLimit) × (budget ≤ maxBudget) ⌝ }
+    requires { ⌜ length (only true (entries (now list) (now ground) from)) ≤ maxEntries ⌝ }
     requires { ⌜ at ≤ 9223372036854775807 ⌝ }
-    ensures { λ r. ⌜ r ≡ pagesOf limit budget 0 at (only true (entries (now (list .entry)) (now (low .entry)) from)) ⌝ }
-    ensures { λ r. ⌜ (r .end ≤ at + 12890734500) × (r .count ≤ 65535) ⌝ }
+    ensures { λ r. ⌜ r ≡ pagesOf limit budget 0 at (only true (entries (now (list .entry)) (now (ground .entry)) from)) ⌝ }
+    ensures { λ r. ⌜ (r .end ≤ at + 12890734500) × (r .count ≤ maxEntries) ⌝ }
 {
     let mut c = from;
     let mut n: usize = 0;
     let mut to = at;
     loop {
-        let s = build_history::look_ahead(list, low, c, limit, budget);
+        let s = build_history::look_ahead(list, ground, c, limit, budget);
         let r = s.run;
         if r.count == 0 {
             return Pages { count: n, end: to };
         }
         n += 1;
-        to += frames::frame_len(r.size as u32) + r.far;
+        to += frames::frame_len(r.size as u32) + r.remote;
         c = s.rest;
     }
 }
 
 // The room of a page's hints.
 pub fn room_of(pages: usize, remotes: usize) -> usize
-    requires { ⌜ (pages ≤ 65535) × (remotes ≤ 65535) ⌝ }
+    requires { ⌜ (pages ≤ maxEntries) × (remotes ≤ maxEntries) ⌝ }
     ensures { λ r. ⌜ r ≡ roomOf pages remotes ⌝ }
 {
     if pages + remotes == 0 {

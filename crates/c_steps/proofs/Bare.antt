@@ -12,6 +12,7 @@ use Rattle.frames.specs.declared.Addr.{Addr}
 use Rattle.frames.specs.declared.Body.{Body}
 use Rattle.frames.specs.declared.RemoteRead.{RemoteRead}
 use Rattle.frames.specs.Layout.{addr, remoteAt}
+use Rattle.frames.specs.Limits.{maxValue}
 use Rattle.values.specs.declared.HistRef.{HistRef}
 use Rattle.values.specs.declared.FrontRead.{FrontRead}
 use Rattle.values.specs.declared.KeyRead.{KeyRead}
@@ -21,7 +22,7 @@ use Rattle.records.specs.declared.SlotRead.{SlotRead}
 use Rattle.records.specs.declared.ValRead.{ValRead}
 use Rattle.records.specs.declared.Rec.{Rec}
 use Rattle.records.specs.declared.RecRead.{RecRead}
-use Rattle.records.specs.Records.{slotAt, farOf, keyIn, valIn, recVal, recKey, recIn, recSlot, recAt}
+use Rattle.records.specs.Records.{slotAt, remoteOf, keyIn, valIn, recVal, recKey, recIn, recSlot, recAt}
 use Rattle.records.specs.Records as recs
 
 abbrev Bare : HistRef → Type 0
@@ -29,7 +30,7 @@ Bare h = h .count ≡ 0 → h .page ≡ addr 0
 
 -- whatever was read, as long as it has a reference
 abbrev OfFront : FrontRead → Type 0
-OfFront (FrontRead.Front h far next) = Bare h
+OfFront (FrontRead.Front h remote next) = Bare h
 OfFront FrontRead.Bad = Unit {0}
 
 abbrev OfVal : Val → Type 0
@@ -50,11 +51,11 @@ both : {A : Type 0} (P : A → Type 0) (t : Bool) (x y : A) → P x → P y → 
 both P true x y p q = p
 both P false x y p q = q
 
-ref-bare : (s : List ℕ) (at : ℕ) (far : Bool) → OfFront (refAt s at far)
+ref-bare : (s : List ℕ) (at : ℕ) (remote : Bool) → OfFront (refAt s at remote)
 unfolding refAt
-ref-bare s at far = both OfFront (leb (at + 14) (length s)) _ FrontRead.Bad (some (eqb (leAt 4 s (at + 10)) 0) refl) tt
+ref-bare s at remote = both OfFront (leb (at + 14) (length s)) _ FrontRead.Bad (some (eqb (leAt 4 s (at + 10)) 0) refl) tt
   where
-    some : (t : Bool) → eqb (leAt 4 s (at + 10)) 0 ≡ t → OfFront (cond t FrontRead.Bad (FrontRead.Front (histOf (leAt 8 s at) (leAt 2 s (at + 8)) (leAt 4 s (at + 10))) far (at + 14)))
+    some : (t : Bool) → eqb (leAt 4 s (at + 10)) 0 ≡ t → OfFront (cond t FrontRead.Bad (FrontRead.Front (histOf (leAt 8 s at) (leAt 2 s (at + 8)) (leAt 4 s (at + 10))) remote (at + 14)))
     some true e = tt
     some false e = λ z. absurd (eqb-false (leAt 4 s (at + 10)) 0 e z)
 
@@ -73,10 +74,10 @@ unfolding valAt
 val-bare s at head = of (frontAt s at head) (front-bare s at head)
   where
     of : (f : FrontRead) → OfFront f → OfVal (valOf s f)
-    of (FrontRead.Front h far q) b =
+    of (FrontRead.Front h remote q) b =
         both OfVal (leb (q + 4) (length s)) _ Val.Bad
-        (both OfVal (leb (leAt 4 s q) 65536) _ Val.Bad
-        (both OfVal far _ _ (both OfVal (leb (q + 12) (length s)) _ Val.Bad b tt) (both OfVal (leb (q + 4 + leAt 4 s q) (length s)) _ Val.Bad b tt))
+        (both OfVal (leb (leAt 4 s q) maxValue) _ Val.Bad
+        (both OfVal remote _ _ (both OfVal (leb (q + 12) (length s)) _ Val.Bad b tt) (both OfVal (leb (q + 4 + leAt 4 s q) (length s)) _ Val.Bad b tt))
         tt)
         tt
     of FrontRead.Bad b = tt
@@ -85,13 +86,13 @@ in-bare : (s : List ℕ) (b : Body) (at : ℕ) → OfValRead (valIn s b at)
 unfolding valIn
 in-bare s b at = of (valAt (take (b .end) s) at (eqb (b .kind) 0)) (val-bare (take (b .end) s) at (eqb (b .kind) 0))
   where
-    far : (h : HistRef) (a : Addr) (n next : ℕ) (r : RemoteRead) → Bare h → OfValRead (farOf h a n next r)
-    far h a n next (RemoteRead.At p) z = z
-    far h a n next RemoteRead.Bad z = tt
+    remote : (h : HistRef) (a : Addr) (n next : ℕ) (r : RemoteRead) → Bare h → OfValRead (remoteOf h a n next r)
+    remote h a n next (RemoteRead.At p) z = z
+    remote h a n next RemoteRead.Bad z = tt
 
     of : (v : Val) → OfVal v → OfValRead (recs.valOf s v)
     of (Val.Inline h p n next) z = z
-    of (Val.Remote h a n next) z = far h a n next (remoteAt s a n) z
+    of (Val.Remote h a n next) z = remote h a n next (remoteAt s a n) z
     of Val.Bad z = tt
 
 rec-bare : (s : List ℕ) (b : Body) (p : ℕ) → OfRec (recIn s b p)

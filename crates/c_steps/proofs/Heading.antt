@@ -13,8 +13,8 @@ use Rattle.records.specs.declared.Rec.{Rec}
 use Rattle.records.specs.declared.RecRead.{RecRead}
 use Rattle.records.specs.Records.{recAt}
 use Rattle.records.proofs.Inside.{at-slot, ver-inside}
-use Rattle.pages.specs.Edges.{place}
-use Rattle.walks.specs.declared.Past.{Past}
+use Rattle.pages.specs.Boundaries.{place}
+use Rattle.walks.specs.declared.OldPlace.{OldPlace}
 use Rattle.walks.specs.declared.Walk.{Walk}
 use Rattle.walks.specs.declared.Step.{Step}
 use Rattle.walks.specs.declared.Entered.{Entered}
@@ -25,7 +25,7 @@ use Rattle.spans.specs.Span.{put}
 use Rattle.c_words.specs.Words.{itemWords}
 use Rattle.c_steps.specs.declared.Plain.{Plain}
 use Rattle.c_steps.specs.declared.HeadRead.{HeadRead}
-use Rattle.c_steps.specs.Turns.{Filling, Known, Ahead, Plains, Heads, onTo, headedBy}
+use Rattle.c_steps.specs.Turns.{Filling, KnownOlder, Ahead, Plains, Heads, onTo, headedBy}
 use Rattle.c_steps.proofs.Bare.{at-bare}
 use Rattle.c_steps.proofs.Running.{filling-begin, filling-join, fills-found}
 use Rattle.c_steps.proofs.Ways.{rec-none, head-step}
@@ -54,7 +54,7 @@ pub record Heading (s : List ℕ) (w : Walk) (o₀ : List ℕ) (first room : ℕ
   pub fills : Filling s room first w o₀ (onTo w n p (place ka kl)) at n o
   pub body : bodyOf s (w .page) 0 ≡ Opened.Is b
   pub way : w .way ≡ 2 → ⊥
-  pub left : w .past .left ≡ 0
+  pub left : w .older .left ≡ 0
   pub some : most ≤ room
   pub less : most ≤ w .heads
   pub few : n ≤ most
@@ -63,9 +63,9 @@ pub record Heading (s : List ℕ) (w : Walk) (o₀ : List ℕ) (first room : ℕ
 filling-none : (s : List ℕ) (w : Walk) (o : List ℕ) (first room : ℕ) → Filling s room first w o (onTo w 0 (w .pos) (w .key)) first 0 o
 filling-none s w o first room =
     let i : w .heads ≡ w .heads - 0 = omega arith in
-    subst (λ (k : ℕ). Filling s room first w o (walkOf (w .page) (w .way) (w .pos) k (w .key) (w .past)) first 0 o) i (filling-begin s room first w o)
+    subst (λ (k : ℕ). Filling s room first w o (walkOf (w .page) (w .way) (w .pos) k (w .key) (w .older)) first 0 o) i (filling-begin s room first w o)
 
-pub heading-begin : (s : List ℕ) (w : Walk) (o : List ℕ) (first room : ℕ) (b : Body) (most : ℕ) → bodyOf s (w .page) 0 ≡ Opened.Is b → (w .way ≡ 2 → ⊥) → w .past .left ≡ 0
+pub heading-begin : (s : List ℕ) (w : Walk) (o : List ℕ) (first room : ℕ) (b : Body) (most : ℕ) → bodyOf s (w .page) 0 ≡ Opened.Is b → (w .way ≡ 2 → ⊥) → w .older .left ≡ 0
     → most ≤ room → most ≤ w .heads → Heading s w o first room b most o first (w .pos) (w .key .at) (w .key .len) 0
 heading-begin s w o first room b most e y l m h =
     record { fills = filling-none s w o first room; body = e; way = y; left = l; some = m; less = h; few = omega arith; fresh = λ z. refl }
@@ -93,7 +93,7 @@ module _ (s : List ℕ) (w : Walk) (o₀ : List ℕ) (first room : ℕ) (b : Bod
         some = omega (arith, l, f .less);
         below = leaf-below s w b (f .body) p r q;
         ver = leaf-ver s w b (f .body) p r q;
-        steps = λ (x : Past) z. head-step s here b r x (f .left) (λ y. omega (arith, y, l, f .less)) (f .way) (f .body) q z;
+        steps = λ (x : OldPlace) z. head-step s here b r x (f .left) (λ y. omega (arith, y, l, f .less)) (f .way) (f .body) q z;
       }
 
   -- one without history leaves the past as it was
@@ -102,9 +102,9 @@ module _ (s : List ℕ) (w : Walk) (o₀ : List ℕ) (first room : ℕ) (b : Bod
   unfolding onOf
   head-plain r {p′} l q c m =
       let i : w .heads - n - 1 ≡ w .heads - (n + 1) = omega arith in
-      heading-ahead r l q .steps (w .past) (enter-none s (r .hist) (w .past) c)
-      ∙ ap (λ (a : Addr). Step.Found (itemOf s (restOf r) r a) (onOf here (restOf r) (w .past))) (at-bare s b p r q c)
-      ∙ ap (λ (k : ℕ). Step.Found (itemOf s (restOf r) r (addr 0)) (walkOf (w .page) (w .way) (movedOf (w .way) p) k (restOf r) (w .past))) i
+      heading-ahead r l q .steps (w .older) (enter-none s (r .hist) (w .older) c)
+      ∙ ap (λ (a : Addr). Step.Found (itemOf s (restOf r) r a) (onOf here (restOf r) (w .older))) (at-bare s b p r q c)
+      ∙ ap (λ (k : ℕ). Step.Found (itemOf s (restOf r) r (addr 0)) (walkOf (w .page) (w .way) (movedOf (w .way) p) k (restOf r) (w .older))) i
       ∙ ap (λ (k : ℕ). Step.Found (itemOf s (restOf r) r (addr 0)) (onTo w (n + 1) k (restOf r))) (sym m)
 
   pub heading-next : (r : Rec) {o′ : List ℕ} {p′ : ℕ} → n < most → recAt s b p ≡ RecRead.Is r → r .hist .count ≡ 0 → p′ ≡ movedOf (w .way) p

@@ -13,8 +13,8 @@ use borrow.Author.Tests.{eq-eqb, ne-eqb, eqb-true}
 use Rattle.spans.specs.Span.{put}
 use Rattle.spans.proofs.Put.{put-nil, put-one, put-cons, put-append, length-put}
 use Rattle.frames.specs.declared.Refusal.{Refusal}
-use Rattle.frames.specs.declared.Refusal.the-variants.{BadLimit, BadArena, BadList, BadFrame, MixedKinds, OutOfOrder, WrongPrefix, TooBig, NoRoom}
 use Rattle.frames.specs.Refusals.{numberOf}
+use Rattle.frames.proofs.Refusals.{some-number}
 use Rattle.walks.specs.declared.Walk.{Walk}
 use Rattle.walks.specs.declared.Item.{Item}
 use Rattle.walks.specs.declared.Branch.{Branch}
@@ -238,15 +238,7 @@ told-steps s walk out {room} {n} {w} {v} {x} {r} {walk′} {o} {out′} en ew e 
 
 -- "each refusal has its number": none is 0
 refused-some : (r : Refusal) → eqb (numberOf r) 0 ≡ false
-refused-some BadLimit = refl
-refused-some BadArena = refl
-refused-some BadList = refl
-refused-some BadFrame = refl
-refused-some MixedKinds = refl
-refused-some OutOfOrder = refl
-refused-some WrongPrefix = refl
-refused-some TooBig = refl
-refused-some NoRoom = refl
+refused-some r = ne-eqb (numberOf r) 0 (λ e. omega (arith, e, some-number r))
 
 -- what a step says, of the run that stops behind it
 abbrev OneStep : Run → List ℕ → List ℕ → Step → Type 0

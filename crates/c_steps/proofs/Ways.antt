@@ -23,77 +23,77 @@ use Rattle.records.proofs.Inside.{at-slot}
 use Rattle.pages.specs.declared.Place.{Place}
 use Rattle.pages.specs.Sound.{historyAt}
 use Rattle.walks.specs.declared.Sheet.{Sheet}
-use Rattle.walks.specs.declared.Past.{Past}
+use Rattle.walks.specs.declared.OldPlace.{OldPlace}
 use Rattle.walks.specs.declared.Walk.{Walk}
 use Rattle.walks.specs.declared.Item.{Item}
 use Rattle.walks.specs.declared.Branch.{Branch}
 use Rattle.walks.specs.declared.Step.{Step}
 use Rattle.walks.specs.declared.Entered.{Entered}
-use Rattle.walks.specs.Walk.{pastOf, pastOver, walkOf, bodyOf, kindOfWay, movedOf, onOf, behindOf, itemOf, restOf, enterOf, enterAt, headStep, stepAt}
+use Rattle.walks.specs.Walk.{olderOf, olderOn, walkOf, bodyOf, kindOfWay, movedOf, onOf, behindOf, itemOf, restOf, enterOf, enterAt, headStep, stepAt}
 use Rattle.walks.proofs.Lying.{body-is, body-reads}
 use Rattle.walks.proofs.Steps.{step-in}
 use Rattle.walks.proofs.Keeps.{Keeps, keeps}
 use Rattle.spans.specs.Span.{put}
 use Rattle.c_words.specs.Words.{itemWords}
-use Rattle.c_steps.specs.Turns.{Filling, Known, aged, samePage}
+use Rattle.c_steps.specs.Turns.{Filling, KnownOlder, aged, samePage}
 use Rattle.c_steps.proofs.Running.{filling-begin, filling-join, fills-found}
 
 -- ---- an old version
 
-module _ (s : List ℕ) (w : Walk) (n : ℕ) (b : Body) (r : Rec) (e : bodyOf s (w .past .page) 2 ≡ Opened.Is b) (l : n < w .past .left)
-    (q : recAt s b (w .past .slot + n) ≡ RecRead.Is r) where
-  pub old-below : w .past .slot + n < w .past .page .elems
+module _ (s : List ℕ) (w : Walk) (n : ℕ) (b : Body) (r : Rec) (e : bodyOf s (w .older .page) 2 ≡ Opened.Is b) (l : n < w .older .left)
+    (q : recAt s b (w .older .slot + n) ≡ RecRead.Is r) where
+  pub old-below : w .older .slot + n < w .older .page .elems
   old-below =
-      let z : b .elems ≡ w .past .page .elems = ap (λ (y : Body). y .elems) (sym (body-is s (w .past .page) 2 b e)) in
-      omega (arith, at-slot s b (w .past .slot + n) r q)
+      let z : b .elems ≡ w .older .page .elems = ap (λ (y : Body). y .elems) (sym (body-is s (w .older .page) 2 b e)) in
+      omega (arith, at-slot s b (w .older .slot + n) r q)
 
-  abbrev then : Past
-  then = pastOf (w .past .page) (w .past .link) (w .past .slot + n + 1) (w .past .left - n - 1)
+  abbrev then : OldPlace
+  then = olderOf (w .older .page) (w .older .link) (w .older .slot + n + 1) (w .older .left - n - 1)
 
   old-behind : behindOf (aged w n) then ≡ aged w (n + 1)
   unfolding behindOf
   old-behind =
-      let i : w .past .slot + n + 1 ≡ w .past .slot + (n + 1) = omega arith in
-      let k : w .past .left - n - 1 ≡ w .past .left - (n + 1) = omega arith in
-      ap (λ (z : ℕ). walkOf (w .page) (w .way) (w .pos) (w .heads) (w .key) (pastOf (w .past .page) (w .past .link) z (w .past .left - n - 1))) i
-      ∙ ap (λ (z : ℕ). walkOf (w .page) (w .way) (w .pos) (w .heads) (w .key) (pastOf (w .past .page) (w .past .link) (w .past .slot + (n + 1)) z)) k
+      let i : w .older .slot + n + 1 ≡ w .older .slot + (n + 1) = omega arith in
+      let k : w .older .left - n - 1 ≡ w .older .left - (n + 1) = omega arith in
+      ap (λ (z : ℕ). walkOf (w .page) (w .way) (w .pos) (w .heads) (w .key) (olderOf (w .older .page) (w .older .link) z (w .older .left - n - 1))) i
+      ∙ ap (λ (z : ℕ). walkOf (w .page) (w .way) (w .pos) (w .heads) (w .key) (olderOf (w .older .page) (w .older .link) (w .older .slot + (n + 1)) z)) k
 
   pub old-step : stepAt s (aged w n) ≡ Step.Found (itemOf s (w .key) r (addr 0)) (aged w (n + 1))
   old-step =
-      step-in s (aged w n) r (omega arith) (λ z. omega (arith, old-below, z)) (body-reads s (w .past .page) 2 b e (w .past .slot + n) ∙ q)
+      step-in s (aged w n) r (omega arith) (λ z. omega (arith, old-below, z)) (body-reads s (w .older .page) 2 b e (w .older .slot + n) ∙ q)
       ∙ ap (λ (v : Walk). Step.Found (itemOf s (w .key) r (addr 0)) v) old-behind
 
 -- no old version yet
 aged-none : (w : Walk) → aged w 0 ≡ w
 aged-none w =
-    let i : w .past .slot + 0 ≡ w .past .slot = omega arith in
-    let k : w .past .left - 0 ≡ w .past .left = omega arith in
-    ap (λ (z : ℕ). walkOf (w .page) (w .way) (w .pos) (w .heads) (w .key) (pastOf (w .past .page) (w .past .link) z (w .past .left - 0))) i
-    ∙ ap (λ (z : ℕ). walkOf (w .page) (w .way) (w .pos) (w .heads) (w .key) (pastOf (w .past .page) (w .past .link) (w .past .slot) z)) k
+    let i : w .older .slot + 0 ≡ w .older .slot = omega arith in
+    let k : w .older .left - 0 ≡ w .older .left = omega arith in
+    ap (λ (z : ℕ). walkOf (w .page) (w .way) (w .pos) (w .heads) (w .key) (olderOf (w .older .page) (w .older .link) z (w .older .left - 0))) i
+    ∙ ap (λ (z : ℕ). walkOf (w .page) (w .way) (w .pos) (w .heads) (w .key) (olderOf (w .older .page) (w .older .link) (w .older .slot) z)) k
 
 -- the loop over the old versions of one history page, behind n of them
 pub record Olding (s : List ℕ) (w : Walk) (o₀ : List ℕ) (first room : ℕ) (b : Body) (most : ℕ) (o : List ℕ) (at n : ℕ) : Type 0 where
   pub fills : Filling s room first w o₀ (aged w n) at n o
-  pub body : bodyOf s (w .past .page) 2 ≡ Opened.Is b
+  pub body : bodyOf s (w .older .page) 2 ≡ Opened.Is b
   pub some : most ≤ room
-  pub less : most ≤ w .past .left
+  pub less : most ≤ w .older .left
   pub few : n ≤ most
-  pub below : w .past .slot + n ≤ w .past .page .elems
+  pub below : w .older .slot + n ≤ w .older .page .elems
   pub fresh : n ≡ 0 → o ≡ o₀
 
 filling-none : (s : List ℕ) (w : Walk) (o : List ℕ) (first room : ℕ) → Filling s room first w o (aged w 0) first 0 o
 filling-none s w o first room = subst (λ (z : Walk). Filling s room first w o z first 0 o) (sym (aged-none w)) (filling-begin s room first w o)
 
-pub olding-begin : (s : List ℕ) (w : Walk) (o : List ℕ) (first room : ℕ) (b : Body) (most : ℕ) → bodyOf s (w .past .page) 2 ≡ Opened.Is b
-    → most ≤ room → most ≤ w .past .left → w .past .slot ≤ w .past .page .elems → Olding s w o first room b most o first 0
+pub olding-begin : (s : List ℕ) (w : Walk) (o : List ℕ) (first room : ℕ) (b : Body) (most : ℕ) → bodyOf s (w .older .page) 2 ≡ Opened.Is b
+    → most ≤ room → most ≤ w .older .left → w .older .slot ≤ w .older .page .elems → Olding s w o first room b most o first 0
 olding-begin s w o first room b most e m l i =
     record { fills = filling-none s w o first room; body = e; some = m; less = l; few = omega arith; below = omega arith; fresh = λ z. refl }
 
 module _ (s : List ℕ) (w : Walk) (o₀ : List ℕ) (first room : ℕ) (b : Body) (most : ℕ) (o : List ℕ) (at n : ℕ) (f : Olding s w o₀ first room b most o at n) where
-  pub olding-next : (r : Rec) {o′ : List ℕ} → n < most → recAt s b (w .past .slot + n) ≡ RecRead.Is r → o′ ≡ put o at (itemWords (itemOf s (w .key) r (addr 0)))
+  pub olding-next : (r : Rec) {o′ : List ℕ} → n < most → recAt s b (w .older .slot + n) ≡ RecRead.Is r → o′ ≡ put o at (itemWords (itemOf s (w .key) r (addr 0)))
       → Olding s w o₀ first room b most o′ (at + 9) (n + 1)
   olding-next r {o′} h q p =
-      let l : n < w .past .left = omega (arith, f .less) in
+      let l : n < w .older .left = omega (arith, f .less) in
       record {
         fills =
             filling-join s room first w o₀ (aged w n) at n o (f .fills) (aged w (n + 1)) (at + 9) 1 o′
@@ -109,7 +109,7 @@ module _ (s : List ℕ) (w : Walk) (o₀ : List ℕ) (first room : ℕ) (b : Bod
 -- what the loop over old versions answers
 abbrev OldsAre : List ℕ → Walk → List ℕ → ℕ → ℕ → ℕ → List ℕ → Type 0
 OldsAre s w o₀ first room n o =
-    (n ≤ w .past .left) × ((0 < n → w .past .slot + n ≤ w .past .page .elems) × ((n ≡ 0 → o ≡ o₀) × Filling s room first w o₀ (aged w n) (first + 9 * n) n o))
+    (n ≤ w .older .left) × ((0 < n → w .older .slot + n ≤ w .older .page .elems) × ((n ≡ 0 → o ≡ o₀) × Filling s room first w o₀ (aged w n) (first + 9 * n) n o))
 
 pub olds-none : (s : List ℕ) (w : Walk) (o : List ℕ) (first room : ℕ) → OldsAre s w o first room 0 o
 olds-none s w o first room =
@@ -125,43 +125,43 @@ olds-are s w o₀ first room b most o at n f =
 pub rec-none : (r : Rec) → RecRead.Bad ≡ RecRead.Is r → ⊥
 rec-none r e = let z : _≡_ {A = ℕ} 0 1 = cc in omega arith
 
-pub head-step : (s : List ℕ) (w : Walk) (b : Body) (r : Rec) (p : Past) → w .past .left ≡ 0 → (w .heads ≡ 0 → ⊥) → (w .way ≡ 2 → ⊥)
-    → bodyOf s (w .page) 0 ≡ Opened.Is b → recAt s b (w .pos) ≡ RecRead.Is r → enterAt s (r .hist) (w .past) ≡ Entered.Is p
+pub head-step : (s : List ℕ) (w : Walk) (b : Body) (r : Rec) (p : OldPlace) → w .older .left ≡ 0 → (w .heads ≡ 0 → ⊥) → (w .way ≡ 2 → ⊥)
+    → bodyOf s (w .page) 0 ≡ Opened.Is b → recAt s b (w .pos) ≡ RecRead.Is r → enterAt s (r .hist) (w .older) ≡ Entered.Is p
     → stepAt s w ≡ Step.Found (itemOf s (restOf r) r (r .hist .page)) (walkOf (w .page) (w .way) (movedOf (w .way) (w .pos)) (w .heads - 1) (restOf r) p)
 unfolding stepAt headStep kindOfWay onOf
 head-step s w b r p l h y e q n =
-    rw (le-ltb 0 (w .past .left) (omega arith), ne-eqb (w .heads) 0 h, ne-eqb (w .way) 2 y, body-reads s (w .page) 0 b e (w .pos) ∙ q, ne-eqb (w .way) 2 y, n)
+    rw (le-ltb 0 (w .older .left) (omega arith), ne-eqb (w .heads) 0 h, ne-eqb (w .way) 2 y, body-reads s (w .page) 0 b e (w .pos) ∙ q, ne-eqb (w .way) 2 y, n)
 
 -- ---- the known history page
 
-pub known-none : (s : List ℕ) (p : Past) → Known s 0 p
+pub known-none : (s : List ℕ) (p : OldPlace) → KnownOlder s 0 p
 known-none s p = record { enters = λ z slot count. absurd (z refl) }
 
-pub known-at : (s : List ℕ) (a : ℕ) (p : Past) (slot left : ℕ) → Known s a p → Known s a (pastOf (p .page) (p .link) slot left)
+pub known-at : (s : List ℕ) (a : ℕ) (p : OldPlace) (slot left : ℕ) → KnownOlder s a p → KnownOlder s a (olderOf (p .page) (p .link) slot left)
 known-at s a p slot left k = record { enters = k .enters }
 
-pub enter-known : (s : List ℕ) (h : HistRef) (was : Past) (a : ℕ) → Known s a was → (h .count ≡ 0 → ⊥) → (a ≡ 0 → ⊥) → h .page .0 ≡ a
-    → h .slot < was .page .elems → enterAt s h was ≡ Entered.Is (pastOf (was .page) (was .link) (h .slot) (h .count))
+pub enter-known : (s : List ℕ) (h : HistRef) (was : OldPlace) (a : ℕ) → KnownOlder s a was → (h .count ≡ 0 → ⊥) → (a ≡ 0 → ⊥) → h .page .0 ≡ a
+    → h .slot < was .page .elems → enterAt s h was ≡ Entered.Is (olderOf (was .page) (was .link) (h .slot) (h .count))
 unfolding enterAt
 enter-known s h was a k c n e l =
     rw (ne-eqb (h .count) 0 c)
     (ap (λ (z : ℕ). enterOf (h .slot) (h .count) (historyAt s (addr z))) e
     ∙ k .enters n (h .slot) (h .count)
-    ∙ ap (λ (t : Bool). cond t (Entered.Is (pastOf (was .page) (was .link) (h .slot) (h .count))) Entered.Bad) (lt-ltb (h .slot) (was .page .elems) l))
+    ∙ ap (λ (t : Bool). cond t (Entered.Is (olderOf (was .page) (was .link) (h .slot) (h .count))) Entered.Bad) (lt-ltb (h .slot) (was .page .elems) l))
 
 -- a page that was entered is known from then on
-pub known-entered : (s : List ℕ) (h : HistRef) (was p : Past) → (h .count ≡ 0 → ⊥) → enterAt s h was ≡ Entered.Is p → Known s (h .page .0) p
+pub known-entered : (s : List ℕ) (h : HistRef) (was p : OldPlace) → (h .count ≡ 0 → ⊥) → enterAt s h was ≡ Entered.Is p → KnownOlder s (h .page .0) p
 unfolding enterAt
 known-entered s h was p c e = go (historyAt s (h .page)) refl (sym (ap (λ (t : Bool). cond t (Entered.Is was) (enterOf (h .slot) (h .count) (historyAt s (h .page)))) (ne-eqb (h .count) 0 c)) ∙ e)
   where
-    go : (x : Opened) → historyAt s (h .page) ≡ x → enterOf (h .slot) (h .count) (historyAt s (h .page)) ≡ Entered.Is p → Known s (h .page .0) p
+    go : (x : Opened) → historyAt s (h .page) ≡ x → enterOf (h .slot) (h .count) (historyAt s (h .page)) ≡ Entered.Is p → KnownOlder s (h .page .0) p
     go x q u = by x q (sym (ap (enterOf (h .slot) (h .count)) q) ∙ u)
       where
-        by : (x : Opened) → historyAt s (h .page) ≡ x → enterOf (h .slot) (h .count) x ≡ Entered.Is p → Known s (h .page .0) p
+        by : (x : Opened) → historyAt s (h .page) ≡ x → enterOf (h .slot) (h .count) x ≡ Entered.Is p → KnownOlder s (h .page .0) p
         by (Opened.Is b) q u =
-            let a1 = ask (ltb (h .slot) (b .elems)) (Entered.Is (pastOver b (h .slot) (h .count))) Entered.Bad (Entered.Is p) (λ z. absurd (let y : _≡_ {A = ℕ} 0 1 = cc in omega arith)) u in
-            let d : pastOver b (h .slot) (h .count) ≡ p = let y = a1 .1 in cc in
-            subst (λ (z : Past). Known s (h .page .0) z) d (record { enters = λ n slot count. ap (enterOf slot count) q })
+            let a1 = ask (ltb (h .slot) (b .elems)) (Entered.Is (olderOn b (h .slot) (h .count))) Entered.Bad (Entered.Is p) (λ z. absurd (let y : _≡_ {A = ℕ} 0 1 = cc in omega arith)) u in
+            let d : olderOn b (h .slot) (h .count) ≡ p = let y = a1 .1 in cc in
+            subst (λ (z : OldPlace). KnownOlder s (h .page .0) z) d (record { enters = λ n slot count. ap (enterOf slot count) q })
         by Opened.Bad q u = absurd (let y : _≡_ {A = ℕ} 0 1 = cc in omega arith)
 
 -- ---- the page and the way stay: the step with them put back is the step

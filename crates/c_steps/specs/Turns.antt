@@ -13,12 +13,11 @@ use Rattle.records.specs.declared.Rec.{Rec}
 use Rattle.records.specs.declared.RecRead.{RecRead}
 use Rattle.pages.specs.declared.Place.{Place}
 use Rattle.pages.specs.Sound.{historyAt}
-use Rattle.walks.specs.declared.Past.{Past}
+use Rattle.walks.specs.declared.OldPlace.{OldPlace}
 use Rattle.walks.specs.declared.Walk.{Walk}
 use Rattle.walks.specs.declared.Step.{Step}
 use Rattle.walks.specs.declared.Entered.{Entered}
-use Rattle.walks.specs.Walk.{pastOf, walkOf, onOf, itemOf, restOf, enterOf, enterAt, stepAt}
-use Rattle.c_steps.specs.declared.Run.{Run}
+use Rattle.walks.specs.Walk.{olderOf, walkOf, onOf, itemOf, restOf, enterOf, enterAt, stepAt}
 use Rattle.c_steps.specs.declared.Reached.{Reached}
 use Rattle.c_steps.specs.declared.HeadRead.{HeadRead}
 use Rattle.c_steps.specs.declared.Plain.{Plain}
@@ -40,29 +39,29 @@ pub record Stopping (s : List ℕ) (most : ℕ) (w : Walk) (o : List ℕ) (numbe
   pub same : o′ ≡ o
 
 -- the history page a is the one in which the past p stands, judged: entering it at any slot leads there. 0 is none
-pub record Known (s : List ℕ) (a : ℕ) (p : Past) : Type 0 where
-  pub enters : (a ≡ 0 → ⊥) → (slot count : ℕ) → enterOf slot count (historyAt s (addr a)) ≡ cond (ltb slot (p .page .elems)) (Entered.Is (pastOf (p .page) (p .link) slot count)) Entered.Bad
+pub record KnownOlder (s : List ℕ) (a : ℕ) (p : OldPlace) : Type 0 where
+  pub enters : (a ≡ 0 → ⊥) → (slot count : ℕ) → enterOf slot count (historyAt s (addr a)) ≡ cond (ltb slot (p .page .elems)) (Entered.Is (olderOf (p .page) (p .link) slot count)) Entered.Bad
 
 -- the walk behind n old versions of its history page
 abbrev pub aged : Walk → ℕ → Walk
-aged w n = walkOf (w .page) (w .way) (w .pos) (w .heads) (w .key) (pastOf (w .past .page) (w .past .link) (w .past .slot + n) (w .past .left - n))
+aged w n = walkOf (w .page) (w .way) (w .pos) (w .heads) (w .key) (olderOf (w .older .page) (w .older .link) (w .older .slot + n) (w .older .left - n))
 
 abbrev pub plainOf : ℕ → ℕ → Place → RecRead → Plain
 plainOf n p key r = record { count = n; pos = p; key = key; next = r }
 
 -- the walk behind n heads without history, the last one's key, and where the next head stands
 abbrev pub onTo : Walk → ℕ → ℕ → Place → Walk
-onTo w n p key = walkOf (w .page) (w .way) p (w .heads - n) key (w .past)
+onTo w n p key = walkOf (w .page) (w .way) p (w .heads - n) key (w .older)
 
 abbrev pub headedBy : Walk → Plain → Walk
 headedBy w x = onTo w (x .count) (x .pos) (x .key)
 
 -- a walk with another's page and way
 abbrev pub samePage : Walk → Walk → Walk
-samePage w v = walkOf (w .page) (w .way) (v .pos) (v .heads) (v .key) (v .past)
+samePage w v = walkOf (w .page) (w .way) (v .pos) (v .heads) (v .key) (v .older)
 
-abbrev pub Reaches : List ℕ → HistRef → Past → Reached → Type 0
-Reaches s h was (Reached.Is p a) = (enterAt s h was ≡ Entered.Is p) × Known s a p
+abbrev pub Reaches : List ℕ → HistRef → OldPlace → Reached → Type 0
+Reaches s h was (Reached.Is p a) = (enterAt s h was ≡ Entered.Is p) × KnownOlder s a p
 Reaches s h was Reached.Not = Unit {0}
 
 -- the head at the walk, read: it is the walk's step, once its history is entered
@@ -70,7 +69,7 @@ pub record Ahead (s : List ℕ) (w : Walk) (r : Rec) : Type 0 where
   pub some : 0 < w .heads
   pub below : w .pos < length s
   pub ver : r .«ver_at» + 12 ≤ length s
-  pub steps : (p : Past) → enterAt s (r .hist) (w .past) ≡ Entered.Is p → stepAt s w ≡ Step.Found (itemOf s (restOf r) r (r .hist .page)) (onOf w (restOf r) p)
+  pub steps : (p : OldPlace) → enterAt s (r .hist) (w .older) ≡ Entered.Is p → stepAt s w ≡ Step.Found (itemOf s (restOf r) r (r .hist .page)) (onOf w (restOf r) p)
 
 -- what the heads without history come to, and the head behind them that has one
 pub record Plains (s : List ℕ) (room first : ℕ) (w : Walk) (o : List ℕ) (x : Plain) (o′ : List ℕ) : Type 0 where
@@ -80,12 +79,12 @@ pub record Plains (s : List ℕ) (room first : ℕ) (w : Walk) (o : List ℕ) (x
   pub next : (r : Rec) → x .next ≡ RecRead.Is r → (x .count < room) × Ahead s (headedBy w x) r
 
 abbrev pub Heads : List ℕ → Walk → HeadRead → Type 0
-Heads s w (HeadRead.Is r v a) = (stepAt s w ≡ Step.Found (itemOf s (v .key) r (r .hist .page)) v) × (Known s a (v .past) × (r .«ver_at» + 12 ≤ length s))
+Heads s w (HeadRead.Is r v a) = (stepAt s w ≡ Step.Found (itemOf s (v .key) r (r .hist .page)) v) × (KnownOlder s a (v .older) × (r .«ver_at» + 12 ≤ length s))
 Heads s w HeadRead.Not = Unit {0}
 
 -- a turn: some records on, or the end
 abbrev pub Turns : List ℕ → ℕ → ℕ → Walk → List ℕ → Turn → List ℕ → Type 0
-Turns s room at w o (Turn.On n v a) o′ = Filling s room at w o v (at + 9 * n) n o′ × (Known s a (v .past) × (0 < n))
+Turns s room at w o (Turn.On n v a) o′ = Filling s room at w o v (at + 9 * n) n o′ × (KnownOlder s a (v .older) × (0 < n))
 Turns s room at w o (Turn.Stop number) o′ = Stopping s room w o number o′
 
 -- what the short ways do: such a turn, or nothing, which says nothing of the walk

@@ -1,26 +1,27 @@
 // Many steps of a walk, their records told in lent words: the loop of ct_steps. The common record is read in place (records::quick_head,
 // quick_old), and a history page that the loop has judged is not judged again; every other record is left to the walk's own step.
 ghost use mathlib.Core.Path.{_≡_};
-ghost use mathlib.Core.List.{[], _∷_};
+ghost use mathlib.Core.List.{[]};
 ghost use Prim.Native.Nat.{_+_, _*_, _-_, _<_, _≤_, _^_};
 ghost use lib.ListN.{length};
 ghost use Rattle.spans.specs.Span.{put};
 ghost use Rattle.records.specs.declared.Rec.{Rec};
 ghost use Rattle.records.specs.declared.RecRead.{RecRead};
-ghost use Rattle.walks.specs.Walk.{itemOf, movedOf};
+ghost use Rattle.walks.specs.Walk.{itemOf};
 ghost use Rattle.c_words.specs.Words.{written, itemWords};
 ghost use Rattle.c_steps.specs.Steps.{runOf, runWords, roomIn, runNumber, runWalk, runEnd, runSays};
-ghost use Rattle.c_steps.specs.Turns.{Filling, Known, Reaches, Ahead, Plains, Heads, Quicks, Turns, aged, plainOf, headedBy, samePage};
-ghost use Rattle.pages.specs.Edges.{place};
+ghost use Rattle.c_steps.specs.Turns.{Filling, KnownOlder, Reaches, Ahead, Plains, Heads, Quicks, Turns, aged, plainOf, headedBy, samePage};
+ghost use Rattle.pages.specs.Boundaries.{place};
 use frames::Addr;
 use frames::Body;
+use frames::NULL_ADDR;
 use frames::Opened;
 use pages::Place;
 use records::Rec;
 use records::RecRead;
 use values::HistRef;
 use walks::Entered;
-use walks::Past;
+use walks::OldPlace;
 use walks::Step;
 use walks::Walk;
 
@@ -33,7 +34,7 @@ pub struct Run {
 
 // What is left of a head's history, and the history page that is known then, or 0.
 enum Reached {
-    Is(Past, u64),
+    Is(OldPlace, u64),
     Not,
 }
 
@@ -90,27 +91,27 @@ fn least(a: usize, b: usize) -> usize
 // Old versions at the walk, as long as they stand in its history page in the common form: how many. At most as many as fit into the slice.
 fn olds(s: &[u8], w: Walk, out: &mut [u64], first: usize, room: usize, fit: usize) -> usize
     requires { ⌜ (fit ≤ room) × (9 * fit ≤ length (now out) - first) ⌝ }
-    ensures { λ n. ⌜ n ≤ w .past .left ⌝ }
-    ensures { λ n. ⌜ (0 < n → w .past .slot + n ≤ w .past .page .elems) ⌝ }
+    ensures { λ n. ⌜ n ≤ w .older .left ⌝ }
+    ensures { λ n. ⌜ (0 < n → w .older .slot + n ≤ w .older .page .elems) ⌝ }
     ensures { λ n. ⌜ (n ≡ 0 → now (out .exit) ≡ now (out .entry)) ⌝ }
     ensures { λ n. ⌜ Filling (now (s .entry)) room first w (now (out .entry)) (aged w n) (first + 9 * n) n (now (out .exit)) ⌝ }
 {
-    let page = w.past.page;
-    if page.elems < w.past.slot {
+    let page = w.older.page;
+    if page.elems < w.older.slot {
         return 0;
     }
     let Opened::Is(b) = walks::body_of(s, page, Body::HISTORY) else {
         return 0;
     };
-    let most = least(fit, w.past.left);
+    let most = least(fit, w.older.left);
     let mut at: usize = first;
     let mut n: usize = 0;
     while n < most {
-        let RecRead::Is(r) = records::quick_old(s, b, w.past.slot + n) else {
+        let RecRead::Is(r) = records::quick_old(s, b, w.older.slot + n) else {
             return n;
         };
         let key = w.key;
-        tell_rec(s, out, at, key, r, Addr(0));
+        tell_rec(s, out, at, key, r, NULL_ADDR);
         at += 9;
         n += 1;
     }
@@ -119,33 +120,33 @@ fn olds(s: &[u8], w: Walk, out: &mut [u64], first: usize, room: usize, fit: usiz
 
 // The walk behind n old versions.
 fn age(w: Walk, n: usize) -> Walk
-    requires { ⌜ w .past .slot + n < 2 ^ 64 ⌝ }
-    requires { ⌜ n ≤ w .past .left ⌝ }
+    requires { ⌜ w .older .slot + n < 2 ^ 64 ⌝ }
+    requires { ⌜ n ≤ w .older .left ⌝ }
     ensures { λ v. ⌜ v ≡ aged w n ⌝ }
 {
     let page = w.page;
     let key = w.key;
-    let past = w.past;
-    let then = past.page;
-    let link = past.link;
+    let older = w.older;
+    let then = older.page;
+    let link = older.link;
     Walk {
         page: page,
         way: w.way,
         pos: w.pos,
         heads: w.heads,
         key: key,
-        past: Past {
+        older: OldPlace {
             page: then,
             link: link,
-            slot: past.slot + n,
-            left: past.left - n,
+            slot: older.slot + n,
+            left: older.left - n,
         },
     }
 }
 
 // The history behind a head, its page entered: not judged where it is the known one, in which the walk's past stands.
-fn reach(s: &[u8], h: HistRef, was: Past, known: u64) -> Reached
-    requires { ⌜ Known (now s) known was ⌝ }
+fn reach(s: &[u8], h: HistRef, was: OldPlace, known: u64) -> Reached
+    requires { ⌜ KnownOlder (now s) known was ⌝ }
     ensures { λ r. ⌜ Reaches (now (s .entry)) h was r ⌝ }
 {
     if h.count == 0 {
@@ -159,7 +160,7 @@ fn reach(s: &[u8], h: HistRef, was: Past, known: u64) -> Reached
             if slot < page.elems {
                 let link = was.link;
                 return Reached::Is(
-                    Past {
+                    OldPlace {
                         page: page,
                         link: link,
                         slot: slot,
@@ -170,20 +171,10 @@ fn reach(s: &[u8], h: HistRef, was: Past, known: u64) -> Reached
             }
         }
     }
-    let Entered::Is(past) = walks::enter(s, h, was) else {
+    let Entered::Is(older) = walks::enter(s, h, was) else {
         return Reached::Not;
     };
-    Reached::Is(past, a.0)
-}
-
-fn moved(way: usize, pos: usize) -> usize
-    requires { ⌜ pos + 1 < 2 ^ 64 ⌝ }
-    ensures { λ r. ⌜ r ≡ movedOf way pos ⌝ }
-{
-    if way != Walk::DOWN {
-        return pos + 1;
-    }
-    if pos == 0 { 0 } else { pos - 1 }
+    Reached::Is(older, a.0)
 }
 
 // What the heads below come to.
@@ -201,7 +192,7 @@ fn heads_read(count: usize, pos: usize, at: usize, len: usize, next: RecRead) ->
 // Heads at the walk, as long as they are in the common form and without history, and fit into the slice.
 fn plains(s: &[u8], w: Walk, out: &mut [u64], first: usize, room: usize, fit: usize) -> Plain
     requires { ⌜ (fit ≤ room) × (9 * fit ≤ length (now out) - first) ⌝ }
-    requires { ⌜ w .past .left ≡ 0 ⌝ }
+    requires { ⌜ w .older .left ≡ 0 ⌝ }
     ensures { λ x. ⌜ Plains (now (s .entry)) room first w (now (out .entry)) x (now (out .exit)) ⌝ }
     ensures { λ x. ⌜ ((r : Rec) → x .next ≡ RecRead.Is r → x .count < fit) ⌝ }
 {
@@ -236,9 +227,9 @@ fn plains(s: &[u8], w: Walk, out: &mut [u64], first: usize, room: usize, fit: us
                 len: key_len,
             },
             r,
-            Addr(0),
+            NULL_ADDR,
         );
-        pos = moved(w.way, pos);
+        pos = spans::onward(w.way == Walk::DOWN, pos);
         at += 9;
         n += 1;
     }
@@ -252,27 +243,27 @@ fn headed(w: Walk, x: Plain) -> Walk
 {
     let page = w.page;
     let key = x.key;
-    let past = w.past;
+    let older = w.older;
     Walk {
         page: page,
         way: w.way,
         pos: x.pos,
         heads: w.heads - x.count,
         key: key,
-        past: past,
+        older: older,
     }
 }
 
 // The head at the walk, which has been read, and the walk behind it.
 fn behind(s: &[u8], w: Walk, known: u64, r: Rec) -> HeadRead
-    requires { ⌜ Known (now s) known (w .past) ⌝ }
+    requires { ⌜ KnownOlder (now s) known (w .older) ⌝ }
     requires { ⌜ Ahead (now s) w r ⌝ }
     ensures { λ x. ⌜ Heads (now (s .entry)) w x ⌝ }
 {
     let page = w.page;
-    let was = w.past;
+    let was = w.older;
     let h = r.hist;
-    let Reached::Is(past, seen) = reach(s, h, was, known) else {
+    let Reached::Is(older, seen) = reach(s, h, was, known) else {
         return HeadRead::Not;
     };
     HeadRead::Is(
@@ -280,13 +271,13 @@ fn behind(s: &[u8], w: Walk, known: u64, r: Rec) -> HeadRead
         Walk {
             page: page,
             way: w.way,
-            pos: moved(w.way, w.pos),
+            pos: spans::onward(w.way == Walk::DOWN, w.pos),
             heads: w.heads - 1,
             key: Place {
                 at: r.rest_at,
                 len: r.rest_len,
             },
-            past: past,
+            older: older,
         },
         seen,
     )
@@ -298,14 +289,14 @@ fn on_page(w: Walk, v: Walk) -> Walk
 {
     let page = w.page;
     let key = v.key;
-    let past = v.past;
+    let older = v.older;
     Walk {
         page: page,
         way: w.way,
         pos: v.pos,
         heads: v.heads,
         key: key,
-        past: past,
+        older: older,
     }
 }
 
@@ -332,14 +323,14 @@ fn any(s: &[u8], w: Walk, out: &mut [u64], at: usize, room: usize) -> Turn
 // What the short ways read: the old versions behind a head; or the heads without history and the next head with its own; a stop where they
 // read nothing.
 fn quick(s: &[u8], w: Walk, known: u64, out: &mut [u64], at: usize, room: usize, fit: usize) -> Turn
-    requires { ⌜ Known (now s) known (w .past) ⌝ }
+    requires { ⌜ KnownOlder (now s) known (w .older) ⌝ }
     requires { ⌜ 0 < room ⌝ }
     requires { ⌜ (fit ≤ room) × (9 * fit ≤ length (now out) - at) ⌝ }
     requires { ⌜ at + 9 * room < 2 ^ 64 ⌝ }
     ensures { λ r. ⌜ Quicks (now (s .entry)) room at w (now (out .entry)) r (now (out .exit)) ⌝ }
 {
-    let past = w.past;
-    if 0 < past.left {
+    let older = w.older;
+    if 0 < older.left {
         let n = olds(s, w, out, at, room, fit);
         if n == 0 {
             return Turn::Stop(0);
@@ -370,7 +361,7 @@ fn quick(s: &[u8], w: Walk, known: u64, out: &mut [u64], at: usize, room: usize,
 
 // One turn: by the short ways, else by the walk's own step, which alone says the end and a refusal.
 fn next(s: &[u8], w: Walk, known: u64, out: &mut [u64], at: usize, room: usize, fit: usize) -> Turn
-    requires { ⌜ Known (now s) known (w .past) ⌝ }
+    requires { ⌜ KnownOlder (now s) known (w .older) ⌝ }
     requires { ⌜ 0 < room ⌝ }
     requires { ⌜ (fit ≤ room) × (9 * fit ≤ length (now out) - at) ⌝ }
     requires { ⌜ at + 9 * room < 2 ^ 64 ⌝ }
@@ -380,12 +371,6 @@ fn next(s: &[u8], w: Walk, known: u64, out: &mut [u64], at: usize, room: usize, 
         Turn::On(n, v, seen) => Turn::On(n, v, seen),
         Turn::Stop(_) => any(s, w, out, at, room),
     }
-}
-
-fn less(a: usize, b: usize) -> usize
-    ensures { λ r. ⌜ r ≡ a - b ⌝ }
-{
-    if a < b { 0 } else { a - b }
 }
 
 // How many records stand whole in so many words, from word `first` on: the short ways ask for no word's place.
@@ -411,7 +396,7 @@ pub fn fill(s: &[u8], from: Walk, out: &mut [u64], first: usize, room: usize) ->
     let mut at: usize = first;
     let mut k: usize = 0;
     while k < room {
-        match next(s, w, known, out, at, room - k, less(fit, k)) {
+        match next(s, w, known, out, at, room - k, spans::less(fit, k)) {
             Turn::On(n, v, seen) => {
                 w = v;
                 known = seen;

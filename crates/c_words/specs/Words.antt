@@ -6,14 +6,14 @@ use mathlib.Core.List.{List, [], _∷_}
 use lib.ListN.{getD}
 use Rattle.spans.specs.Span.{put}
 use Rattle.frames.specs.Layout.{addr}
-use Rattle.pages.specs.Edges.{place}
+use Rattle.pages.specs.Boundaries.{place}
 use Rattle.walks.specs.declared.Sheet.{Sheet}
-use Rattle.walks.specs.declared.Past.{Past}
+use Rattle.walks.specs.declared.OldPlace.{OldPlace}
 use Rattle.walks.specs.declared.Walk.{Walk}
 use Rattle.walks.specs.declared.Item.{Item}
 use Rattle.walks.specs.declared.Branch.{Branch}
 use Rattle.walks.specs.declared.Step.{Step}
-use Rattle.walks.specs.Walk.{walkOf, pastOf}
+use Rattle.walks.specs.Walk.{walkOf, olderOf}
 
 -- the words stored at the front of a slice: "A slice with fewer words takes the first ones only, words behind the answer stay as they are"
 unfoldable pub written : List ℕ → List ℕ → List ℕ
@@ -26,8 +26,8 @@ abbrev pub walkWords : Walk → List ℕ
 walkWords w =
     w .page .at ∷ w .page .elems ∷ w .page .front ∷ w .page .end ∷ w .page .«prefix_len»
     ∷ w .way ∷ w .pos ∷ w .heads ∷ w .key .at ∷ w .key .len
-    ∷ w .past .page .at ∷ w .past .page .elems ∷ w .past .page .front ∷ w .past .page .end ∷ w .past .page .«prefix_len»
-    ∷ w .past .link .0 ∷ w .past .slot ∷ w .past .left ∷ []
+    ∷ w .older .page .at ∷ w .older .page .elems ∷ w .older .page .front ∷ w .older .page .end ∷ w .older .page .«prefix_len»
+    ∷ w .older .link .0 ∷ w .older .slot ∷ w .older .left ∷ []
 
 -- and back: any words are some walk, "words that a shorter slice lacks count as 0"
 abbrev pub sheetIn : List ℕ → ℕ → Sheet
@@ -40,11 +40,11 @@ sheetIn ws k =
       «prefix_len» = getD ws (k + 4) 0;
     }
 
-abbrev pub pastIn : List ℕ → Past
-pastIn ws = pastOf (sheetIn ws 10) (addr (getD ws 15 0)) (getD ws 16 0) (getD ws 17 0)
+abbrev pub olderIn : List ℕ → OldPlace
+olderIn ws = olderOf (sheetIn ws 10) (addr (getD ws 15 0)) (getD ws 16 0) (getD ws 17 0)
 
 unfoldable pub walkIn : List ℕ → Walk
-walkIn ws = walkOf (sheetIn ws 0) (getD ws 5 0) (getD ws 6 0) (getD ws 7 0) (place (getD ws 8 0) (getD ws 9 0)) (pastIn ws)
+walkIn ws = walkOf (sheetIn ws 0) (getD ws 5 0) (getD ws 6 0) (getD ws 7 0) (place (getD ws 8 0) (getD ws 9 0)) (olderIn ws)
 
 abbrev pub itemWords : Item → List ℕ
 itemWords x =

@@ -5,13 +5,13 @@ ghost use Prim.Native.Nat.{_+_, _<_, _≤_, _^_};
 ghost use lib.ListN.{length, getD};
 ghost use Rattle.spans.specs.Span.{put};
 ghost use Rattle.frames.specs.Refusals.{numberOf};
-ghost use Rattle.c_words.specs.Words.{written, sheetIn, pastIn, walkIn, sheetWords, walkWords, itemWords, branchWords, endWords};
+ghost use Rattle.c_words.specs.Words.{written, sheetIn, olderIn, walkIn, sheetWords, walkWords, itemWords, branchWords, endWords};
 use frames::Addr;
 use frames::Refusal;
 use pages::Place;
 use walks::Branch;
 use walks::Item;
-use walks::Past;
+use walks::OldPlace;
 use walks::Sheet;
 use walks::Walk;
 
@@ -159,10 +159,10 @@ fn sheet_in(words: &[u64], k: usize) -> Sheet
     }
 }
 
-fn past_in(words: &[u64]) -> Past
-    ensures { λ r. ⌜ r ≡ pastIn (now (words .entry)) ⌝ }
+fn older_in(words: &[u64]) -> OldPlace
+    ensures { λ r. ⌜ r ≡ olderIn (now (words .entry)) ⌝ }
 {
-    Past {
+    OldPlace {
         page: sheet_in(words, 10),
         link: Addr(word(words, 15)),
         slot: word(words, 16) as usize,
@@ -183,7 +183,7 @@ pub fn walk_in(words: &[u64]) -> Walk
             at: word(words, 8) as usize,
             len: word(words, 9) as usize,
         },
-        past: past_in(words),
+        older: older_in(words),
     }
 }
 
@@ -209,10 +209,10 @@ pub fn store_walk(out: &mut [u64], w: Walk)
     store_sheet(out, 0, page);
     store_three(out, 5, w.way as u64, w.pos as u64, w.heads as u64);
     store_two(out, 8, w.key.at as u64, w.key.len as u64);
-    let past = w.past;
-    let then = past.page;
+    let older = w.older;
+    let then = older.page;
     store_sheet(out, 10, then);
-    store_three(out, 15, past.link.0, past.slot as u64, past.left as u64);
+    store_three(out, 15, older.link.0, older.slot as u64, older.left as u64);
 }
 
 // A record's nine words from word k on.

@@ -189,7 +189,7 @@ module _ {A : Type 0} (Says : ℕ → List ℕ → A → Type 0) (T : Walk → L
             (subst (λ (v : Walk). T v (drop n es)) (sym (moved-on x walk hw (stay n s (walkIn walk)))) (told n (walkIn walk) es h .behind)),
       )
 
--- what ct_forward and ct_backward leave, read by ct_steps: with viewcalls demand 3 holds of this C loop, too
+-- what ct_forward and ct_backward leave, read by ct_steps: with law_calls demand 3 holds of this C loop, too
 module _ (s prefix : List ℕ) (b : Begun) (walk out : List ℕ) (hw : 18 ≤ length walk) (ho : 1 ≤ length out) where
   pub batches-list : (es : List Entry) → Lists s prefix b es → (begunNumber b ≡ 0) × ((m : ℕ) → CallsRead (Row s prefix) m s (written (begunWords b) walk) out es)
   batches-list es h = (

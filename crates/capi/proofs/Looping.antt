@@ -83,7 +83,7 @@ loop-leads s prefix (r ∷ cs) w walk out hw ho ew h =
 pub begun-in : (b : Begun) (walk : List ℕ) → 18 ≤ length walk → (w : Walk) → b ≡ Begun.Is w → walkIn (written (begunWords b) walk) ≡ w
 begun-in b walk hw w e = ap (λ (z : Begun). walkIn (written (begunWords z) walk)) e ∙ walk-kept w walk hw
 
--- what ct_forward and ct_backward leave is the walk that was begun; so with viewcalls, which gives Lists and Leads for what a build stored,
+-- what ct_forward and ct_backward leave is the walk that was begun; so with law_calls, which gives Lists and Leads for what a build stored,
 -- demand 3 holds of the C loop
 module _ (s prefix : List ℕ) (b : Begun) (walk out : List ℕ) (hw : 18 ≤ length walk) (ho : 9 ≤ length out) where
   long : 18 ≤ length (written (begunWords b) walk)

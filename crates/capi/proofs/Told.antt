@@ -8,12 +8,11 @@ use Rattle.order.specs.declared.Ver.{Ver}
 use Rattle.frames.specs.declared.Addr.{Addr}
 use Rattle.frames.specs.declared.Opened.{Opened}
 use Rattle.frames.specs.Layout.{openAt}
-use Rattle.pages.specs.Edges.{boundsRead, boundsAt}
+use Rattle.pages.specs.Boundaries.{boundsRead, boundsAt}
 use Rattle.pages.specs.Refused.{boundsNumber}
 use Rattle.build_image.specs.declared.Built.{Built}
 use Rattle.build_image.specs.Call.{callOf, builtNumber}
-use Rattle.delta.specs.Built.{leafBuilt, afterwards}
-use Rattle.delta.specs.Deltas.{leafDelta}
+use Rattle.delta.specs.Built.{leafBuilt, leafArena}
 use Rattle.c_words.specs.Words.{written}
 use Rattle.c_answers.specs.Answers.{pageWords, builtWords}
 use Rattle.c_words.proofs.Laws.{written-none, told}
@@ -32,13 +31,12 @@ module _ (limit group lsn ckpt : ℕ) (a : List ℕ) (next : ℕ) (key value : L
   abbrev leafOf : Ver → Built
   leafOf v = leafBuilt (callOf limit 0 group (v .txid) lsn ckpt) (length a) next (length key) (length value)
 
-  abbrev arenaOf : Built → Ver → List ℕ
-  arenaOf x v = afterwards x a next (leafDelta (callOf limit 0 group (v .txid) lsn ckpt) next v key value)
+  abbrev arenaOf : Ver → List ℕ
+  arenaOf v = leafArena (callOf limit 0 group (v .txid) lsn ckpt) a next v key value
 
-  pub leaf-told : (out : List ℕ) {v u : Ver} {x : Built} {r : ℕ} {a′ o : List ℕ} → v ≡ u → x ≡ leafOf v → a′ ≡ arenaOf x v
+  pub leaf-told : (out : List ℕ) {v u : Ver} {x : Built} {r : ℕ} {a′ o : List ℕ} → v ≡ u → x ≡ leafOf v → a′ ≡ arenaOf v
       → (r ≡ builtNumber x) × (o ≡ written (builtWords x) out)
-      → (r ≡ builtNumber (leafOf u)) × ((a′ ≡ arenaOf (leafOf u) u) × (o ≡ written (builtWords (leafOf u)) out))
-  leaf-told out {v} {u} ev e f h =
-      let g = e ∙ ap leafOf ev in
-      let t = told builtNumber builtWords out g h in
-      (t .0, (f ∙ ap (λ (z : Built). arenaOf z v) g ∙ ap (λ (z : Ver). arenaOf (leafOf u) z) ev, t .1))
+      → (r ≡ builtNumber (leafOf u)) × ((a′ ≡ arenaOf u) × (o ≡ written (builtWords (leafOf u)) out))
+  leaf-told out ev e f h =
+      let t = told builtNumber builtWords out (e ∙ ap leafOf ev) h in
+      (t .0, (f ∙ ap arenaOf ev, t .1))

@@ -1,15 +1,11 @@
 // The C interface: every public call of the port over slices and numbers, as include/cresttrestle.h names them. A call hands its slices
 // on, writes the words of the answer to `out` and returns the number of the refusal, 0 where there is none.
 ghost use mathlib.Core.Path.{_≡_};
-ghost use mathlib.Core.List.{[], _∷_};
-ghost use Prim.Native.Nat.{_+_, _*_, _<_, _^_};
-ghost use lib.ListN.{length, getD};
-ghost use Rattle.spans.specs.Span.{put};
-ghost use Rattle.frames.specs.Refusals.{numberOf};
+ghost use lib.ListN.{length};
 ghost use Rattle.frames.specs.Layout.{addr, pageId, openAt};
 ghost use Rattle.order.specs.Version.{verOf};
 ghost use Rattle.pages.specs.Meaning.{meaning, checkOf};
-ghost use Rattle.pages.specs.Edges.{boundsAt};
+ghost use Rattle.pages.specs.Boundaries.{boundsAt};
 ghost use Rattle.pages.specs.HintsAt.{historyHintsAt, remoteHintsAt, hintIn};
 ghost use Rattle.pages.specs.Refused.{checkedNumber, boundsNumber, hintsNumber};
 ghost use Rattle.sst.specs.Search.{searchAt, floorAt, lowerAt};
@@ -22,41 +18,20 @@ ghost use Rattle.build_image.specs.Prefix.{common};
 ghost use Rattle.build_image.specs.Call as call;
 ghost use Rattle.base.specs.Calls as calls;
 ghost use Rattle.merge.specs.Answer.{mergeAnswer, mergeArena};
-ghost use Rattle.delta.specs.Built.{leafBuilt, indexBuilt, afterwards};
-ghost use Rattle.delta.specs.Deltas as deltas;
+ghost use Rattle.delta.specs.Built.{leafBuilt, leafArena, indexBuilt, indexArena};
 ghost use Rattle.delta.specs.Read.{leafKeyAt, indexKeyAt, valueAt, childAt};
 ghost use Rattle.delta.specs.Refused as refused;
 ghost use Rattle.overlay.specs.Overlay.{laidAt, laidNumber};
-ghost use Rattle.c_steps.specs.Steps.{runOf, runWords, roomIn, runNumber, runWalk, runEnd, runSays, stepsAt, stepsWords};
-ghost use Rattle.c_words.specs.Words.{written, sheetIn, pastIn, walkIn, sheetWords, walkWords, itemWords, branchWords, endWords, stepWords, movedWords};
-ghost use Rattle.c_answers.specs.Answers.{prefixWords, builtWords, boundsWords, pageWords, hintsWords, hintsFrom, hintWords, foundWords, asOfWords, boundWords, floorWords, begunWords, leafKeyWords, indexKeyWords, valueWords, childWords, laidWords};
-use build_image::Built;
-use delta::Child;
-use delta::IndexKey;
-use delta::LeafKey;
-use delta::Value;
+ghost use Rattle.c_steps.specs.Steps.{runNumber, runWalk, stepsAt, stepsWords};
+ghost use Rattle.c_words.specs.Words.{written, walkIn, stepWords, movedWords};
+ghost use Rattle.c_answers.specs.Answers.{prefixWords, builtWords, pageWords, hintsWords, hintsFrom, hintWords, foundWords, asOfWords, boundWords, floorWords, begunWords, leafKeyWords, indexKeyWords, valueWords, childWords, laidWords};
 use frames::Addr;
 use frames::Opened;
 use frames::PageId;
 use frames::Refusal;
 use order::Ver;
-use overlay::Laid;
-use pages::BoundsRead;
 use pages::Checked;
-use pages::Hint;
 use pages::Hints;
-use pages::HintsRead;
-use pages::Place;
-use sst::Bound;
-use sst::Floor;
-use sst::Found;
-use walks::Begun;
-use walks::Branch;
-use walks::Item;
-use walks::Past;
-use walks::Sheet;
-use walks::Step;
-use walks::Walk;
 
 // ---- building
 
@@ -121,9 +96,9 @@ pub extern "C" fn ct_new_intl(
     checkpoint: u64,
     out: &mut [u64],
 ) -> u32
-    ensures { λ r. ⌜ r ≡ call.builtNumber (calls.intlAnswer (now (arena .entry)) next (now (list .entry)) (call.callOf 0 0 group txid lsn checkpoint) (calls.boundsFrom (now (lo .entry)) (now (hi .entry)) sibling)) ⌝ }
-    ensures { λ _. ⌜ now (arena .exit) ≡ calls.intlArena (now (arena .entry)) next (now (list .entry)) (call.callOf 0 0 group txid lsn checkpoint) (calls.boundsFrom (now (lo .entry)) (now (hi .entry)) sibling) ⌝ }
-    ensures { λ _. ⌜ now (out .exit) ≡ written (builtWords (calls.intlAnswer (now (arena .entry)) next (now (list .entry)) (call.callOf 0 0 group txid lsn checkpoint) (calls.boundsFrom (now (lo .entry)) (now (hi .entry)) sibling))) (now (out .entry)) ⌝ }
+    ensures { λ r. ⌜ r ≡ call.builtNumber (calls.newIndexAnswer (now (arena .entry)) next (now (list .entry)) (call.callOf 0 0 group txid lsn checkpoint) (calls.boundsFrom (now (lo .entry)) (now (hi .entry)) sibling)) ⌝ }
+    ensures { λ _. ⌜ now (arena .exit) ≡ calls.newIndexArena (now (arena .entry)) next (now (list .entry)) (call.callOf 0 0 group txid lsn checkpoint) (calls.boundsFrom (now (lo .entry)) (now (hi .entry)) sibling) ⌝ }
+    ensures { λ _. ⌜ now (out .exit) ≡ written (builtWords (calls.newIndexAnswer (now (arena .entry)) next (now (list .entry)) (call.callOf 0 0 group txid lsn checkpoint) (calls.boundsFrom (now (lo .entry)) (now (hi .entry)) sibling))) (now (out .entry)) ⌝ }
 {
     let x = base::new_intl(
         arena,
@@ -188,7 +163,7 @@ pub extern "C" fn ct_delta_leaf(
     out: &mut [u64],
 ) -> u32
     ensures { λ r. ⌜ r ≡ call.builtNumber (leafBuilt (call.callOf limit 0 group txid lsn checkpoint) (length (now (arena .entry))) next (length (now (key .entry))) (length (now (value .entry)))) ⌝ }
-    ensures { λ _. ⌜ now (arena .exit) ≡ afterwards (leafBuilt (call.callOf limit 0 group txid lsn checkpoint) (length (now (arena .entry))) next (length (now (key .entry))) (length (now (value .entry)))) (now (arena .entry)) next (deltas.leafDelta (call.callOf limit 0 group txid lsn checkpoint) next (verOf txid cmd) (now (key .entry)) (now (value .entry))) ⌝ }
+    ensures { λ _. ⌜ now (arena .exit) ≡ leafArena (call.callOf limit 0 group txid lsn checkpoint) (now (arena .entry)) next (verOf txid cmd) (now (key .entry)) (now (value .entry)) ⌝ }
     ensures { λ _. ⌜ now (out .exit) ≡ written (builtWords (leafBuilt (call.callOf limit 0 group txid lsn checkpoint) (length (now (arena .entry))) next (length (now (key .entry))) (length (now (value .entry))))) (now (out .entry)) ⌝ }
 {
     let x = delta::from_key_val(
@@ -218,7 +193,7 @@ pub extern "C" fn ct_delta_index(
     out: &mut [u64],
 ) -> u32
     ensures { λ r. ⌜ r ≡ call.builtNumber (indexBuilt (length (now (arena .entry))) next (length (now (key .entry)))) ⌝ }
-    ensures { λ _. ⌜ now (arena .exit) ≡ afterwards (indexBuilt (length (now (arena .entry))) next (length (now (key .entry)))) (now (arena .entry)) next (deltas.indexFrame (call.callOf 0 0 group txid lsn checkpoint) (now (key .entry)) (pageId page)) ⌝ }
+    ensures { λ _. ⌜ now (arena .exit) ≡ indexArena (call.callOf 0 0 group txid lsn checkpoint) (now (arena .entry)) next (now (key .entry)) (pageId page) ⌝ }
     ensures { λ _. ⌜ now (out .exit) ≡ written (builtWords (indexBuilt (length (now (arena .entry))) next (length (now (key .entry))))) (now (out .entry)) ⌝ }
 {
     let x = delta::from_key_index(arena, next, txid, group, lsn, checkpoint, key, PageId(page));

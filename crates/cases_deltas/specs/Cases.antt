@@ -1,7 +1,7 @@
 -- Answers of the oracle, computed by the definitions. Made by tools/delta-cases; not edited by hand.
 -- Assumes nothing.
 use mathlib.Core.Path.{_≡_, refl}
-use mathlib.Core.List.{List, [], _∷_}
+use mathlib.Core.List.{[], _∷_}
 use Rattle.cases_deltas.specs.Rows.{leafRow, indexRow, dkey, dval, ikey, ipid, overlay}
 
 pub case1 : leafRow 129 8 8 3 5 4 10431236182441039551 3864160852 ([]) (249 ∷ 18 ∷ 192 ∷ 98 ∷ 69 ∷ 248 ∷ 86 ∷ 131 ∷ []) ≡ (0 ∷ 56 ∷ 128 ∷ 16 ∷ 0 ∷ 0 ∷ 0 ∷ 3 ∷ 1 ∷ 0 ∷ 3 ∷ 0 ∷ 0 ∷ 0 ∷ 0 ∷ 0 ∷ 0 ∷ 0 ∷ 0 ∷ 0 ∷ 0 ∷ 0 ∷ 0 ∷ 0 ∷ 0 ∷ 0 ∷ 0 ∷ 5 ∷ 0 ∷ 0 ∷ 0 ∷ 0 ∷ 0 ∷ 0 ∷ 0 ∷ 8 ∷ 0 ∷ 0 ∷ 0 ∷ 0 ∷ 0 ∷ 0 ∷ 0 ∷ 249 ∷ 18 ∷ 192 ∷ 98 ∷ 69 ∷ 248 ∷ 86 ∷ 131 ∷ 34 ∷ 0 ∷ 0 ∷ 0 ∷ 2 ∷ 1 ∷ 0 ∷ 3 ∷ 0 ∷ 0 ∷ 0 ∷ 0 ∷ 0 ∷ 0 ∷ 0 ∷ 0 ∷ 191 ∷ 150 ∷ 153 ∷ 118 ∷ 10 ∷ 50 ∷ 195 ∷ 144 ∷ 5 ∷ 0 ∷ 0 ∷ 0 ∷ 0 ∷ 0 ∷ 0 ∷ 0 ∷ 13 ∷ 0 ∷ 0 ∷ 0 ∷ 13 ∷ 0 ∷ 0 ∷ 0 ∷ 12 ∷ 191 ∷ 150 ∷ 153 ∷ 118 ∷ 10 ∷ 50 ∷ 195 ∷ 144 ∷ 84 ∷ 106 ∷ 82 ∷ 230 ∷ 2 ∷ 8 ∷ 0 ∷ 0 ∷ 0 ∷ 8 ∷ 0 ∷ 0 ∷ 0 ∷ 0 ∷ 0 ∷ 0 ∷ 0 ∷ 0 ∷ 0 ∷ 0 ∷ 0 ∷ 0 ∷ 0 ∷ [])

@@ -1,10 +1,9 @@
 -- What the oracle says of deltas and overlays in our definitions' words: an answer is a list, 0 and what is answered, or the number of refusal.
 -- Assumes nothing.
-use mathlib.Core.Path.{_≡_, refl}
 use mathlib.Core.List.{List, [], _∷_}
 use Prim.Native.Nat.{ℕ}
 use lib.ListN.{length}
-use Rattle.spans.specs.Span.{part, partOr, put}
+use Rattle.spans.specs.Span.{part, partOr}
 use Rattle.numbers.specs.Number.{le, ofLe, leAt}
 use Rattle.order.specs.Order.{cmpBytes, startsWith}
 use Rattle.order.specs.Version.{verOf, newerThan}
@@ -12,14 +11,14 @@ use Rattle.lengths.specs.Leb128.{enc, uleb, dec, carry, within, readLen}
 use Rattle.frames.specs.Refusals.{numberOf}
 use Rattle.frames.specs.Layout.{addr, pageId, boxFields, boxOk, boxAt, baseFields, baseOk, pageAt, kindOf, bodyOf, openAt, remoteAt, deltaAt}
 use Rattle.frames.specs.Stored.{boxBytes}
-use Rattle.values.specs.Keys.{verBytes, leafFront, leafKey, indexKey, skipOf, keyAt}
+use Rattle.values.specs.Keys.{verIn, verBytes, leafFront, leafKey, indexKey, leafKeySize, indexKeySize, skipOf, keyAt}
 use Rattle.values.specs.Vals.{flagOf, histBytes, frontBytes, inlineBytes, remoteBytes, sizeOf, refAt, frontAt, valAt}
-use Rattle.records.specs.Records.{slotAt, verIn, keyIn, keyAtSlot, valIn, recIn, recAt}
+use Rattle.records.specs.Records.{slotAt, keyIn, keyAtSlot, valIn, recIn, recAt}
 use Rattle.records.specs.Parts.{prefixIn}
-use Rattle.pages.specs.Edges.{partIn}
+use Rattle.pages.specs.Boundaries.{partIn}
 use Rattle.sst.specs.Halve.{halve}
 use Rattle.sst.specs.Search.{newerAt, keyCmp, rightKind, fitsPrefix, readyAt, halved, outcomeAt}
-use Rattle.build_image.specs.Sizes.{pad, farLen}
+use Rattle.build_image.specs.Sizes.{pad, remoteLen}
 use Rattle.build_image.specs.Image.{remoteFrame}
 use Rattle.build_image.specs.declared.Built.{Built}
 use Rattle.delta.specs.declared.LeafKey.{LeafKey}
@@ -27,8 +26,8 @@ use Rattle.delta.specs.declared.IndexKey.{IndexKey}
 use Rattle.delta.specs.declared.Value.{Value}
 use Rattle.delta.specs.declared.Child.{Child}
 use Rattle.build_image.specs.Call.{larger, callOf}
-use Rattle.delta.specs.Deltas.{valueOf, farOf, deltaHead, deltaFrame, leafFrame, indexFrame, leafDelta, leafKeyLen, indexKeyLen, leafLen, indexLen}
-use Rattle.delta.specs.Built.{lengthsOk, judged, leafBuilt, indexBuilt}
+use Rattle.delta.specs.Deltas.{valueOf, remoteOf, deltaHead, deltaFrame, leafFrame, indexFrame, leafDelta, leafLen, indexLen}
+use Rattle.delta.specs.Built.{leafBuilt, indexBuilt, pairOk}
 use Rattle.delta.specs.Read.{deltaIs, leafKeyAt, indexKeyAt, valueAt, childAt}
 use Rattle.delta.specs.Read as D
 use Rattle.overlay.specs.declared.Laid.{Laid}
@@ -40,12 +39,12 @@ builtRow (Built.At a n) image = 0 ∷ a .0 ∷ n ∷ image
 builtRow (Built.Refused r) image = numberOf r ∷ []
 
 unfoldable pub leafRow : ℕ → ℕ → ℕ → ℕ → ℕ → ℕ → ℕ → ℕ → List ℕ → List ℕ → List ℕ
-unfolding larger le enc uleb boxBytes verBytes leafFront leafKey flagOf histBytes frontBytes inlineBytes remoteBytes sizeOf pad farLen remoteFrame valueOf farOf deltaHead deltaFrame leafFrame leafDelta leafKeyLen leafLen lengthsOk judged leafBuilt
+unfolding larger le enc uleb boxBytes verBytes leafFront leafKey flagOf histBytes frontBytes inlineBytes remoteBytes sizeOf pad remoteLen remoteFrame valueOf remoteOf deltaHead deltaFrame leafFrame leafDelta leafKeySize leafLen pairOk leafBuilt
 leafRow len next limit group lsn ckpt txid cmd key val =
     builtRow (leafBuilt (callOf limit 0 group txid lsn ckpt) len next (length key) (length val)) (leafDelta (callOf limit 0 group txid lsn ckpt) next (verOf txid cmd) key val)
 
 unfoldable pub indexRow : ℕ → ℕ → ℕ → ℕ → ℕ → ℕ → List ℕ → ℕ → List ℕ
-unfolding larger le enc uleb boxBytes indexKey pad deltaHead deltaFrame indexFrame indexKeyLen indexLen lengthsOk judged indexBuilt
+unfolding larger le enc uleb boxBytes indexKey pad deltaHead deltaFrame indexFrame indexKeySize indexLen pairOk indexBuilt
 indexRow len next txid group lsn ckpt key page = builtRow (indexBuilt len next (length key)) (indexFrame (callOf 0 0 group txid lsn ckpt) key (pageId page))
 
 abbrev keyRow : List ℕ → LeafKey → List ℕ

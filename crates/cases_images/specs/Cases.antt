@@ -1,8 +1,8 @@
 -- Whole images, computed from whole lists by the definitions, equal to the oracle's bytes. Made by `make-cases`; not edited by hand.
 -- Assumes nothing.
-use mathlib.Core.Path.{_≡_, refl}
-use mathlib.Core.List.{List, [], _∷_}
-use Rattle.cases_images.specs.Rows.{Row, LeafIs, IndexIs, leafOf, indexOf}
+use mathlib.Core.Path.{refl}
+use mathlib.Core.List.{[], _∷_}
+use Rattle.cases_images.specs.Rows.{LeafIs, IndexIs, leafOf, indexOf}
 
 pub case1 : LeafIs
     (record { at = 8; limit = 64; budget = 131072; txid = 5; group = 0; lsn = 0; sibling = 0; lo = []; hi = [] })

@@ -23,18 +23,17 @@ use Rattle.frames.specs.declared.DeltaRead.{DeltaRead}
 use Rattle.frames.specs.declared.FrameRead.{FrameRead}
 use Rattle.frames.specs.declared.PageId.{PageId}
 use Rattle.frames.specs.declared.RemoteRead.{RemoteRead}
-use Rattle.frames.specs.Layout.{addr, boxLen, frameLen, boxFields, boxOk, boxAt, remoteAt, deltaAt}
+use Rattle.frames.specs.Layout.{addr, boxLen, frameLen, boxFields, boxOk, boxAt, remoteAt, deltaAt, boxDelta, boxRemote, nodeLeaf, nodeIndex}
 use Rattle.frames.specs.Stored.{boxBytes}
+use Rattle.frames.specs.Limits.{maxKey, maxValue}
 use Rattle.frames.proofs.Stores.{length-box, box-reads}
 use Rattle.values.specs.declared.KeyRead.{KeyRead}
-use Rattle.values.specs.declared.VerRead.{VerRead}
-use Rattle.values.specs.Keys.{verAt, leafKey, indexKey}
+use Rattle.values.specs.Keys.{leafKey, indexKey, verIn}
 use Rattle.values.specs.Vals.{noHist, frontSize, inlineBytes, remoteBytes}
 use Rattle.values.proofs.Laws.{length-leafKey, length-indexKey, length-inline, length-remote}
 use Rattle.values.proofs.KeysBack.{SmallVer, leaf-rest, leaf-version, leaf-back, index-rest, index-back}
 use Rattle.values.proofs.ValsBack.{SmallHist, inline-bytes, inline-back, remote-back}
-use Rattle.records.specs.Records.{verIn}
-use Rattle.pages.specs.Edges.{place}
+use Rattle.pages.specs.Boundaries.{place}
 use Rattle.build_image.specs.declared.Call.{Call}
 use Rattle.build_image.specs.Sizes.{pad}
 use Rattle.build_image.specs.Image.{boxOf, remoteFrame}
@@ -58,7 +57,7 @@ lies-cut s i n x h l = lies-kept s (take n s) i n x h (take-take n n s (omega ar
 
 -- ---- the frame: d lies where the header says
 
-module _ (s : List ℕ) (at : ℕ) (m : Call) (node : ℕ) (key val : List ℕ) (w : Small m) (n1 : 1 ≤ node) (n2 : node ≤ 2) (h8 : 8 ≤ at) (hm : at % 8 ≡ 0)
+module _ (s : List ℕ) (at : ℕ) (m : Call) (node : ℕ) (key val : List ℕ) (w : Small m) (n1 : nodeLeaf ≤ node) (n2 : node ≤ nodeIndex) (h8 : 8 ≤ at) (hm : at % 8 ≡ 0)
     (few : length key + length val ≤ 1000000) (room : at + frameLen (8 + length key + length val) ≤ length s) (lies : Lies s at (deltaFrame m node key val)) where
   abbrev k : ℕ
   k = length key
@@ -67,7 +66,7 @@ module _ (s : List ℕ) (at : ℕ) (m : Call) (node : ℕ) (key val : List ℕ) 
   v = length val
 
   abbrev box : BoxHeader
-  box = boxOf m (8 + k + v) 2 node 0 0 (m .txid)
+  box = boxOf m (8 + k + v) boxDelta node 0 0 (m .txid)
 
   head-lies : Lies s at (deltaHead m node k v)
   unfolding deltaFrame
@@ -99,7 +98,7 @@ module _ (s : List ℕ) (at : ℕ) (m : Call) (node : ℕ) (key val : List ℕ) 
   box-at : boxAt s (addr at) ≡ FrameRead.Frame box
   unfolding boxAt boxOk
   box-at =
-      rw (le-leb (at + boxLen) (length s) (omega arith), box-is, le-leb 8 at h8, eq-eqb (at % 8) 0 hm, le-leb 1 node n1, le-leb node 2 n2, le-leb (at + frameLen (8 + k + v)) (length s) room) refl
+      rw (le-leb (at + boxLen) (length s) (omega arith), box-is, le-leb 8 at h8, eq-eqb (at % 8) 0 hm, le-leb nodeLeaf node n1, le-leb node nodeIndex n2, le-leb (at + frameLen (8 + k + v)) (length s) room) refl
 
   klen : leAt 4 s (at + boxLen) ≡ k
   klen = lies-le s (at + boxLen) 4 k (omega arith) (lies-front s (at + boxLen) (le 4 k) (le 4 v) lens-lie)
@@ -116,39 +115,39 @@ module _ (s : List ℕ) (at : ℕ) (m : Call) (node : ℕ) (key val : List ℕ) 
 
 -- ---- a remote frame resolves
 
-module _ (s : List ℕ) (at : ℕ) (m : Call) (v : List ℕ) (w : Small m) (h8 : 8 ≤ at) (hm : at % 8 ≡ 0) (few : length v ≤ 65536)
+module _ (s : List ℕ) (at : ℕ) (m : Call) (v : List ℕ) (w : Small m) (h8 : 8 ≤ at) (hm : at % 8 ≡ 0) (few : length v ≤ maxValue)
     (room : at + frameLen (8 + length v) ≤ length s) (lies : Lies s at (remoteFrame m v)) where
-  abbrev far-box : BoxHeader
-  far-box = boxOf m (8 + length v) 3 1 0 0 0
+  abbrev remote-box : BoxHeader
+  remote-box = boxOf m (8 + length v) boxRemote nodeLeaf 0 0 0
 
-  far-rest : Lies s (at + boxLen) (le 8 (length v) ++ (v ++ pad (8 + length v)))
+  remote-rest : Lies s (at + boxLen) (le 8 (length v) ++ (v ++ pad (8 + length v)))
   unfolding remoteFrame
-  far-rest =
-      subst (λ (j : ℕ). Lies s (at + j) (le 8 (length v) ++ (v ++ pad (8 + length v)))) (length-box far-box)
-      (lies-back s at (boxBytes far-box) (le 8 (length v) ++ (v ++ pad (8 + length v))) lies)
+  remote-rest =
+      subst (λ (j : ℕ). Lies s (at + j) (le 8 (length v) ++ (v ++ pad (8 + length v)))) (length-box remote-box)
+      (lies-back s at (boxBytes remote-box) (le 8 (length v) ++ (v ++ pad (8 + length v))) lies)
 
-  pub far-lies : Lies s (at + boxLen + 8) v
-  far-lies =
+  pub remote-lies : Lies s (at + boxLen + 8) v
+  remote-lies =
       lies-front s (at + boxLen + 8) v (pad (8 + length v))
-      (subst (λ (j : ℕ). Lies s (at + boxLen + j) (v ++ pad (8 + length v))) (length-le 8 (length v)) (lies-back s (at + boxLen) (le 8 (length v)) (v ++ pad (8 + length v)) far-rest))
+      (subst (λ (j : ℕ). Lies s (at + boxLen + j) (v ++ pad (8 + length v))) (length-le 8 (length v)) (lies-back s (at + boxLen) (le 8 (length v)) (v ++ pad (8 + length v)) remote-rest))
 
-  far-is : boxFields s at ≡ far-box
+  remote-is : boxFields s at ≡ remote-box
   unfolding remoteFrame
-  far-is =
-      box-reads s at far-box
+  remote-is =
+      box-reads s at remote-box
       (record { payload = omega arith; kind = omega arith; node = omega arith; flag = omega arith; group = w .group; link = omega arith; txid = omega arith; lsn = w .lsn })
-      (lies-front s at (boxBytes far-box) (le 8 (length v) ++ (v ++ pad (8 + length v))) lies)
+      (lies-front s at (boxBytes remote-box) (le 8 (length v) ++ (v ++ pad (8 + length v))) lies)
 
-  far-at : boxAt s (addr at) ≡ FrameRead.Frame far-box
+  remote-at : boxAt s (addr at) ≡ FrameRead.Frame remote-box
   unfolding boxAt boxOk
-  far-at = rw (le-leb (at + boxLen) (length s) (omega arith), far-is, le-leb 8 at h8, eq-eqb (at % 8) 0 hm, le-leb (at + frameLen (8 + length v)) (length s) room) refl
+  remote-at = rw (le-leb (at + boxLen) (length s) (omega arith), remote-is, le-leb 8 at h8, eq-eqb (at % 8) 0 hm, le-leb (at + frameLen (8 + length v)) (length s) room) refl
 
-  far-size : leAt 8 s (at + boxLen) ≡ length v
-  far-size = lies-le s (at + boxLen) 8 (length v) (omega arith) (lies-front s (at + boxLen) (le 8 (length v)) (v ++ pad (8 + length v)) far-rest)
+  remote-size : leAt 8 s (at + boxLen) ≡ length v
+  remote-size = lies-le s (at + boxLen) 8 (length v) (omega arith) (lies-front s (at + boxLen) (le 8 (length v)) (v ++ pad (8 + length v)) remote-rest)
 
   pub remote-resolves : remoteAt s (addr at) (length v) ≡ RemoteRead.At (at + boxLen + 8)
   unfolding remoteAt
-  remote-resolves = rw (far-at, far-size, eq-eqb (8 + length v) (8 + length v) refl, eq-eqb (length v) (length v) refl) refl
+  remote-resolves = rw (remote-at, remote-size, eq-eqb (8 + length v) (8 + length v) refl, eq-eqb (length v) (length v) refl) refl
 
 -- ---- what is read: a place, and the bytes there
 
@@ -167,18 +166,8 @@ pub record ReadsValue (s : List ℕ) (at : ℕ) (v : List ℕ) : Type 0 where
   pub read : valueAt s (addr at) ≡ Value.Is (place place-of (length v))
   pub bytes : part s place-of (length v) ≡ v
 
-ver-no : (v : Ver) → VerRead.Bad ≡ VerRead.Is v → ⊥
-ver-no v e = let z : _≡_ {A = ℕ} 0 1 = cc in omega arith
-
-ver-in : (s : List ℕ) (at : ℕ) (v : Ver) → verAt s at ≡ VerRead.Is v → verIn s at ≡ v
-unfolding verAt verIn
-ver-in s at v e =
-    let a1 = ask (leb (at + 12) (length s)) (VerRead.Is (verOf (leAt 8 s at) (leAt 4 s (at + 8)))) VerRead.Bad (VerRead.Is v) (ver-no v) e in
-    let x : verOf (leAt 8 s at) (leAt 4 s (at + 8)) ≡ v = cc in
-    x
-
 -- a leaf delta's key
-module _ (s : List ℕ) (at : ℕ) (m : Call) (ver : Ver) (raw val : List ℕ) (w : Small m) (wv : SmallVer ver) (h8 : 8 ≤ at) (hm : at % 8 ≡ 0) (small : length raw ≤ 4096)
+module _ (s : List ℕ) (at : ℕ) (m : Call) (ver : Ver) (raw val : List ℕ) (w : Small m) (wv : SmallVer ver) (h8 : 8 ≤ at) (hm : at % 8 ≡ 0) (small : length raw ≤ maxKey)
     (few : length (leafKey ver raw) + length val ≤ 1000000) (room : at + frameLen (8 + length (leafKey ver raw) + length val) ≤ length s) (lies : Lies s at (deltaFrame m 1 (leafKey ver raw) val)) where
   abbrev from : ℕ
   from = at + boxLen + 8
@@ -195,7 +184,7 @@ module _ (s : List ℕ) (at : ℕ) (m : Call) (ver : Ver) (raw val : List ℕ) (
   key-in : keyIn s (cut s at m 1 (leafKey ver raw) val w (omega arith) (omega arith) h8 hm few room lies) 0 ≡ KeyRead.Key (from + lead) (from + lead + 12) (length raw)
   unfolding keyIn
   key-in =
-      rw (leaf-back (take to s) from ver raw small wv (lies-cut s from to (leafKey ver raw) (omega arith) here), le-leb (length raw) 4096 small, eq-eqb (from + lead + 12 + length raw) to (omega (arith, length-leafKey ver raw)))
+      rw (leaf-back (take to s) from ver raw small wv (lies-cut s from to (leafKey ver raw) (omega arith) here), le-leb (length raw) maxKey small, eq-eqb (from + lead + 12 + length raw) to (omega (arith, length-leafKey ver raw)))
       refl
 
   pub key-back : ReadsKey s at ver raw
@@ -205,12 +194,12 @@ module _ (s : List ℕ) (at : ℕ) (m : Call) (ver : Ver) (raw val : List ℕ) (
         place-of = from + lead + 12;
         read =
             rw (delta-back s at m 1 (leafKey ver raw) val w (omega arith) (omega arith) h8 hm few room lies, key-in)
-            (ap (λ (x : Ver). LeafKey.Is x (place (from + lead + 12) (length raw))) (ver-in s (from + lead) ver (leaf-version s from ver raw small wv here)));
+            (ap (λ (x : Ver). LeafKey.Is x (place (from + lead + 12) (length raw))) (leaf-version s from ver raw small wv here));
         bytes = lies-part s (from + lead + 12) (length raw) raw refl (leaf-rest s from ver raw small wv here);
       }
 
 -- an index delta's key and page id
-module _ (s : List ℕ) (at : ℕ) (m : Call) (raw : List ℕ) (page : PageId) (w : Small m) (wp : page .0 < 256 ^ 8) (h8 : 8 ≤ at) (hm : at % 8 ≡ 0) (small : length raw ≤ 4096)
+module _ (s : List ℕ) (at : ℕ) (m : Call) (raw : List ℕ) (page : PageId) (w : Small m) (wp : page .0 < 256 ^ 8) (h8 : 8 ≤ at) (hm : at % 8 ≡ 0) (small : length raw ≤ maxKey)
     (few : length (indexKey raw) + length (le 8 (page .0)) ≤ 1000000) (room : at + frameLen (8 + length (indexKey raw) + length (le 8 (page .0))) ≤ length s) (lies : Lies s at (deltaFrame m 2 (indexKey raw) (le 8 (page .0)))) where
   abbrev ifrom : ℕ
   ifrom = at + boxLen + 8
@@ -227,7 +216,7 @@ module _ (s : List ℕ) (at : ℕ) (m : Call) (raw : List ℕ) (page : PageId) (
   index-key-in : keyIn s (cut s at m 2 (indexKey raw) (le 8 (page .0)) w (omega arith) (omega arith) h8 hm few room lies) 1 ≡ KeyRead.Key (ifrom + ilead) (ifrom + ilead + 0) (length raw)
   unfolding keyIn
   index-key-in =
-      rw (index-back (take ito s) ifrom raw small (lies-cut s ifrom ito (indexKey raw) (omega arith) ihere), le-leb (length raw) 4096 small, eq-eqb (ifrom + ilead + 0 + length raw) ito (omega (arith, length-indexKey raw)))
+      rw (index-back (take ito s) ifrom raw small (lies-cut s ifrom ito (indexKey raw) (omega arith) ihere), le-leb (length raw) maxKey small, eq-eqb (ifrom + ilead + 0 + length raw) ito (omega (arith, length-indexKey raw)))
       refl
 
   pub index-key-back : ReadsIndexKey s at raw
@@ -253,7 +242,7 @@ module _ (s : List ℕ) (at : ℕ) (m : Call) (raw : List ℕ) (page : PageId) (
 no-hist : SmallHist noHist
 no-hist = record { page = omega arith; slot = omega arith; count = omega arith }
 
-module _ (s : List ℕ) (at : ℕ) (m : Call) (key v : List ℕ) (w : Small m) (h8 : 8 ≤ at) (hm : at % 8 ≡ 0) (small : length v ≤ 65536)
+module _ (s : List ℕ) (at : ℕ) (m : Call) (key v : List ℕ) (w : Small m) (h8 : 8 ≤ at) (hm : at % 8 ≡ 0) (small : length v ≤ maxValue)
     (few : length key + length (inlineBytes noHist v) ≤ 1000000) (room : at + frameLen (8 + length key + length (inlineBytes noHist v)) ≤ length s) (lies : Lies s at (deltaFrame m 1 key (inlineBytes noHist v))) where
   abbrev vfrom : ℕ
   vfrom = at + boxLen + 8 + length key
@@ -282,23 +271,23 @@ module _ (s : List ℕ) (at : ℕ) (m : Call) (key v : List ℕ) (w : Small m) (
         bytes = lies-part s (vfrom + 5) (length v) v refl (inline-bytes s vfrom noHist v false (λ e. absurd (let z : _≡_ {A = ℕ} 0 1 = cc in omega arith)) no-hist small vhere);
       }
 
-module _ (s : List ℕ) (at far : ℕ) (m : Call) (key v : List ℕ) (w : Small m) (h8 : 8 ≤ at) (hm : at % 8 ≡ 0) (small : length v ≤ 65536)
-    (few : length key + length (remoteBytes noHist (length v) far) ≤ 1000000) (room : at + frameLen (8 + length key + length (remoteBytes noHist (length v) far)) ≤ length s)
-    (lies : Lies s at (deltaFrame m 1 key (remoteBytes noHist (length v) far))) (f8 : 8 ≤ far) (fm : far % 8 ≡ 0) (flt : far < 256 ^ 8) (froom : far + frameLen (8 + length v) ≤ length s) (flies : Lies s far (remoteFrame m v)) where
+module _ (s : List ℕ) (at remote : ℕ) (m : Call) (key v : List ℕ) (w : Small m) (h8 : 8 ≤ at) (hm : at % 8 ≡ 0) (small : length v ≤ maxValue)
+    (few : length key + length (remoteBytes noHist (length v) remote) ≤ 1000000) (room : at + frameLen (8 + length key + length (remoteBytes noHist (length v) remote)) ≤ length s)
+    (lies : Lies s at (deltaFrame m 1 key (remoteBytes noHist (length v) remote))) (f8 : 8 ≤ remote) (fm : remote % 8 ≡ 0) (flt : remote < 256 ^ 8) (froom : remote + frameLen (8 + length v) ≤ length s) (flies : Lies s remote (remoteFrame m v)) where
   abbrev rfrom : ℕ
   rfrom = at + boxLen + 8 + length key
 
   abbrev rto : ℕ
-  rto = at + boxLen + 8 + length key + length (remoteBytes noHist (length v) far)
+  rto = at + boxLen + 8 + length key + length (remoteBytes noHist (length v) remote)
 
-  remote-in : valIn s (cut s at m 1 key (remoteBytes noHist (length v) far) w (omega arith) (omega arith) h8 hm few room lies) ≡ Value.Is (place (far + boxLen + 8) (length v))
+  remote-in : valIn s (cut s at m 1 key (remoteBytes noHist (length v) remote) w (omega arith) (omega arith) h8 hm few room lies) ≡ Value.Is (place (remote + boxLen + 8) (length v))
   unfolding valIn frontSize
   remote-in =
       rw (
-        remote-back (take rto s) rfrom noHist (length v) far false (λ e. absurd (let z : _≡_ {A = ℕ} 0 1 = cc in omega arith)) no-hist small flt
-            (lies-cut s rfrom rto (remoteBytes noHist (length v) far) (omega arith) (val-lies s at m 1 key (remoteBytes noHist (length v) far) w (omega arith) (omega arith) h8 hm few room lies)),
-        remote-resolves s far m v w f8 fm small froom flies,
-        eq-eqb (rfrom + (5 + 8)) rto (omega (arith, length-remote noHist (length v) far)),
+        remote-back (take rto s) rfrom noHist (length v) remote false (λ e. absurd (let z : _≡_ {A = ℕ} 0 1 = cc in omega arith)) no-hist small flt
+            (lies-cut s rfrom rto (remoteBytes noHist (length v) remote) (omega arith) (val-lies s at m 1 key (remoteBytes noHist (length v) remote) w (omega arith) (omega arith) h8 hm few room lies)),
+        remote-resolves s remote m v w f8 fm small froom flies,
+        eq-eqb (rfrom + (5 + 8)) rto (omega (arith, length-remote noHist (length v) remote)),
       )
       refl
 
@@ -306,7 +295,7 @@ module _ (s : List ℕ) (at far : ℕ) (m : Call) (key v : List ℕ) (w : Small 
   unfolding valueAt
   remote-value-back =
       record {
-        place-of = far + boxLen + 8;
-        read = rw (delta-back s at m 1 key (remoteBytes noHist (length v) far) w (omega arith) (omega arith) h8 hm few room lies, remote-in) refl;
-        bytes = lies-part s (far + boxLen + 8) (length v) v refl (far-lies s far m v w f8 fm small froom flies);
+        place-of = remote + boxLen + 8;
+        read = rw (delta-back s at m 1 key (remoteBytes noHist (length v) remote) w (omega arith) (omega arith) h8 hm few room lies, remote-in) refl;
+        bytes = lies-part s (remote + boxLen + 8) (length v) v refl (remote-lies s remote m v w f8 fm small froom flies);
       }

@@ -1,6 +1,6 @@
 -- No second answer fits the contract of a public call. `Post` is the contract as the check reads it, so a contract that is weakened fails here.
 -- Assumes nothing.
-use mathlib.Core.Path.{_≡_, _∙_, sym, ap}
+use mathlib.Core.Path.{_≡_, _∙_, sym}
 use mathlib.Core.List.{List}
 use Prim.Native.Nat.{ℕ}
 use contract.Lifetimes.{Lfts}
@@ -15,9 +15,6 @@ use Rattle.delta.specs.declared.LeafKey.{LeafKey}
 use Rattle.delta.specs.declared.IndexKey.{IndexKey}
 use Rattle.delta.specs.declared.Value.{Value}
 use Rattle.delta.specs.declared.Child.{Child}
-use Rattle.build_image.specs.Call.{callOf}
-use Rattle.delta.specs.Deltas.{indexFrame, leafDelta}
-use Rattle.delta.specs.Built.{afterwards}
 use Rattle.delta.specs.Read.{leafKeyAt, indexKeyAt, valueAt, childAt}
 use Rattle.delta.proofs.from_key_val as leaf-fn
 use Rattle.delta.proofs.from_key_val.Reads as leaf
@@ -37,16 +34,12 @@ use Rattle.delta.proofs.index.Reads as child-at
 module _ (κs : Lfts 3) (a : RefT (List ℕ)) (next limit group lsn ckpt : ℕ) (ver : Ver) (k v : RefT (List ℕ)) (r r′ : Built) (x x′ : AtExit leaf-fn.ended κs) where
   pub leaf-decided : leaf.Post κs (a, (next, (limit, (group, (lsn, (ckpt, (ver, (k, (v, tt))))))))) r x
       → leaf.Post κs (a, (next, (limit, (group, (lsn, (ckpt, (ver, (k, (v, tt))))))))) r′ x′ → (r ≡ r′) × (now (x .0) ≡ now (x′ .0))
-  leaf-decided h h′ =
-      let e = h .0 ∙ sym (h′ .0) in
-      (e, h .1 ∙ ap (λ (b : Built). afterwards b (now a) next (leafDelta (callOf limit 0 group (ver .txid) lsn ckpt) next ver (now k) (now v))) e ∙ sym (h′ .1))
+  leaf-decided h h′ = (h .0 ∙ sym (h′ .0), h .1 ∙ sym (h′ .1))
 
 module _ (κs : Lfts 2) (a : RefT (List ℕ)) (next txid group lsn ckpt : ℕ) (k : RefT (List ℕ)) (page : PageId) (r r′ : Built) (x x′ : AtExit index-fn.ended κs) where
   pub index-decided : index.Post κs (a, (next, (txid, (group, (lsn, (ckpt, (k, (page, tt)))))))) r x
       → index.Post κs (a, (next, (txid, (group, (lsn, (ckpt, (k, (page, tt)))))))) r′ x′ → (r ≡ r′) × (now (x .0) ≡ now (x′ .0))
-  index-decided h h′ =
-      let e = h .0 ∙ sym (h′ .0) in
-      (e, h .1 ∙ ap (λ (b : Built). afterwards b (now a) next (indexFrame (callOf 0 0 group txid lsn ckpt) (now k) page)) e ∙ sym (h′ .1))
+  index-decided h h′ = (h .0 ∙ sym (h′ .0), h .1 ∙ sym (h′ .1))
 
 -- ---- readers
 

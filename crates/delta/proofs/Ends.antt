@@ -1,6 +1,7 @@
 -- A delta that was read lies in its buffer, and so does its key's version.
 -- Assumes nothing.
 use mathlib.Core.Path.{_≡_, refl, _∙_}
+use mathlib.Core.Bool.{_&&_}
 use mathlib.Core.List.{List}
 use Prim.Native.Nat.{ℕ, _+_, _≤_}
 use native.Mathlib.Omega.{arith}
@@ -13,11 +14,12 @@ use Rattle.frames.specs.declared.Addr.{Addr}
 use Rattle.frames.specs.declared.Delta.{Delta}
 use Rattle.frames.specs.declared.DeltaRead.{DeltaRead}
 use Rattle.frames.specs.Layout.{deltaAt}
-use Rattle.frames.proofs.Frames.{DeltaInside, delta-inside}
+use Rattle.frames.specs.Limits.{maxKey}
+use Rattle.frames.proofs.Frames.{DeltaInside, delta-inside, and-l}
 use Rattle.values.specs.declared.KeyRead.{KeyRead}
 use Rattle.values.specs.Keys.{skipOf, keyAt}
 use Rattle.records.proofs.Places.{key-no, key-place}
-use Rattle.delta.specs.Read.{typed, deltaIs, keyFills, keyIn}
+use Rattle.delta.specs.Read.{typed, deltaIs, keyTo, keyIn}
 
 delta-no : (d : Delta) → DeltaRead.Bad ≡ DeltaRead.Is d → ⊥
 delta-no d e = let z : _≡_ {A = ℕ} 0 1 = cc in omega arith
@@ -42,19 +44,18 @@ val-ends s a node d e = is-inside s a node d e .arena
 pub record Filled (s : List ℕ) (d : Delta) (kind v r n : ℕ) : Type 0 where
   pub ver : v + skipOf kind ≡ r
   pub ends : r + n ≤ d .«val_at»
-  pub small : n ≤ 4096
+  pub small : n ≤ maxKey
 
 pub key-filled : (s : List ℕ) (d : Delta) (kind v r n : ℕ) → d .«val_at» ≤ length s → keyIn s d kind ≡ KeyRead.Key v r n → Filled s d kind v r n
 unfolding keyIn
 key-filled s d kind v r n h e = go (keyAt (take (d .«val_at») s) (d .«key_at») kind) refl e
   where
-    go : (k : KeyRead) → keyAt (take (d .«val_at») s) (d .«key_at») kind ≡ k → keyFills (d .«val_at») k ≡ KeyRead.Key v r n → Filled s d kind v r n
+    go : (k : KeyRead) → keyAt (take (d .«val_at») s) (d .«key_at») kind ≡ k → keyTo (d .«val_at») k ≡ KeyRead.Key v r n → Filled s d kind v r n
     go (KeyRead.Key v′ r′ n′) q e′ =
-        let a1 = ask (leb n′ 4096) _ KeyRead.Bad (KeyRead.Key v r n) (key-no v r n) e′ in
-        let a2 = ask (eqb (r′ + n′) (d .«val_at»)) (KeyRead.Key v′ r′ n′) KeyRead.Bad (KeyRead.Key v r n) (key-no v r n) (a1 .1) in
-        let p = key-place (take (d .«val_at») s) (d .«key_at») kind v r n (q ∙ a2 .1) in
+        let a1 = ask (leb n′ maxKey && eqb (r′ + n′) (d .«val_at»)) (KeyRead.Key v′ r′ n′) KeyRead.Bad (KeyRead.Key v r n) (key-no v r n) e′ in
+        let p = key-place (take (d .«val_at») s) (d .«key_at») kind v r n (q ∙ a1 .1) in
         let x : n′ ≡ n = cc in
-        record { ver = p .ver; ends = omega (arith, p .rest, length-take-le (d .«val_at») s h); small = omega (arith, leb-true n′ 4096 (a1 .0)) }
+        record { ver = p .ver; ends = omega (arith, p .rest, length-take-le (d .«val_at») s h); small = omega (arith, leb-true n′ maxKey (and-l (leb n′ 4096) (eqb (r′ + n′) (d .«val_at»)) (a1 .0))) }
     go KeyRead.Bad q e′ = absurd (key-no v r n e′)
 
 pub ver-ends : (s : List ℕ) (a : Addr) (d : Delta) → deltaIs s a 1 ≡ DeltaRead.Is d → (v r n : ℕ) → keyIn s d 0 ≡ KeyRead.Key v r n → v + 12 ≤ length s

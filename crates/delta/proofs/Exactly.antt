@@ -1,64 +1,80 @@
--- "Refused with n exactly when": each number of a delta's call against the words of document 01's table, both ways.
+-- Document 01's table for the two calls: refused with a number exactly when; a refusal leaves every byte.
 -- Assumes nothing.
 use mathlib.Core.Path.{_≡_, refl}
-use mathlib.Core.Bool.{Bool, true, false, cond}
+use mathlib.Core.List.{List}
+use mathlib.Core.Bool.{true, false}
 use Prim.Native.Nat.{ℕ, _+_}
-use native.Mathlib.Omega.{arith}
 use lib.Dec.{leb}
-use Rattle.frames.specs.declared.Refusal.{Refusal}
-use Rattle.frames.specs.Layout.{addr}
+use lib.ListN.{length}
+use Rattle.spans.specs.Span.{put}
+use Rattle.order.specs.declared.Ver.{Ver}
+use Rattle.frames.specs.declared.PageId.{PageId}
 use Rattle.build_image.specs.declared.Call.{Call}
-use Rattle.build_image.specs.Sizes.{farLen}
-use Rattle.build_image.specs.declared.Built.{Built}
-use Rattle.delta.specs.Deltas.{leafLen, indexLen}
 use Rattle.build_image.specs.Call.{limitOk, nextOk, builtNumber}
-use Rattle.delta.specs.Built.{lengthsOk, judged, leafBuilt, indexBuilt}
+use Rattle.build_image.specs.Table.{Row}
+use Rattle.build_image.proofs.Tables.{All}
+use Rattle.build_image.proofs.Exactly.{Exactly, before, asks, once, call-exactly, call-accepted, call-stays}
+use Rattle.delta.specs.Deltas.{leafDelta, indexFrame, indexLen}
+use Rattle.delta.specs.Built.{pairOk, leafAt, leafEnd, leafRows, leafBuilt, leafArena, indexRows, indexBuilt, indexArena}
 
--- what a judgement says: which test failed first, or that all passed
-pub record Says (one two three room : Bool) (n : ℕ) : Type 0 where
-  pub is-1 : n ≡ 1 → one ≡ false
-  pub is-2 : n ≡ 2 → (one ≡ true) × (two ≡ false)
-  pub is-3 : n ≡ 3 → (one ≡ true) × (two ≡ true) × (three ≡ false)
-  pub is-9 : n ≡ 9 → (one ≡ true) × (two ≡ true) × (three ≡ true) × (room ≡ false)
-  pub is-0 : n ≡ 0 → (one ≡ true) × (two ≡ true) × (three ≡ true) × (room ≡ true)
+-- ---- a leaf delta
 
--- the table as a chain of tests, and back
-abbrev pub chain : Bool → Bool → Bool → Bool → ℕ
-chain one two three room = cond one (cond two (cond three (cond room 0 9) 3) 2) 1
+module _ (m : Call) (len next key value : ℕ) where
+  abbrev rows : List Row
+  rows = leafRows m len next key value
 
-not-that {ℓ} : {X : Type ℓ} (m n : ℕ) → (m ≡ n → ⊥) → m ≡ n → X
-not-that m n f e = absurd (f e)
+  -- one row, by the law for any table
+  is : (n : ℕ) → once n rows ≡ true → Exactly (builtNumber (leafBuilt m len next key value) ≡ n) (All (before n rows) × (asks n rows ≡ false))
+  unfolding leafBuilt
+  is = call-exactly rows (leafAt m next value) (leafEnd m next key value)
 
-pub chain-says : (one two three room : Bool) → Says one two three room (chain one two three room)
-chain-says false two three room = record { is-1 = λ e. refl; is-2 = not-that 1 2 (λ e. omega arith); is-3 = not-that 1 3 (λ e. omega arith); is-9 = not-that 1 9 (λ e. omega arith); is-0 = not-that 1 0 (λ e. omega arith) }
-chain-says true false three room = record { is-1 = not-that 2 1 (λ e. omega arith); is-2 = λ e. (refl, refl); is-3 = not-that 2 3 (λ e. omega arith); is-9 = not-that 2 9 (λ e. omega arith); is-0 = not-that 2 0 (λ e. omega arith) }
-chain-says true true false room = record { is-1 = not-that 3 1 (λ e. omega arith); is-2 = not-that 3 2 (λ e. omega arith); is-3 = λ e. (refl, refl, refl); is-9 = not-that 3 9 (λ e. omega arith); is-0 = not-that 3 0 (λ e. omega arith) }
-chain-says true true true false = record { is-1 = not-that 9 1 (λ e. omega arith); is-2 = not-that 9 2 (λ e. omega arith); is-3 = not-that 9 3 (λ e. omega arith); is-9 = λ e. (refl, refl, refl, refl); is-0 = not-that 9 0 (λ e. omega arith) }
-chain-says true true true true = record { is-1 = not-that 0 1 (λ e. omega arith); is-2 = not-that 0 2 (λ e. omega arith); is-3 = not-that 0 3 (λ e. omega arith); is-9 = not-that 0 9 (λ e. omega arith); is-0 = λ e. (refl, refl, refl, refl) }
+  pub leaf-1 : Exactly (builtNumber (leafBuilt m len next key value) ≡ 1) (All (before 1 rows) × (limitOk (m .limit) ≡ false))
+  leaf-1 = is 1 refl
 
-number-by : (one two three room : Bool) (at n : ℕ)
-    → builtNumber (cond one (cond two (cond three (cond room (Built.At (addr at) n) (Built.Refused Refusal.NoRoom)) (Built.Refused Refusal.BadList)) (Built.Refused Refusal.BadArena)) (Built.Refused Refusal.BadLimit)) ≡ chain one two three room
-number-by false two three room at n = refl
-number-by true false three room at n = refl
-number-by true true false room at n = refl
-number-by true true true false at n = refl
-number-by true true true true at n = refl
+  pub leaf-2 : Exactly (builtNumber (leafBuilt m len next key value) ≡ 2) (All (before 2 rows) × (nextOk len next ≡ false))
+  leaf-2 = is 2 refl
 
--- a leaf delta's number is the table's: 1, 2, 3, 9, or accepted
-pub leaf-number : (m : Call) (len next key value : ℕ)
-    → builtNumber (leafBuilt m len next key value) ≡ chain (limitOk (m .limit)) (nextOk len next) (lengthsOk key value) (leb (next + farLen (m .limit) value 0 + leafLen (m .limit) key value) len)
-unfolding leafBuilt judged
-leaf-number m len next key value =
-    number-by (limitOk (m .limit)) (nextOk len next) (lengthsOk key value) (leb (next + farLen (m .limit) value 0 + leafLen (m .limit) key value) len) (next + farLen (m .limit) value 0) (next + farLen (m .limit) value 0 + leafLen (m .limit) key value)
+  pub leaf-3 : Exactly (builtNumber (leafBuilt m len next key value) ≡ 3) (All (before 3 rows) × (pairOk key value ≡ false))
+  leaf-3 = is 3 refl
 
-pub leaf-exactly : (m : Call) (len next key value : ℕ)
-    → Says (limitOk (m .limit)) (nextOk len next) (lengthsOk key value) (leb (next + farLen (m .limit) value 0 + leafLen (m .limit) key value) len) (builtNumber (leafBuilt m len next key value))
-leaf-exactly m len next key value = rw (leaf-number m len next key value) (chain-says (limitOk (m .limit)) (nextOk len next) (lengthsOk key value) (leb (next + farLen (m .limit) value 0 + leafLen (m .limit) key value) len))
+  pub leaf-9 : Exactly (builtNumber (leafBuilt m len next key value) ≡ 9) (All (before 9 rows) × (leb (leafEnd m next key value) len ≡ false))
+  leaf-9 = is 9 refl
 
--- an index delta's: 2, 3, 9, or accepted
-pub index-number : (len next key : ℕ) → builtNumber (indexBuilt len next key) ≡ chain true (nextOk len next) (lengthsOk key 0) (leb (next + 0 + indexLen key) len)
-unfolding indexBuilt judged
-index-number len next key = number-by true (nextOk len next) (lengthsOk key 0) (leb (next + 0 + indexLen key) len) (next + 0) (next + 0 + indexLen key)
+  pub leaf-accepted : Exactly (builtNumber (leafBuilt m len next key value) ≡ 0) (All rows)
+  unfolding leafBuilt
+  leaf-accepted = call-accepted rows (leafAt m next value) (leafEnd m next key value)
 
-pub index-exactly : (len next key : ℕ) → Says true (nextOk len next) (lengthsOk key 0) (leb (next + 0 + indexLen key) len) (builtNumber (indexBuilt len next key))
-index-exactly len next key = rw (index-number len next key) (chain-says true (nextOk len next) (lengthsOk key 0) (leb (next + 0 + indexLen key) len))
+-- a refusal changes nothing
+pub leaf-stays : (m : Call) (a : List ℕ) (next : ℕ) (ver : Ver) (key v : List ℕ)
+    → (builtNumber (leafBuilt m (length a) next (length key) (length v)) ≡ 0 → ⊥) → leafArena m a next ver key v ≡ a
+unfolding leafBuilt leafArena
+leaf-stays m a next ver key v =
+    call-stays (leafRows m (length a) next (length key) (length v)) (leafAt m next (length v)) (leafEnd m next (length key) (length v)) a (put a next (leafDelta m next ver key v))
+
+-- ---- an index delta
+
+module _ (len next key : ℕ) where
+  abbrev irows : List Row
+  irows = indexRows len next key
+
+  index-is : (n : ℕ) → once n irows ≡ true → Exactly (builtNumber (indexBuilt len next key) ≡ n) (All (before n irows) × (asks n irows ≡ false))
+  unfolding indexBuilt
+  index-is = call-exactly irows next (next + indexLen key)
+
+  pub index-2 : Exactly (builtNumber (indexBuilt len next key) ≡ 2) (All (before 2 irows) × (nextOk len next ≡ false))
+  index-2 = index-is 2 refl
+
+  pub index-3 : Exactly (builtNumber (indexBuilt len next key) ≡ 3) (All (before 3 irows) × (pairOk key 0 ≡ false))
+  index-3 = index-is 3 refl
+
+  pub index-9 : Exactly (builtNumber (indexBuilt len next key) ≡ 9) (All (before 9 irows) × (leb (next + indexLen key) len ≡ false))
+  index-9 = index-is 9 refl
+
+  pub index-accepted : Exactly (builtNumber (indexBuilt len next key) ≡ 0) (All irows)
+  unfolding indexBuilt
+  index-accepted = call-accepted irows next (next + indexLen key)
+
+pub index-stays : (m : Call) (a : List ℕ) (next : ℕ) (key : List ℕ) (page : PageId)
+    → (builtNumber (indexBuilt (length a) next (length key)) ≡ 0 → ⊥) → indexArena m a next key page ≡ a
+unfolding indexBuilt indexArena
+index-stays m a next key page = call-stays (indexRows (length a) next (length key)) next (next + indexLen (length key)) a (put a next (indexFrame m key page))

@@ -3,9 +3,11 @@
 use build_image::Built;
 use build_image::Call;
 use frames::Addr;
+use frames::BaseHeader;
 use frames::BoxHeader;
 use frames::Delta;
 use frames::DeltaRead;
+use frames::NULL_ADDR;
 use frames::PageId;
 use frames::Refusal;
 use frames::RemoteRead;
@@ -18,61 +20,47 @@ ghost use mathlib.Core.Path.{_≡_};
 ghost use Prim.Native.Nat.{_+_, _≤_};
 ghost use lib.ListN.{length};
 ghost use Rattle.spans.specs.Span.{put};
+ghost use Rattle.frames.specs.Layout.{deltaKeyAt};
+ghost use Rattle.frames.specs.Limits.{maxKey, maxLimit, maxValue};
 ghost use Rattle.build_image.specs.Call.{callOf};
-ghost use Rattle.delta.specs.Deltas.{valueOf, farOf, deltaHead, leafFrame, indexFrame, leafDelta, leafKeyLen, indexKeyLen, leafLen, indexLen};
-ghost use Rattle.delta.specs.Built.{lengthsOk, addressOr, leafBuilt, indexBuilt, afterwards};
+ghost use Rattle.delta.specs.Deltas.{valueOf, remoteOf, deltaHead, leafFrame, indexFrame, leafLen, indexLen};
+ghost use Rattle.delta.specs.Built.{addressOr, leafBuilt, leafArena, indexBuilt, indexArena, pairOk};
 ghost use Rattle.delta.specs.Read.{deltaIs, keyIn, leafKeyAt, indexKeyAt, valueTo, valIn, valueAt, childAt};
 
 // ---- judging
 
 // "A delta's key and value over their limits are 3".
 fn lengths_ok(key: usize, value: usize) -> bool
-    ensures { λ r. ⌜ r ≡ lengthsOk key value ⌝ }
+    ensures { λ r. ⌜ r ≡ pairOk key value ⌝ }
 {
-    (key <= 4096) & (value <= 65536)
-}
-
-// A leaf key's encoded size.
-fn leaf_key_len(n: usize) -> usize
-    requires { ⌜ n ≤ 4096 ⌝ }
-    ensures { λ r. ⌜ r ≡ leafKeyLen n ⌝ }
-{
-    lengths::size((12 + n) as u32) + 12 + n
-}
-
-// An index key's.
-fn index_key_len(n: usize) -> usize
-    requires { ⌜ n ≤ 4096 ⌝ }
-    ensures { λ r. ⌜ r ≡ indexKeyLen n ⌝ }
-{
-    lengths::size(n as u32) + n
+    (key <= BaseHeader::MAX_KEY) & (value <= BaseHeader::MAX_VALUE)
 }
 
 // A leaf delta's frame, rounded.
 fn leaf_len(limit: usize, key: usize, value: usize) -> usize
-    requires { ⌜ (key ≤ 4096) × (value ≤ 65536) × (limit ≤ 65536) ⌝ }
+    requires { ⌜ (key ≤ maxKey) × (value ≤ maxValue) × (limit ≤ maxLimit) ⌝ }
     ensures { λ r. ⌜ r ≡ leafLen limit key value ⌝ }
 {
-    let k = leaf_key_len(key);
+    let k = values::leaf_key_size(key as u16);
     let v = Val::calc_size(false, limit, value as u32);
     frames::frame_len((8 + k + v) as u32)
 }
 
 // An index delta's frame, rounded.
 fn index_len(key: usize) -> usize
-    requires { ⌜ key ≤ 4096 ⌝ }
+    requires { ⌜ key ≤ maxKey ⌝ }
     ensures { λ r. ⌜ r ≡ indexLen key ⌝ }
 {
-    let k = index_key_len(key);
+    let k = values::index_key_size(key as u16);
     frames::frame_len((8 + k + 8) as u32)
 }
 
 // A delta's address behind its remote frame; 0 where the clerk has no room for both.
-fn placed(next: usize, limit: usize, far: usize, len: usize) -> usize
-    requires { ⌜ (8 ≤ next) × (far + len ≤ 1000000) ⌝ }
-    ensures { λ r. ⌜ r ≡ addressOr next limit far len ⌝ }
+fn placed(next: usize, limit: usize, remote: usize, len: usize) -> usize
+    requires { ⌜ (8 ≤ next) × (remote + len ≤ 1000000) ⌝ }
+    ensures { λ r. ⌜ r ≡ addressOr next limit remote len ⌝ }
 {
-    let t = clerks::alloc_from(Addr(next as u64), limit as u64, far as u64);
+    let t = clerks::alloc_from(Addr(next as u64), limit as u64, remote as u64);
     if t.addr.0 == 0 {
         return 0;
     }
@@ -85,10 +73,10 @@ fn placed(next: usize, limit: usize, far: usize, len: usize) -> usize
 // ---- writing
 
 // The remote frame of a value at or above the limit; nothing below it.
-fn put_far(a: &mut [u8], at: usize, m: Call, v: &[u8])
-    requires { ⌜ length (now v) ≤ 65536 ⌝ }
-    requires { ⌜ at + length (farOf m (now v)) ≤ length (now a) ⌝ }
-    ensures { λ _. ⌜ now (a .exit) ≡ put (now (a .entry)) at (farOf m (now (v .entry))) ⌝ }
+fn put_remote(a: &mut [u8], at: usize, m: Call, v: &[u8])
+    requires { ⌜ length (now v) ≤ maxValue ⌝ }
+    requires { ⌜ at + length (remoteOf m (now v)) ≤ length (now a) ⌝ }
+    ensures { λ _. ⌜ now (a .exit) ≡ put (now (a .entry)) at (remoteOf m (now (v .entry))) ⌝ }
 {
     let n = v.len();
     if n < m.limit {
@@ -98,13 +86,13 @@ fn put_far(a: &mut [u8], at: usize, m: Call, v: &[u8])
 }
 
 // A value: its bytes, or the address of its remote frame.
-fn put_value(a: &mut [u8], at: usize, limit: usize, far: usize, v: &[u8])
-    requires { ⌜ length (now v) ≤ 65536 ⌝ }
-    requires { ⌜ at + length (valueOf limit far (now v)) ≤ length (now a) ⌝ }
-    ensures { λ _. ⌜ now (a .exit) ≡ put (now (a .entry)) at (valueOf limit far (now (v .entry))) ⌝ }
+fn put_value(a: &mut [u8], at: usize, limit: usize, remote: usize, v: &[u8])
+    requires { ⌜ length (now v) ≤ maxValue ⌝ }
+    requires { ⌜ at + length (valueOf limit remote (now v)) ≤ length (now a) ⌝ }
+    ensures { λ _. ⌜ now (a .exit) ≡ put (now (a .entry)) at (valueOf limit remote (now (v .entry))) ⌝ }
 {
     let h = HistRef {
-        page: Addr(0),
+        page: NULL_ADDR,
         slot: 0,
         count: 0,
     };
@@ -112,23 +100,23 @@ fn put_value(a: &mut [u8], at: usize, limit: usize, far: usize, v: &[u8])
     if n < limit {
         let i = Val::encode_inline(a, at, h, v);
     } else {
-        let r = Val::encode_remote(a, at, h, n, Addr(far as u64));
+        let r = Val::encode_remote(a, at, h, n, Addr(remote as u64));
     }
 }
 
 // A delta's box header and its two lengths.
 fn put_head(a: &mut [u8], at: usize, m: Call, node: u8, k: usize, v: usize)
-    requires { ⌜ at + 40 ≤ length (now a) ⌝ }
+    requires { ⌜ at + deltaKeyAt ≤ length (now a) ⌝ }
     requires { ⌜ k + v ≤ 1000000 ⌝ }
     ensures { λ _. ⌜ now (a .exit) ≡ put (now (a .entry)) at (deltaHead m node k v) ⌝ }
 {
     let h = BoxHeader {
         payload_size: (8 + k + v) as u32,
-        kind: 2,
+        box_kind: BoxHeader::DELTA,
         node_type: node,
         flag: 0,
         group: m.group,
-        link: Addr(0),
+        link: NULL_ADDR,
         txid: m.txid,
         lsn: m.lsn,
     };
@@ -139,33 +127,33 @@ fn put_head(a: &mut [u8], at: usize, m: Call, node: u8, k: usize, v: usize)
 }
 
 // A leaf delta's frame; far is its remote frame's address.
-fn put_leaf(a: &mut [u8], at: usize, m: Call, far: usize, ver: Ver, key: &[u8], v: &[u8])
-    requires { ⌜ (length (now key) ≤ 4096) × (length (now v) ≤ 65536) × (m .limit ≤ 65536) ⌝ }
-    requires { ⌜ at + length (leafFrame m far ver (now key) (now v)) ≤ length (now a) ⌝ }
-    ensures { λ _. ⌜ now (a .exit) ≡ put (now (a .entry)) at (leafFrame m far ver (now (key .entry)) (now (v .entry))) ⌝ }
+fn put_leaf(a: &mut [u8], at: usize, m: Call, remote: usize, ver: Ver, key: &[u8], v: &[u8])
+    requires { ⌜ (length (now key) ≤ maxKey) × (length (now v) ≤ maxValue) × (m .limit ≤ maxLimit) ⌝ }
+    requires { ⌜ at + length (leafFrame m remote ver (now key) (now v)) ≤ length (now a) ⌝ }
+    ensures { λ _. ⌜ now (a .exit) ≡ put (now (a .entry)) at (leafFrame m remote ver (now (key .entry)) (now (v .entry))) ⌝ }
 {
-    let k = leaf_key_len(key.len());
+    let k = values::leaf_key_size(key.len() as u16);
     let n = Val::calc_size(false, m.limit, v.len() as u32);
-    let z = frames::frame_len((8 + k + n) as u32) - (32 + (8 + k + n));
-    put_head(a, at, m, 1, k, n);
-    let p = at + 40;
+    let z = frames::frame_len((8 + k + n) as u32) - (BoxHeader::HDR_LEN + (8 + k + n));
+    put_head(a, at, m, BoxHeader::LEAF, k, n);
+    let p = at + Delta::KEY_AT;
     let w = values::write_leaf_key(a, p, ver, key);
     let q = p + k;
-    put_value(a, q, m.limit, far, v);
+    put_value(a, q, m.limit, remote, v);
     let e = q + n;
     spans::zeros(a, e, z);
 }
 
 // An index delta's frame.
 fn put_index(a: &mut [u8], at: usize, m: Call, key: &[u8], page: PageId)
-    requires { ⌜ length (now key) ≤ 4096 ⌝ }
+    requires { ⌜ length (now key) ≤ maxKey ⌝ }
     requires { ⌜ at + length (indexFrame m (now key) page) ≤ length (now a) ⌝ }
     ensures { λ _. ⌜ now (a .exit) ≡ put (now (a .entry)) at (indexFrame m (now (key .entry)) page) ⌝ }
 {
-    let k = index_key_len(key.len());
-    let z = frames::frame_len((8 + k + 8) as u32) - (32 + (8 + k + 8));
-    put_head(a, at, m, 2, k, 8);
-    let p = at + 40;
+    let k = values::index_key_size(key.len() as u16);
+    let z = frames::frame_len((8 + k + 8) as u32) - (BoxHeader::HDR_LEN + (8 + k + 8));
+    put_head(a, at, m, BoxHeader::INDEX, k, 8);
+    let p = at + Delta::KEY_AT;
     let w = values::write_index_key(a, p, key);
     let q = p + k;
     numbers::put_u64(a, q, page.0);
@@ -188,7 +176,7 @@ pub fn from_key_val(
     value: &[u8],
 ) -> Built
     ensures { λ r. ⌜ r ≡ leafBuilt (callOf limit 0 group (ver .txid) lsn ckpt) (length (now (a .entry))) next (length (now (key .entry))) (length (now (value .entry))) ⌝ }
-    ensures { λ r. ⌜ now (a .exit) ≡ afterwards r (now (a .entry)) next (leafDelta (callOf limit 0 group (ver .txid) lsn ckpt) next ver (now (key .entry)) (now (value .entry))) ⌝ }
+    ensures { λ _. ⌜ now (a .exit) ≡ leafArena (callOf limit 0 group (ver .txid) lsn ckpt) (now (a .entry)) next ver (now (key .entry)) (now (value .entry)) ⌝ }
 {
     if !build_image::limit_ok(limit) {
         return Built::Refused(Refusal::BadLimit);
@@ -199,14 +187,14 @@ pub fn from_key_val(
     if !lengths_ok(key.len(), value.len()) {
         return Built::Refused(Refusal::BadList);
     }
-    let far = build_image::far_len(limit, value.len(), Addr(0));
+    let remote = build_image::remote_len(limit, value.len(), NULL_ADDR);
     let len = leaf_len(limit, key.len(), value.len());
-    let at = placed(next, a.len(), far, len);
+    let at = placed(next, a.len(), remote, len);
     if at == 0 {
         return Built::Refused(Refusal::NoRoom);
     }
     let m = build_image::call_of(limit, 0, group, ver.txid, lsn, ckpt);
-    put_far(a, next, m, value);
+    put_remote(a, next, m, value);
     put_leaf(a, at, m, next, ver, key, value);
     Built::At(Addr(at as u64), at + len)
 }
@@ -223,7 +211,7 @@ pub fn from_key_index(
     page: PageId,
 ) -> Built
     ensures { λ r. ⌜ r ≡ indexBuilt (length (now (a .entry))) next (length (now (key .entry))) ⌝ }
-    ensures { λ r. ⌜ now (a .exit) ≡ afterwards r (now (a .entry)) next (indexFrame (callOf 0 0 group txid lsn ckpt) (now (key .entry)) page) ⌝ }
+    ensures { λ _. ⌜ now (a .exit) ≡ indexArena (callOf 0 0 group txid lsn ckpt) (now (a .entry)) next (now (key .entry)) page ⌝ }
 {
     if !build_image::next_ok(a.len(), next) {
         return Built::Refused(Refusal::BadArena);
@@ -267,7 +255,7 @@ pub enum Child {
     Refused(Refusal),
 }
 
-// The delta at an address whose node type is the wanted one: 1 leaf, 2 index.
+// The delta at an address whose node type is the wanted one.
 fn delta_of(s: &[u8], a: Addr, node: u8) -> DeltaRead
     ensures { λ r. ⌜ r ≡ deltaIs (now (s .entry)) a node ⌝ }
 {
@@ -294,7 +282,7 @@ fn key_in(s: &[u8], d: Delta, kind: u8) -> KeyRead
     else {
         return KeyRead::Bad;
     };
-    if 4096 < rest_len {
+    if BaseHeader::MAX_KEY < rest_len {
         return KeyRead::Bad;
     }
     if rest_at + rest_len != e {
@@ -311,7 +299,7 @@ fn key_in(s: &[u8], d: Delta, kind: u8) -> KeyRead
 pub fn key(s: &[u8], a: Addr) -> LeafKey
     ensures { λ r. ⌜ r ≡ leafKeyAt (now (s .entry)) a ⌝ }
 {
-    let DeltaRead::Is(d) = delta_of(s, a, 1) else {
+    let DeltaRead::Is(d) = delta_of(s, a, BoxHeader::LEAF) else {
         return LeafKey::Refused(Refusal::BadFrame);
     };
     let KeyRead::Key {
@@ -334,7 +322,7 @@ pub fn key(s: &[u8], a: Addr) -> LeafKey
 pub fn index_key(s: &[u8], a: Addr) -> IndexKey
     ensures { λ r. ⌜ r ≡ indexKeyAt (now (s .entry)) a ⌝ }
 {
-    let DeltaRead::Is(d) = delta_of(s, a, 2) else {
+    let DeltaRead::Is(d) = delta_of(s, a, BoxHeader::INDEX) else {
         return IndexKey::Refused(Refusal::BadFrame);
     };
     let KeyRead::Key {
@@ -393,7 +381,7 @@ fn val_in(s: &[u8], d: Delta) -> Value
 pub fn val(s: &[u8], a: Addr) -> Value
     ensures { λ r. ⌜ r ≡ valueAt (now (s .entry)) a ⌝ }
 {
-    let DeltaRead::Is(d) = delta_of(s, a, 1) else {
+    let DeltaRead::Is(d) = delta_of(s, a, BoxHeader::LEAF) else {
         return Value::Refused(Refusal::BadFrame);
     };
     val_in(s, d)
@@ -403,7 +391,7 @@ pub fn val(s: &[u8], a: Addr) -> Value
 pub fn index(s: &[u8], a: Addr) -> Child
     ensures { λ r. ⌜ r ≡ childAt (now (s .entry)) a ⌝ }
 {
-    let DeltaRead::Is(d) = delta_of(s, a, 2) else {
+    let DeltaRead::Is(d) = delta_of(s, a, BoxHeader::INDEX) else {
         return Child::Refused(Refusal::BadFrame);
     };
     let p = d.val_at;

@@ -19,7 +19,7 @@ use Rattle.frames.specs.declared.Opened.{Opened}
 use Rattle.frames.specs.declared.RemoteRead.{RemoteRead}
 use Rattle.frames.specs.declared.Delta.{Delta}
 use Rattle.frames.specs.declared.DeltaRead.{DeltaRead}
-use Rattle.frames.specs.Layout.{boxLen, baseLen, frameLen, boxFields, addressOk, kindsOk, flagOk, linkOk, remoteOk, boxOk, boxAt, baseFields, zerosOk, leafOk, indexOk, manyOk, historyOk, payloadOk, lengthsOk, baseOk, pageOf, pageAt, kindOf, bodyOf, openOf, openAt, Inside, remoteOf, remoteAt, cutAt, deltaOf, deltaAt}
+use Rattle.frames.specs.Layout.{boxLen, baseLen, deltaLens, boxBase, boxDelta, boxRemote, frameLen, boxFields, addressOk, boxKindOk, flagOk, linkOk, remoteOk, boxOk, boxAt, baseFields, zerosOk, leafOk, indexOk, manyOk, historyOk, payloadOk, lengthsOk, baseOk, pageOf, pageAt, kindOf, bodyOf, openOf, openAt, Inside, remoteOf, remoteAt, cutAt, deltaOf, deltaAt}
 use Rattle.spans.proofs.Tests.{ask}
 
 -- ---- what a conjunction that holds says of its parts (they belong to `spans`' Tests)
@@ -55,9 +55,9 @@ framed s a h e =
     let a1 = ask (leb (at + boxLen) (length s)) _ FrameRead.Bad (FrameRead.Frame h) (frame-no h) e in
     let a2 = ask (boxOk k at (length s)) _ FrameRead.Bad (FrameRead.Frame h) (frame-no h) (a1 .1) in
     let x : k ≡ h = cc in
-    let p4 = addressOk at && kindsOk k && flagOk k && linkOk k at in
+    let p4 = addressOk at && boxKindOk k && flagOk k && linkOk k at in
     let b5 = and-l (p4 && remoteOk k) (leb (at + frameLen (k .«payload_size»)) (length s)) (a2 .0) in
-    let b1 = and-l (addressOk at) (kindsOk k) (and-l (addressOk at && kindsOk k) (flagOk k) (and-l (addressOk at && kindsOk k && flagOk k) (linkOk k at) (and-l p4 (remoteOk k) b5))) in
+    let b1 = and-l (addressOk at) (boxKindOk k) (and-l (addressOk at && boxKindOk k) (flagOk k) (and-l (addressOk at && boxKindOk k && flagOk k) (linkOk k at) (and-l p4 (remoteOk k) b5))) in
     rw (← x)
     (record {
       read = refl;
@@ -100,7 +100,7 @@ page-sizes s a x h e = go (boxAt s a) refl e
     go : (f : FrameRead) → boxAt s a ≡ f → pageOf s (a .0) f ≡ PageRead.Page x h → Sizes s a x h
     go (FrameRead.Frame y) q e′ =
         let b = baseFields s (a .0 + boxLen) in
-        let a1 = ask (eqb (y .kind) 1) _ PageRead.Bad (PageRead.Page x h) (page-no x h) e′ in
+        let a1 = ask (eqb (y .«box_kind») boxBase) _ PageRead.Bad (PageRead.Page x h) (page-no x h) e′ in
         let a2 = ask (leb baseLen (y .«payload_size»)) _ PageRead.Bad (PageRead.Page x h) (page-no x h) (a1 .1) in
         let a3 = ask (baseOk y b) _ PageRead.Bad (PageRead.Page x h) (page-no x h) (a2 .1) in
         let i : y ≡ x = cc in
@@ -131,7 +131,7 @@ remote-inside s a n p e = go (boxAt s a) refl e
 
     go : (f : FrameRead) → boxAt s a ≡ f → remoteOf s (a .0) n f ≡ RemoteRead.At p → p + n ≤ length s
     go (FrameRead.Frame h) q e′ =
-        let a1 = ask (eqb (h .kind) 3) _ RemoteRead.Bad (RemoteRead.At p) no e′ in
+        let a1 = ask (eqb (h .«box_kind») boxRemote) _ RemoteRead.Bad (RemoteRead.At p) no e′ in
         let a2 = ask (eqb (h .«payload_size») (8 + n)) _ RemoteRead.Bad (RemoteRead.At p) no (a1 .1) in
         let a3 = ask (eqb (leAt 8 s (a .0 + boxLen)) n) _ RemoteRead.Bad (RemoteRead.At p) no (a2 .1) in
         let x : a .0 + boxLen + 8 ≡ p = cc in
@@ -154,14 +154,14 @@ delta-inside s a d e = go (boxAt s a) refl e
     go : (f : FrameRead) → boxAt s a ≡ f → deltaOf s (a .0) f ≡ DeltaRead.Is d → DeltaInside s d
     go (FrameRead.Frame h) q e′ =
         let p = a .0 + boxLen in
-        let a1 = ask (eqb (h .kind) 2) _ DeltaRead.Bad (DeltaRead.Is d) no e′ in
-        let a2 = ask (leb 8 (h .«payload_size»)) _ DeltaRead.Bad (DeltaRead.Is d) no (a1 .1) in
-        let a3 = ask (eqb (h .«payload_size») (8 + leAt 4 s p + leAt 4 s (p + 4))) _ DeltaRead.Bad (DeltaRead.Is d) no (a2 .1) in
+        let a1 = ask (eqb (h .«box_kind») boxDelta) _ DeltaRead.Bad (DeltaRead.Is d) no e′ in
+        let a2 = ask (leb deltaLens (h .«payload_size»)) _ DeltaRead.Bad (DeltaRead.Is d) no (a1 .1) in
+        let a3 = ask (eqb (h .«payload_size») (deltaLens + leAt 4 s p + leAt 4 s (p + 4))) _ DeltaRead.Bad (DeltaRead.Is d) no (a2 .1) in
         let x : cutAt s p h ≡ d = cc in
         rw (← x)
         (record {
           key = omega arith;
           val = omega arith;
-          arena = omega (arith, framed s a h q .room, eqb-true (h .«payload_size») (8 + leAt 4 s p + leAt 4 s (p + 4)) (a3 .0));
+          arena = omega (arith, framed s a h q .room, eqb-true (h .«payload_size») (deltaLens + leAt 4 s p + leAt 4 s (p + 4)) (a3 .0));
         })
     go FrameRead.Bad q e′ = absurd (no e′)

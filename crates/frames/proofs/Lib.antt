@@ -1,4 +1,5 @@
 -- The crate's laws.
+pub mod Refusals
 pub mod Frames
 pub mod Judged
 pub mod Stores

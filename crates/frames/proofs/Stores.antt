@@ -7,14 +7,15 @@ use native.Mathlib.Nat.{mod-eq-of-lt, add-zero}
 use native.Mathlib.Omega.{arith}
 use lib.ListN.{length, getD, length-append}
 use Rattle.spans.specs.Span.{part, put, Lies}
-use Rattle.spans.proofs.Put.{put-next}
+use Rattle.spans.proofs.Put.{put-next, put-chain}
 use Rattle.spans.proofs.Part.{part-part, part-add, part-one, getD-part, length-part}
+use Rattle.spans.proofs.Lying.{lies-front, lies-back}
 use Rattle.numbers.specs.Number.{le, ofLe, leAt, Bytes}
 use Rattle.numbers.proofs.Numbers.{length-le, ofLe-le-small, le-ofLe, bytes-part}
 use Rattle.frames.specs.declared.BoxHeader.{BoxHeader}
 use Rattle.frames.specs.declared.BaseHeader.{BaseHeader}
-use Rattle.frames.specs.Layout.{boxLen, baseLen, boxFields, baseFields}
-use Rattle.frames.specs.Stored.{boxBytes, baseFront, baseBack, baseBytes}
+use Rattle.frames.specs.Layout.{boxLen, baseLen, slotsAt, boxFields, baseFields}
+use Rattle.frames.specs.Stored.{boxBytes, baseFront, baseBack, baseBytes, pageBytes, baseOf}
 
 -- ---- laws of numbers in a slice (they belong to `numbers`)
 
@@ -39,6 +40,14 @@ le-leAt s i k b h =
 pub le-byte : (s : List ℕ) (i : ℕ) → Bytes s → i + 1 ≤ length s → le 1 (getD s i 0) ≡ part s i 1
 unfolding le
 le-byte s i b h = ap (λ (v : ℕ). v ∷ []) (mod-eq-of-lt (b i)) ∙ sym (part-one s i (omega arith))
+
+-- a number, or a byte, of a part that is the same in both
+pub same-number : (s t : List ℕ) (at n i k : ℕ) → part s at n ≡ part t at n → i + k ≤ n → leAt k s (at + i) ≡ leAt k t (at + i)
+unfolding leAt
+same-number s t at n i k e h = ap ofLe (sym (part-part s at n i k h) ∙ ap (λ (y : List ℕ). part y i k) e ∙ part-part t at n i k h)
+
+pub same-byte : (s t : List ℕ) (at n i : ℕ) → part s at n ≡ part t at n → i < n → getD s (at + i) 0 ≡ getD t (at + i) 0
+same-byte s t at n i e h = sym (getD-part s at n i 0 h) ∙ ap (λ (y : List ℕ). getD y i 0) e ∙ getD-part t at n i 0 h
 
 -- one field more
 pub part-next : (s : List ℕ) (at i k j : ℕ) (x y : List ℕ) → x ≡ part s at i → y ≡ part s j k → j ≡ at + i → x ++ y ≡ part s at (i + k)
@@ -66,7 +75,7 @@ wrote-then {a} {at} {b} {x} {n} {c} y k w e l =
 
 pub record BoxFits (h : BoxHeader) : Type 0 where
   pub payload : h .«payload_size» < 256 ^ 4
-  pub kind : h .kind < 256
+  pub kind : h .«box_kind» < 256
   pub node : h .«node_type» < 256
   pub flag : h .flag < 256
   pub group : h .group < 256
@@ -86,7 +95,7 @@ box-reads s at h f l =
     λ i.
     record {
       «payload_size» = z i;
-      kind = lies-byte s at x 4 (h .kind) l (omega arith) refl (f .kind) i;
+      «box_kind» = lies-byte s at x 4 (h .«box_kind») l (omega arith) refl (f .kind) i;
       «node_type» = lies-byte s at x 5 (h .«node_type») l (omega arith) refl (f .node) i;
       flag = lies-byte s at x 6 (h .flag) l (omega arith) refl (f .flag) i;
       group = lies-byte s at x 7 (h .group) l (omega arith) refl (f .group) i;
@@ -123,6 +132,25 @@ pub record BaseFits (h : BaseHeader) : Type 0 where
   pub index : h .«is_index» < 256
   pub many : h .«has_multiple_versions» < 256
   pub padding : h .padding < 256
+
+-- what a build makes fits
+pub base-of-fits : (size elems sibling lo hi prefix index many : ℕ) → size < 256 ^ 4 → elems < 256 ^ 2 → sibling < 256 ^ 8 → lo < 256 ^ 4 → hi < 256 ^ 4 → prefix < 256 ^ 4 → index < 256 → many < 256
+    → BaseFits (baseOf size elems sibling lo hi prefix index many)
+base-of-fits size elems sibling lo hi prefix index many h₁ h₂ h₃ h₄ h₅ h₆ h₇ h₈ =
+    record {
+      size = h₁;
+      elems = h₂;
+      split = omega arith;
+      sibling = h₃;
+      child = omega arith;
+      lo = h₄;
+      hi = h₅;
+      prefix = h₆;
+      merging = omega arith;
+      index = h₇;
+      many = h₈;
+      padding = omega arith;
+    }
 
 pub length-front : (h : BaseHeader) → length (baseFront h) ≡ 24
 unfolding baseFront le
@@ -173,3 +201,43 @@ base-lies s at b h =
     let v5 = part-next s (at + 24) 14 1 (at + 38) _ _ v4 (le-byte s (at + 38) b (omega arith)) (omega arith) in
     let v6 = part-next s (at + 24) 15 1 (at + 39) _ _ v5 (le-byte s (at + 39) b (omega arith)) (omega arith) in
     ap (part s at) (length-base (baseFields s at)) ∙ sym (part-next s at 24 16 (at + 24) _ _ u4 v6 refl)
+
+-- the header is a function of its own bytes
+pub base-same : (s t : List ℕ) (at : ℕ) → part s at baseLen ≡ part t at baseLen → baseFields s at ≡ baseFields t at
+unfolding baseFields
+base-same s t at e =
+    let z : leAt 4 s at ≡ leAt 4 t at = ap (λ (k : ℕ). leAt 4 s k) (sym (add-zero at)) ∙ same-number s t at baseLen 0 4 e (omega arith) ∙ ap (λ (k : ℕ). leAt 4 t k) (add-zero at) in
+    λ i.
+    record {
+      size = z i;
+      elems = same-number s t at baseLen 4 2 e (omega arith) i;
+      «split_elems» = same-number s t at baseLen 6 2 e (omega arith) i;
+      «right_sibling» = record { 0 = same-number s t at baseLen 8 8 e (omega arith) i };
+      «merging_child» = record { 0 = same-number s t at baseLen 16 8 e (omega arith) i };
+      «lo_len» = same-number s t at baseLen 24 4 e (omega arith) i;
+      «hi_len» = same-number s t at baseLen 28 4 e (omega arith) i;
+      «prefix_len» = same-number s t at baseLen 32 4 e (omega arith) i;
+      merging = same-byte s t at baseLen 36 e (omega arith) i;
+      «is_index» = same-byte s t at baseLen 37 e (omega arith) i;
+      «has_multiple_versions» = same-byte s t at baseLen 38 e (omega arith) i;
+      padding = same-byte s t at baseLen 39 e (omega arith) i;
+    }
+
+-- ---- both headers of a page
+
+pub length-heads : (x : BoxHeader) (h : BaseHeader) → length (pageBytes x h) ≡ slotsAt
+unfolding pageBytes
+length-heads x h = length-append (boxBytes x) (baseBytes h) ∙ omega (arith, length-box x, length-base h)
+
+pub put-heads : (a : List ℕ) (at : ℕ) (x : BoxHeader) (h : BaseHeader) (a₁ a₂ : List ℕ) → a₁ ≡ put a at (boxBytes x) → a₂ ≡ put a₁ (at + boxLen) (baseBytes h) → a₂ ≡ put a at (pageBytes x h)
+unfolding pageBytes
+put-heads a at x h a₁ a₂ e₁ e₂ = put-chain a at (boxBytes x) (baseBytes h) e₁ e₂ (ap (λ (k : ℕ). at + k) (sym (length-box x)))
+
+module _ (s : List ℕ) (at : ℕ) (x : BoxHeader) (h : BaseHeader) (l : Lies s at (pageBytes x h)) where
+  pub box-of-heads : Lies s at (boxBytes x)
+  unfolding pageBytes
+  box-of-heads = lies-front s at (boxBytes x) (baseBytes h) l
+
+  pub base-of-heads : Lies s (at + boxLen) (baseBytes h)
+  unfolding pageBytes
+  base-of-heads = rw (length-box x) at (lies-back s at (boxBytes x) (baseBytes h) l)

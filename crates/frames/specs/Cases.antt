@@ -2,14 +2,14 @@
 -- Assumes nothing.
 use Prim.Native.Nat.{ℕ, _+_}
 use mathlib.Core.Path.{_≡_, refl}
-use mathlib.Core.List.{List, [], _∷_, _++_, append-assoc}
+use mathlib.Core.List.{List, [], _∷_}
 use Rattle.spans.specs.Span.{part}
 use Rattle.numbers.specs.Number.{le, ofLe, leAt}
 use Rattle.frames.specs.declared.BoxHeader.{BoxHeader}
 use Rattle.frames.specs.declared.BaseHeader.{BaseHeader}
 use Rattle.frames.specs.declared.Opened.{Opened}
-use Rattle.frames.specs.Layout.{addr, pageId, frameLen, boxFields, boxOk, boxAt, baseFields, baseOk, pageAt, kindOf, bodyOf, openAt}
-use Rattle.frames.specs.Stored.{boxBytes, baseFront, baseBack, baseBytes}
+use Rattle.frames.specs.Layout.{boxLen, baseLen, boxBase, nodeLeaf, flagSibling, addr, nullAddr, frameLen, boxFields, boxOk, boxAt, baseFields, baseOk, pageAt, kindOf, bodyOf, openAt}
+use Rattle.frames.specs.Stored.{boxBytes, baseOf, baseFront, baseBack, baseBytes}
 
 -- P7 "P5 plus (3,0) "z": history page at 8, leaf at 104, size 85, payload 101, 6 unused bytes, history (8, 0, 1), new next 240"
 unfoldable pub p7 : List ℕ
@@ -33,30 +33,16 @@ p7 =
     0 ∷ 0 ∷ 0 ∷ []
 
 abbrev pub p7HistoryBox : BoxHeader
-p7HistoryBox = record { «payload_size» = 62; kind = 1; «node_type» = 1; flag = 1; group = 0; link = addr 0; txid = 0; lsn = 0 }
+p7HistoryBox = record { «payload_size» = 62; «box_kind» = boxBase; «node_type» = nodeLeaf; flag = flagSibling; group = 0; link = nullAddr; txid = 0; lsn = 0 }
 
 abbrev pub p7LeafBox : BoxHeader
-p7LeafBox = record { «payload_size» = 101; kind = 1; «node_type» = 1; flag = 0; group = 0; link = addr 0; txid = 0; lsn = 0 }
+p7LeafBox = record { «payload_size» = 101; «box_kind» = boxBase; «node_type» = nodeLeaf; flag = 0; group = 0; link = nullAddr; txid = 0; lsn = 0 }
 
 abbrev pub p7Base : ℕ → ℕ → BaseHeader
-p7Base size many =
-    record {
-      size = size;
-      elems = 1;
-      «split_elems» = 0;
-      «right_sibling» = pageId 0;
-      «merging_child» = pageId 0;
-      «lo_len» = 0;
-      «hi_len» = 0;
-      «prefix_len» = 0;
-      merging = 0;
-      «is_index» = 0;
-      «has_multiple_versions» = many;
-      padding = 0;
-    }
+p7Base size many = baseOf size 1 0 0 0 0 0 many
 
 -- the headers' bytes stand where P7 says
-pub p7-headers : (part p7 8 32 ≡ boxBytes p7HistoryBox) × (part p7 40 40 ≡ baseBytes (p7Base 62 0)) × (part p7 104 32 ≡ boxBytes p7LeafBox) × (part p7 136 40 ≡ baseBytes (p7Base 85 1))
+pub p7-headers : (part p7 8 boxLen ≡ boxBytes p7HistoryBox) × (part p7 (8 + boxLen) baseLen ≡ baseBytes (p7Base 62 0)) × (part p7 104 boxLen ≡ boxBytes p7LeafBox) × (part p7 (104 + boxLen) baseLen ≡ baseBytes (p7Base 85 1))
 unfolding p7 part le boxBytes baseFront baseBack baseBytes
 p7-headers = (refl, refl, refl, refl)
 

@@ -1,12 +1,11 @@
 -- What the clerk hands out, and the clerk after it.
 -- Assumes nothing.
 use Prim.Native.Nat.{ℕ, _+_, _-_}
-use mathlib.Core.Bool.{Bool, cond}
+use mathlib.Core.Bool.{cond}
 use lib.Dec.{leb}
-use Rattle.frames.specs.declared.Addr.{Addr}
 use Rattle.frames.specs.declared.Clerk.{Clerk}
 use Rattle.frames.specs.declared.Taken.{Taken}
-use Rattle.frames.specs.Layout.{addr}
+use Rattle.frames.specs.Layout.{addr, nullAddr}
 
 -- the next free address, and the mark behind the bytes taken
 abbrev pub gives : Clerk → ℕ → Taken
@@ -14,7 +13,7 @@ gives c n = record { addr = c .next; clerk = record { next = addr (c .next .0 + 
 
 -- no address, and the clerk as it was
 abbrev pub refuses : Clerk → Taken
-refuses c = record { addr = addr 0; clerk = c }
+refuses c = record { addr = nullAddr; clerk = c }
 
 unfoldable pub takenOf : Clerk → ℕ → Taken
 takenOf c n = cond (leb (c .next .0) (c .limit)) (cond (leb n (c .limit - c .next .0)) (gives c n) (refuses c)) (refuses c)

@@ -18,6 +18,7 @@ use Rattle.frames.specs.declared.Opened.{Opened}
 use Rattle.frames.specs.declared.RemoteRead.{RemoteRead}
 use Rattle.frames.specs.declared.Delta.{Delta}
 use Rattle.frames.specs.declared.DeltaRead.{DeltaRead}
+use Rattle.frames.specs.Limits.{maxKey}
 
 -- "Box header, 32"; "Base header, 40"
 abbrev pub boxLen : ℕ
@@ -26,11 +27,50 @@ boxLen = 32
 abbrev pub baseLen : ℕ
 baseLen = 40
 
+-- where a page's slots stand in its frame: behind both headers
+abbrev pub slotsAt : ℕ
+slotsAt = boxLen + baseLen
+
+-- "Delta payload: klen u32, vlen u32, key, value": the two lengths, and where the key stands in its frame
+abbrev pub deltaLens : ℕ
+deltaLens = 8
+
+abbrev pub deltaKeyAt : ℕ
+deltaKeyAt = boxLen + deltaLens
+
+-- "kind u8 (1 base, 2 delta, 3 remote)"
+abbrev pub boxBase : ℕ
+boxBase = 1
+
+abbrev pub boxDelta : ℕ
+boxDelta = 2
+
+abbrev pub boxRemote : ℕ
+boxRemote = 3
+
+-- "node_type u8 (1 leaf, 2 index)"
+abbrev pub nodeLeaf : ℕ
+nodeLeaf = 1
+
+abbrev pub nodeIndex : ℕ
+nodeIndex = 2
+
+-- "flag u8 (1 sibling, else 0)"
+abbrev pub flagSibling : ℕ
+flagSibling = 1
+
 abbrev pub addr : ℕ → Addr
 addr n = record { 0 = n }
 
 abbrev pub pageId : ℕ → PageId
 pageId n = record { 0 = n }
+
+-- "0 is none (NULL_ADDR)"; "0 is also no page id (NULL_PID)"
+abbrev pub nullAddr : Addr
+nullAddr = addr 0
+
+abbrev pub nullPid : PageId
+nullPid = pageId 0
 
 -- "A frame takes 32 + payload bytes, rounded up to 8"
 abbrev pub frameLen : ℕ → ℕ
@@ -43,7 +83,7 @@ unfoldable pub boxFields : List ℕ → ℕ → BoxHeader
 boxFields s at =
     record {
       «payload_size» = leAt 4 s at;
-      kind = getD s (at + 4) 0;
+      «box_kind» = getD s (at + 4) 0;
       «node_type» = getD s (at + 5) 0;
       flag = getD s (at + 6) 0;
       group = getD s (at + 7) 0;
@@ -57,12 +97,12 @@ abbrev pub addressOk : ℕ → Bool
 addressOk at = leb 8 at && eqb (at % 8) 0
 
 -- "kind u8 (1 base, 2 delta, 3 remote); node_type u8 (1 leaf, 2 index)"
-abbrev pub kindsOk : BoxHeader → Bool
-kindsOk h = leb 1 (h .kind) && leb (h .kind) 3 && leb 1 (h .«node_type») && leb (h .«node_type») 2
+abbrev pub boxKindOk : BoxHeader → Bool
+boxKindOk h = leb boxBase (h .«box_kind») && leb (h .«box_kind») boxRemote && leb nodeLeaf (h .«node_type») && leb (h .«node_type») nodeIndex
 
 -- "A history page is: kind base, node_type leaf, flag sibling"
 abbrev pub isHistory : BoxHeader → Bool
-isHistory h = eqb (h .kind) 1 && eqb (h .«node_type») 1 && eqb (h .flag) 1
+isHistory h = eqb (h .«box_kind») boxBase && eqb (h .«node_type») nodeLeaf && eqb (h .flag) flagSibling
 
 -- "flag u8 (1 sibling, else 0)", and 1 on history pages only
 abbrev pub flagOk : BoxHeader → Bool
@@ -74,11 +114,11 @@ linkOk h at = eqb (h .link .0) 0 || (isHistory h && ltb at (h .link .0))
 
 -- "A remote frame has txid 0, node_type 1"
 abbrev pub remoteOk : BoxHeader → Bool
-remoteOk h = not (eqb (h .kind) 3) || (eqb (h .txid) 0 && eqb (h .«node_type») 1)
+remoteOk h = not (eqb (h .«box_kind») boxRemote) || (eqb (h .txid) 0 && eqb (h .«node_type») nodeLeaf)
 
 -- "An address is a frame's when that stretch lies in the arena and its box header is as laid out"
 unfoldable pub boxOk : BoxHeader → ℕ → ℕ → Bool
-boxOk h at len = addressOk at && kindsOk h && flagOk h && linkOk h at && remoteOk h && leb (at + frameLen (h .«payload_size»)) len
+boxOk h at len = addressOk at && boxKindOk h && flagOk h && linkOk h at && remoteOk h && leb (at + frameLen (h .«payload_size»)) len
 
 unfoldable pub boxAt : List ℕ → Addr → FrameRead
 boxAt s a =
@@ -113,10 +153,10 @@ zerosOk b = eqb (b .«split_elems») 0 && eqb (b .«merging_child» .0) 0 && eqb
 
 -- "is_index is 1 exactly when node_type is 2"
 abbrev pub leafOk : BoxHeader → BaseHeader → Bool
-leafOk h b = eqb (b .«is_index») 0 && eqb (h .«node_type») 1
+leafOk h b = eqb (b .«is_index») 0 && eqb (h .«node_type») nodeLeaf
 
 abbrev pub indexOk : BoxHeader → BaseHeader → Bool
-indexOk h b = eqb (b .«is_index») 1 && eqb (h .«node_type») 2
+indexOk h b = eqb (b .«is_index») 1 && eqb (h .«node_type») nodeIndex
 
 -- "has_multiple_versions is 0 or 1, and 0 on index and history pages"
 abbrev pub manyOk : BoxHeader → BaseHeader → Bool
@@ -132,7 +172,7 @@ payloadOk h b = (leafOk h b && eqb (h .flag) 0) || eqb (b .size) (h .«payload_s
 
 -- "lo_len and hi_len ≤ 4,096"
 abbrev pub lengthsOk : BaseHeader → Bool
-lengthsOk b = leb (b .«lo_len») 4096 && leb (b .«hi_len») 4096
+lengthsOk b = leb (b .«lo_len») maxKey && leb (b .«hi_len») maxKey
 
 -- "prefix_len ≤ lo_len"; "size ≤ payload_size"; "size ≥ 40 + 4·elems + lo_len + hi_len"
 unfoldable pub baseOk : BoxHeader → BaseHeader → Bool
@@ -150,7 +190,7 @@ baseOk h b =
 -- of a frame, the base page that it is
 abbrev pub pageOf : List ℕ → ℕ → FrameRead → PageRead
 pageOf s at (FrameRead.Frame h) =
-    cond (eqb (h .kind) 1)
+    cond (eqb (h .«box_kind») boxBase)
     (cond (leb baseLen (h .«payload_size»))
     (cond (baseOk h (baseFields s (at + boxLen))) (PageRead.Page h (baseFields s (at + boxLen))) PageRead.Bad)
     PageRead.Bad)
@@ -164,7 +204,7 @@ pageAt s a = pageOf s (a .0) (boxAt s a)
 
 -- leaf 0, index 1, history 2
 unfoldable pub kindOf : ℕ → ℕ → ℕ
-kindOf flag i = cond (eqb flag 1) 2 (cond (eqb i 1) 1 0)
+kindOf flag i = cond (eqb flag flagSibling) 2 (cond (eqb i 1) 1 0)
 
 -- "Page: base header, elems slots of u32, lo, hi, records. Hints follow at size"
 unfoldable pub bodyOf : Addr → BoxHeader → BaseHeader → Body
@@ -205,7 +245,7 @@ pub record Inside (s : List ℕ) (b : Body) : Type 0 where
 -- "Remote frame payload: size u64, bytes", "exactly 8 + size": where the n bytes stand
 abbrev pub remoteOf : List ℕ → ℕ → ℕ → FrameRead → RemoteRead
 remoteOf s at n (FrameRead.Frame h) =
-    cond (eqb (h .kind) 3)
+    cond (eqb (h .«box_kind») boxRemote)
     (cond (eqb (h .«payload_size») (8 + n))
     (cond (eqb (leAt 8 s (at + boxLen)) n) (RemoteRead.At (at + boxLen + 8)) RemoteRead.Bad)
     RemoteRead.Bad)
@@ -219,18 +259,18 @@ remoteAt s a n = remoteOf s (a .0) n (boxAt s a)
 abbrev pub cutAt : List ℕ → ℕ → BoxHeader → Delta
 cutAt s p h =
     record {
-      «key_at» = p + 8;
-      «val_at» = p + 8 + leAt 4 s p;
-      end = p + 8 + leAt 4 s p + leAt 4 s (p + 4);
+      «key_at» = p + deltaLens;
+      «val_at» = p + deltaLens + leAt 4 s p;
+      end = p + deltaLens + leAt 4 s p + leAt 4 s (p + 4);
       «node_type» = h .«node_type»;
       txid = h .txid;
     }
 
 abbrev pub deltaOf : List ℕ → ℕ → FrameRead → DeltaRead
 deltaOf s at (FrameRead.Frame h) =
-    cond (eqb (h .kind) 2)
-    (cond (leb 8 (h .«payload_size»))
-    (cond (eqb (h .«payload_size») (8 + leAt 4 s (at + boxLen) + leAt 4 s (at + boxLen + 4))) (DeltaRead.Is (cutAt s (at + boxLen) h)) DeltaRead.Bad)
+    cond (eqb (h .«box_kind») boxDelta)
+    (cond (leb deltaLens (h .«payload_size»))
+    (cond (eqb (h .«payload_size») (deltaLens + leAt 4 s (at + boxLen) + leAt 4 s (at + boxLen + 4))) (DeltaRead.Is (cutAt s (at + boxLen) h)) DeltaRead.Bad)
     DeltaRead.Bad)
     DeltaRead.Bad
 deltaOf s at FrameRead.Bad = DeltaRead.Bad

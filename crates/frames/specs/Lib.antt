@@ -1,5 +1,6 @@
 -- The crate's definitions.
 pub mod Refusals
+pub mod Limits
 pub mod Layout
 pub mod Stored
 pub mod Clerks

@@ -1,16 +1,17 @@
--- The two headers as bytes: their fields in order, each of its width, the lowest byte first.
+-- The two headers as bytes: their fields in order, each of its width, the lowest byte first; and the base header that a build makes.
 -- Assumes nothing.
-use mathlib.Core.List.{List, [], _++_}
+use mathlib.Core.List.{List, _++_}
 use Prim.Native.Nat.{ℕ}
 use Rattle.numbers.specs.Number.{le}
 use Rattle.frames.specs.declared.BoxHeader.{BoxHeader}
 use Rattle.frames.specs.declared.BaseHeader.{BaseHeader}
+use Rattle.frames.specs.Layout.{pageId, nullPid}
 
 -- "payload_size u32; kind u8; node_type u8; flag u8; group u8; link, txid, lsn u64"
 unfoldable pub boxBytes : BoxHeader → List ℕ
 boxBytes h =
     le 4 (h .«payload_size»)
-    ++ le 1 (h .kind)
+    ++ le 1 (h .«box_kind»)
     ++ le 1 (h .«node_type»)
     ++ le 1 (h .flag)
     ++ le 1 (h .group)
@@ -35,3 +36,26 @@ baseBack h =
 
 unfoldable pub baseBytes : BaseHeader → List ℕ
 baseBytes h = baseFront h ++ baseBack h
+
+-- both headers of a page
+unfoldable pub pageBytes : BoxHeader → BaseHeader → List ℕ
+unfolding boxBytes baseBytes
+pageBytes x h = boxBytes x ++ baseBytes h
+
+-- "split_elems, merging_child, merging and padding are 0"
+abbrev pub baseOf : ℕ → ℕ → ℕ → ℕ → ℕ → ℕ → ℕ → ℕ → BaseHeader
+baseOf size elems sibling lo hi prefix index many =
+    record {
+      size = size;
+      elems = elems;
+      «split_elems» = 0;
+      «right_sibling» = pageId sibling;
+      «merging_child» = nullPid;
+      «lo_len» = lo;
+      «hi_len» = hi;
+      «prefix_len» = prefix;
+      merging = 0;
+      «is_index» = index;
+      «has_multiple_versions» = many;
+      padding = 0;
+    }

@@ -6,8 +6,8 @@ ghost use Prim.Native.Nat.{_+_, _*_, _≤_, _<_, _^_};
 ghost use lib.ListN.{length};
 ghost use Rattle.spans.specs.Span.{put};
 ghost use Rattle.frames.specs.Refusals.{numberOf};
-ghost use Rattle.frames.specs.Layout.{boxLen, baseLen, frameLen, boxFields, boxOk, boxAt, baseFields, baseOk, pageAt, kindOf, bodyOf, openAt, remoteAt, deltaAt};
-ghost use Rattle.frames.specs.Stored.{boxBytes, baseFront, baseBack, baseBytes};
+ghost use Rattle.frames.specs.Layout.{boxLen, baseLen, slotsAt, boxBase, frameLen, boxFields, boxOk, boxAt, baseFields, baseOk, pageAt, kindOf, bodyOf, openAt, remoteAt, deltaAt};
+ghost use Rattle.frames.specs.Stored.{boxBytes, baseOf, baseFront, baseBack, baseBytes, pageBytes};
 ghost use Rattle.frames.specs.Clerks.{takenOf};
 
 // Why a call refuses: document 01's table.
@@ -45,9 +45,13 @@ pub struct Addr(pub u64);
 // A node's name, which outlives its frames; 0 is none.
 pub struct PageId(pub u64);
 
+pub const NULL_ADDR: Addr = Addr(0);
+
+pub const NULL_PID: PageId = PageId(0);
+
 pub struct BoxHeader {
     pub payload_size: u32,
-    pub kind: u8,
+    pub box_kind: u8,
     pub node_type: u8,
     pub flag: u8,
     pub group: u8,
@@ -91,6 +95,18 @@ pub fn frame_len(payload: u32) -> usize
 
 impl BoxHeader {
     pub const HDR_LEN: usize = 32;
+    // kind
+    pub const BASE: u8 = 1;
+
+    pub const DELTA: u8 = 2;
+
+    pub const REMOTE: u8 = 3;
+    // node_type
+    pub const LEAF: u8 = 1;
+
+    pub const INDEX: u8 = 2;
+    // flag
+    pub const SIBLING: u8 = 1;
 
     fn fields(s: &[u8], at: usize) -> BoxHeader
         requires { ⌜ at + boxLen ≤ length (now s) ⌝ }
@@ -98,7 +114,7 @@ impl BoxHeader {
     {
         BoxHeader {
             payload_size: numbers::read_u32(s, at),
-            kind: s[at + 4],
+            box_kind: s[at + 4],
             node_type: s[at + 5],
             flag: s[at + 6],
             group: s[at + 7],
@@ -114,14 +130,17 @@ impl BoxHeader {
         ensures { λ r. ⌜ r ≡ boxOk self at len ⌝ }
     {
         let address = (8 <= at) & (at % 8 == 0);
-        let kinds = (1 <= self.kind)
-            & (self.kind <= 3)
-            & (1 <= self.node_type)
-            & (self.node_type <= 2);
-        let history = (self.kind == 1) & (self.node_type == 1) & (self.flag == 1);
+        let kinds = (BoxHeader::BASE <= self.box_kind)
+            & (self.box_kind <= BoxHeader::REMOTE)
+            & (BoxHeader::LEAF <= self.node_type)
+            & (self.node_type <= BoxHeader::INDEX);
+        let history = (self.box_kind == BoxHeader::BASE)
+            & (self.node_type == BoxHeader::LEAF)
+            & (self.flag == BoxHeader::SIBLING);
         let flag = (self.flag == 0) | history;
         let link = (self.link.0 == 0) | (history & ((at as u64) < self.link.0));
-        let remote = (self.kind != 3) | ((self.txid == 0) & (self.node_type == 1));
+        let remote = (self.box_kind != BoxHeader::REMOTE)
+            | ((self.txid == 0) & (self.node_type == BoxHeader::LEAF));
         address & kinds & flag & link & remote & (at + frame_len(self.payload_size) <= len)
     }
 
@@ -142,8 +161,53 @@ impl BoxHeader {
 
 impl BaseHeader {
     pub const HDR_LEN: usize = 40;
+    // Where a page's slots stand in its frame: behind both headers.
+    pub const SLOTS_AT: usize = BoxHeader::HDR_LEN + BaseHeader::HDR_LEN;
     // The default of what a history page may hold.
-    pub const HIST_PAGE_BUDGET: usize = 131072;
+    pub const HIST_PAGE_BUDGET: usize = BaseHeader::MAX_BUDGET;
+    // Document 01's table of refusals: a key or boundary, a value, the inline limit, the budget, entries, size with hint room.
+    pub const MAX_KEY: usize = 4096;
+
+    pub const MAX_VALUE: usize = 65536;
+
+    pub const MAX_LIMIT: usize = 65536;
+
+    pub const MIN_BUDGET: usize = 256;
+
+    pub const MAX_BUDGET: usize = 131072;
+
+    pub const MAX_ENTRIES: usize = 65535;
+
+    pub const MAX_SIZE: usize = 16777216;
+
+    // The one maker of a header: what document 01 says is 0 stands here alone.
+    pub fn new(
+        size: u32,
+        elems: u16,
+        sibling: PageId,
+        lo: u32,
+        hi: u32,
+        prefix: u32,
+        index: u8,
+        many: u8,
+    ) -> BaseHeader
+        ensures { λ r. ⌜ r ≡ baseOf size elems (sibling .0) lo hi prefix index many ⌝ }
+    {
+        BaseHeader {
+            size: size,
+            elems: elems,
+            split_elems: 0,
+            right_sibling: sibling,
+            merging_child: NULL_PID,
+            lo_len: lo,
+            hi_len: hi,
+            prefix_len: prefix,
+            merging: 0,
+            is_index: index,
+            has_multiple_versions: many,
+            padding: 0,
+        }
+    }
 
     fn fields(s: &[u8], at: usize) -> BaseHeader
         requires { ⌜ at + baseLen ≤ length (now s) ⌝ }
@@ -183,14 +247,15 @@ impl BaseHeader {
             & (self.merging_child.0 == 0)
             & (self.merging == 0)
             & (self.padding == 0);
-        let leaf = (self.is_index == 0) & (h.node_type == 1);
-        let index = (self.is_index == 1) & (h.node_type == 2);
+        let leaf = (self.is_index == 0) & (h.node_type == BoxHeader::LEAF);
+        let index = (self.is_index == 1) & (h.node_type == BoxHeader::INDEX);
         let many = (self.has_multiple_versions == 0)
             | ((self.has_multiple_versions == 1) & leaf & (h.flag == 0));
         let bounds = (self.lo_len == 0) & (self.hi_len == 0) & (self.right_sibling.0 == 0);
         let history = (h.flag == 0) | ((1 <= self.elems) & bounds);
         let hints = (leaf & (h.flag == 0)) | (self.size == h.payload_size);
-        let lengths = (self.lo_len <= 4096) & (self.hi_len <= 4096);
+        let lengths = (self.lo_len as usize <= BaseHeader::MAX_KEY)
+            & (self.hi_len as usize <= BaseHeader::MAX_KEY);
         zeros
             & (leaf | index)
             & many
@@ -209,7 +274,7 @@ impl BaseHeader {
         let FrameRead::Frame(h) = BoxHeader::at(s, a) else {
             return PageRead::Bad;
         };
-        if h.kind != 1 {
+        if h.box_kind != BoxHeader::BASE {
             return PageRead::Bad;
         }
         if (h.payload_size as usize) < BaseHeader::HDR_LEN {
@@ -231,7 +296,7 @@ pub fn put_box(buf: &mut [u8], at: usize, h: BoxHeader)
     ensures { λ _. ⌜ now (buf .exit) ≡ put (now (buf .entry)) at (boxBytes h) ⌝ }
 {
     numbers::put_u32(buf, at, h.payload_size);
-    numbers::put_u8(buf, at + 4, h.kind);
+    numbers::put_u8(buf, at + 4, h.box_kind);
     numbers::put_u8(buf, at + 5, h.node_type);
     numbers::put_u8(buf, at + 6, h.flag);
     numbers::put_u8(buf, at + 7, h.group);
@@ -267,12 +332,21 @@ fn put_base_back(buf: &mut [u8], at: usize, h: BaseHeader)
 }
 
 // Stores a base header.
-pub fn put_base(buf: &mut [u8], at: usize, h: BaseHeader)
+fn put_base(buf: &mut [u8], at: usize, h: BaseHeader)
     requires { ⌜ at + baseLen ≤ length (now buf) ⌝ }
     ensures { λ _. ⌜ now (buf .exit) ≡ put (now (buf .entry)) at (baseBytes h) ⌝ }
 {
     put_base_front(buf, at, h);
     put_base_back(buf, at + 24, h);
+}
+
+// Stores both headers of a page: the one writer of them.
+pub fn put_page(buf: &mut [u8], at: usize, x: BoxHeader, h: BaseHeader)
+    requires { ⌜ at + slotsAt ≤ length (now buf) ⌝ }
+    ensures { λ _. ⌜ now (buf .exit) ≡ put (now (buf .entry)) at (pageBytes x h) ⌝ }
+{
+    put_box(buf, at, x);
+    put_base(buf, at + BoxHeader::HDR_LEN, h);
 }
 
 // Where a page stands in the arena: its base header, its end, its payload's end, where its records begin; and what its headers say.
@@ -307,7 +381,7 @@ pub enum Opened {
 fn kind_of(flag: u8, is_index: u8) -> u8
     ensures { λ r. ⌜ r ≡ kindOf flag «is_index» ⌝ }
 {
-    if flag == 1 {
+    if flag == BoxHeader::SIBLING {
         return Body::HISTORY;
     }
     if is_index == 1 {
@@ -348,19 +422,20 @@ fn body_of(a: Addr, x: BoxHeader, h: BaseHeader) -> Body
 // Whether both headers are those of a leaf or an index page: in fewer tests than `ok` of both, since flag and link are 0 there.
 fn plain(x: BoxHeader, h: BaseHeader, at: usize, len: usize) -> bool
     requires { ⌜ (at ≤ len) × (len < 2 ^ 63) ⌝ }
-    ensures { λ r. ⌜ (r ≡ true → (boxOk x at len ≡ true) × (x .kind ≡ 1) × (baseOk x h ≡ true)) ⌝ }
+    ensures { λ r. ⌜ (r ≡ true → (boxOk x at len ≡ true) × (x .«box_kind» ≡ boxBase) × (baseOk x h ≡ true)) ⌝ }
 {
     let address = (8 <= at) & (at % 8 == 0);
-    let base = (x.kind == 1) & (x.flag == 0) & (x.link.0 == 0);
+    let base = (x.box_kind == BoxHeader::BASE) & (x.flag == 0) & (x.link.0 == 0);
     let zeros = (h.split_elems == 0)
         & (h.merging_child.0 == 0)
         & (h.merging == 0)
         & (h.padding == 0);
     let many = (h.has_multiple_versions == 0) | (h.has_multiple_versions == 1);
-    let leaf = (h.is_index == 0) & (x.node_type == 1) & many;
+    let leaf = (h.is_index == 0) & (x.node_type == BoxHeader::LEAF) & many;
     let single = (h.has_multiple_versions == 0) & (h.size == x.payload_size);
-    let index = (h.is_index == 1) & (x.node_type == 2) & single;
-    let lengths = (h.lo_len <= 4096) & (h.hi_len <= 4096);
+    let index = (h.is_index == 1) & (x.node_type == BoxHeader::INDEX) & single;
+    let lengths = (h.lo_len as usize <= BaseHeader::MAX_KEY)
+        & (h.hi_len as usize <= BaseHeader::MAX_KEY);
     address
         & base
         & zeros
@@ -387,7 +462,7 @@ pub fn open_at(s: &[u8], a: Addr) -> Opened
     ensures { λ r. ⌜ r ≡ openAt (now (s .entry)) a ⌝ }
 {
     let at = a.0 as usize;
-    if spans::room(s.len(), at, 72) {
+    if spans::room(s.len(), at, BaseHeader::SLOTS_AT) {
         let x = BoxHeader::fields(s, at);
         let h = BaseHeader::fields(s, at + BoxHeader::HDR_LEN);
         if plain(x, h, at, s.len()) {
@@ -410,7 +485,7 @@ pub fn remote_at(s: &[u8], a: Addr, n: u32) -> RemoteRead
     let FrameRead::Frame(h) = BoxHeader::at(s, a) else {
         return RemoteRead::Bad;
     };
-    if h.kind != 3 {
+    if h.box_kind != BoxHeader::REMOTE {
         return RemoteRead::Bad;
     }
     if (h.payload_size as u64) != 8 + (n as u64) {
@@ -432,6 +507,13 @@ pub struct Delta {
     pub txid: u64,
 }
 
+impl Delta {
+    // klen and vlen
+    pub const LENS: usize = 8;
+    // Where a delta's key stands in its frame.
+    pub const KEY_AT: usize = BoxHeader::HDR_LEN + Delta::LENS;
+}
+
 pub enum DeltaRead {
     Is(Delta),
     Bad,
@@ -444,22 +526,22 @@ pub fn delta_at(s: &[u8], a: Addr) -> DeltaRead
     let FrameRead::Frame(h) = BoxHeader::at(s, a) else {
         return DeltaRead::Bad;
     };
-    if h.kind != 2 {
+    if h.box_kind != BoxHeader::DELTA {
         return DeltaRead::Bad;
     }
-    if h.payload_size < 8 {
+    if (h.payload_size as usize) < Delta::LENS {
         return DeltaRead::Bad;
     }
     let p = (a.0 as usize) + BoxHeader::HDR_LEN;
     let k = numbers::read_u32(s, p) as usize;
     let v = numbers::read_u32(s, p + 4) as usize;
-    if (h.payload_size as usize) != 8 + k + v {
+    if (h.payload_size as usize) != Delta::LENS + k + v {
         return DeltaRead::Bad;
     }
     DeltaRead::Is(Delta {
-        key_at: p + 8,
-        val_at: p + 8 + k,
-        end: p + 8 + k + v,
+        key_at: p + Delta::LENS,
+        val_at: p + Delta::LENS + k,
+        end: p + Delta::LENS + k + v,
         node_type: h.node_type,
         txid: h.txid,
     })
@@ -478,15 +560,6 @@ pub struct Taken {
 }
 
 impl Clerk {
-    pub fn new(next: Addr, limit: u64) -> Clerk
-        ensures { λ r. ⌜ (r .next ≡ next) × (r .limit ≡ limit) ⌝ }
-    {
-        Clerk {
-            next: next,
-            limit: limit,
-        }
-    }
-
     // Hands out size bytes. Total: without room the address is none and the clerk stays.
     pub fn take(self, size: u64) -> Taken
         ensures { λ r. ⌜ r ≡ takenOf self size ⌝ }
@@ -503,7 +576,7 @@ impl Clerk {
             }
         }
         Taken {
-            addr: Addr(0),
+            addr: NULL_ADDR,
             clerk: self,
         }
     }

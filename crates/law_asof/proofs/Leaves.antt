@@ -13,11 +13,11 @@ use Rattle.frames.specs.declared.Addr.{Addr}
 use Rattle.frames.specs.declared.Refusal.{Refusal}
 use Rattle.values.specs.declared.HistRef.{HistRef}
 use Rattle.pages.specs.declared.Place.{Place}
-use Rattle.pages.specs.Edges.{partIn}
+use Rattle.pages.specs.Boundaries.{partIn}
 use Rattle.pages.specs.Meaning.{Page, says, oldsFrom, meaning}
 use Rattle.build_sources.specs.Source.{Entry}
 use Rattle.build_sources.specs.Marks.{Each, Marked, Wide}
-use Rattle.build_image.specs.Image.{Bounds}
+use Rattle.build_image.specs.Image.{Borders}
 use Rattle.sst.specs.declared.Found.{Found}
 use Rattle.sst.specs.Search.{searchAt}
 use Rattle.sst.specs.Says.{FoundSays}
@@ -65,7 +65,7 @@ module _ (s : List ℕ) (p : Page) (es : List Entry) (probe : List ℕ) (v : Ver
 
 -- ---- a page that says the list's groups
 
-module _ (s : List ℕ) (a : Addr) (b : Bounds) (es : List Entry) (means : meaning s a ≡ says (leafPage b es)) (marks : Marked es) (probe : List ℕ) where
+module _ (s : List ℕ) (a : Addr) (b : Borders) (es : List Entry) (means : meaning s a ≡ says (leafPage b es)) (marks : Marked es) (probe : List ℕ) where
   abbrev pre : List ℕ
   pre = take (b .prefix) (b .lo)
 

@@ -10,7 +10,7 @@ use Rattle.order.specs.Order.{startsWith}
 use Rattle.frames.specs.declared.Addr.{Addr}
 use Rattle.frames.specs.declared.Refusal.{Refusal}
 use Rattle.build_sources.specs.Source.{Entry}
-use Rattle.build_image.specs.Image.{Bounds}
+use Rattle.build_image.specs.Image.{Borders}
 use Rattle.base.specs.Calls.{newAnswer, newArena}
 use Rattle.sst.specs.Search.{searchAt}
 use Rattle.walks.specs.Listed.{Entry as Listed}
@@ -26,7 +26,7 @@ use Rattle.law_asof.proofs.Searched.{asFound}
 use Rattle.law_asof.proofs.Leaves.{as-of-list, as-of-answers, as-of-largest}
 
 module _ (t : Tree) (s : List ℕ) (mark : ℕ) (p : Addr) (made : Made newAnswer newArena t s mark p) (probe : List ℕ) where
-  abbrev b : Bounds
+  abbrev b : Borders
   b = boundsOf t
 
   abbrev all : List Entry

@@ -20,7 +20,7 @@ use Rattle.build_sources.proofs.Marked.{list-wide, marked}
 use Rattle.build_image.specs.declared.Call.{Call}
 use Rattle.build_image.specs.declared.Built.{Built}
 use Rattle.build_image.specs.Prefix.{common}
-use Rattle.build_image.specs.Image.{Bounds}
+use Rattle.build_image.specs.Image.{Borders}
 use Rattle.base.specs.Calls.{boundsFrom, listed, newAnswer, newArena}
 use Rattle.sst.specs.Search.{searchAt}
 use Rattle.asof.specs.declared.AsOf.{AsOf}
@@ -37,7 +37,7 @@ use Rattle.law_asof.proofs.Leaves.{as-of-list, as-of-answers, as-of-lar
 module _ (a : List ℕ) (next : ℕ) (l : List ℕ) (m : Call) (lo hi : List ℕ) (sibling : ℕ) (bytes : Bytes l) (word : length a < 256 ^ 8) (numbers : Numbers m) (id : sibling < 256 ^ 8)
     (p : Addr) (end : ℕ) (built : newAnswer a next l m (boundsFrom lo hi sibling) ≡ Built.At p end)
     (s : List ℕ) (long : end ≤ length s) (same : take end s ≡ take end (newArena a next l m (boundsFrom lo hi sibling))) (probe : List ℕ) where
-  abbrev b : Bounds
+  abbrev b : Borders
   b = boundsFrom lo hi sibling
 
   abbrev es : List Entry

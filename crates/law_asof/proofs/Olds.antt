@@ -14,22 +14,22 @@ use Rattle.frames.specs.declared.Addr.{Addr}
 use Rattle.frames.specs.declared.Body.{Body}
 use Rattle.frames.specs.declared.Opened.{Opened}
 use Rattle.values.specs.declared.HistRef.{HistRef}
-use Rattle.records.specs.Records.{verIn}
+use Rattle.values.specs.Keys.{verIn}
 use Rattle.records.proofs.Inside.{val-part}
 use Rattle.pages.specs.declared.Place.{Place}
-use Rattle.pages.specs.Edges.{place, partIn}
+use Rattle.pages.specs.Boundaries.{place, partIn}
 use Rattle.pages.specs.Sound.{historyAt, chainFrom, entered}
 use Rattle.pages.specs.Meaning.{oldsFrom}
 use Rattle.pages.proofs.Olds.{history-inside}
 use Rattle.pages.proofs.Given.{Link, link-given}
 use Rattle.walks.specs.declared.Item.{Item}
-use Rattle.walks.specs.declared.Past.{Past}
-use Rattle.walks.specs.Walk.{pastOver, itemOf}
+use Rattle.walks.specs.declared.OldPlace.{OldPlace}
+use Rattle.walks.specs.Walk.{olderOn, noOlder, itemOf}
 use Rattle.walks.specs.Listed.{Entry as Listed, olderEntries}
 use Rattle.walks.proofs.Steps.{Next, next-old, enter-none, enter-in}
 use Rattle.walks.proofs.Ages.{Ages, next-aged, aged-none}
 use Rattle.asof.specs.declared.AsOf.{AsOf}
-use Rattle.asof.specs.AsOf.{oldAsOf, noPast, oldEnter}
+use Rattle.asof.specs.AsOf.{oldAsOf, oldEnter}
 use Rattle.asof.proofs.Olds.{old-end, old-newer, old-found}
 use Rattle.law_asof.specs.Asked.{first, noNewer}
 use Rattle.law_asof.proofs.Picking.{first-here, first-next}
@@ -54,7 +54,7 @@ module _ (s : List ℕ) (probe : List ℕ) (v : Ver) where
       first-here (noNewer v) (record { key = probe; ver = ver; value = y }) rs (ap not e) ∙ ap (λ (z : List ℕ). (record { key = probe; ver = ver; value = z }) ∷ []) q
 
   module _ (slot reads : ℕ) where
-    none-left : (k : ℕ) (h : Addr) (i : ℕ) (p : Past) → k ≡ 0 → p .left ≡ 0 → Picks s probe v (olderEntries probe (oldsFrom s k h i)) (oldAsOf s v slot reads (p .left) p)
+    none-left : (k : ℕ) (h : Addr) (i : ℕ) (p : OldPlace) → k ≡ 0 → p .left ≡ 0 → Picks s probe v (olderEntries probe (oldsFrom s k h i)) (oldAsOf s v slot reads (p .left) p)
     unfolding oldsFrom olderEntries first
     none-left k h i p e z = rw (old-end s v slot reads p (aged-none s p z), e) refl
 
@@ -63,11 +63,11 @@ module _ (s : List ℕ) (probe : List ℕ) (v : Ver) where
       abbrev ver : Ver
       ver = verIn s (g .rec .«ver_at»)
 
-      abbrev here : Past
-      here = pastOver d i (suc k)
+      abbrev here : OldPlace
+      here = olderOn d i (suc k)
 
-      abbrev rest : Past
-      rest = pastOver (x .body) (g .slot + 1) k
+      abbrev rest : OldPlace
+      rest = olderOn (x .body) (g .slot + 1) k
 
       abbrev old : Listed
       old = record { key = probe; ver = ver; value = part s (g .rec .«val_at») (g .rec .«val_len») }
@@ -92,8 +92,8 @@ module _ (s : List ℕ) (probe : List ℕ) (v : Ver) where
           (turn-by ih (next-aged s (place 0 0) here rest (itemOf s (place 0 0) (g .rec) (x .names)) (omega arith) (x .next)) (newerThan ver v) refl)
 
     olds-pick : (k : ℕ) (h : Addr) (d : Body) (i : ℕ) (t : Ver) → historyAt s h ≡ Opened.Is d → chainFrom s k h i t ≡ true
-        → Picks s probe v (olderEntries probe (oldsFrom s k h i)) (oldAsOf s v slot reads k (pastOver d i k))
-    olds-pick zero h d i t o c = none-left 0 h i (pastOver d i 0) refl refl
+        → Picks s probe v (olderEntries probe (oldsFrom s k h i)) (oldAsOf s v slot reads k (olderOn d i k))
+    olds-pick zero h d i t o c = none-left 0 h i (olderOn d i 0) refl refl
     olds-pick (suc k) h d i t o c =
         let g = link-given s k h i t c in
         let x = next-old s (place 0 0) h d o i k (g .page) (g .slot) (g .rec) (g .read) in
@@ -109,7 +109,7 @@ module _ (s : List ℕ) (probe : List ℕ) (v : Ver) where
             → Picks s probe v (olderEntries probe (oldsFrom s (h .count) (h .page) (h .slot))) (oldEnter s v slot reads h)
         by true e w =
             let z = eqb-true (h .count) 0 e in
-            rw (enter-none s h noPast z) (none-left (h .count) (h .page) (h .slot) noPast z refl)
+            rw (enter-none s h noOlder z) (none-left (h .count) (h .page) (h .slot) noOlder z refl)
         by false e w =
-            let x = enter-in s h noPast (eqb-false (h .count) 0 e) w in
+            let x = enter-in s h noOlder (eqb-false (h .count) 0 e) w in
             rw (x .2) (olds-pick (h .count) (h .page) (x .0) (h .slot) t (x .1) c)

@@ -25,10 +25,11 @@ use Rattle.records.specs.declared.SlotRead.{SlotRead}
 use Rattle.records.specs.declared.ValRead.{ValRead}
 use Rattle.records.specs.declared.Rec.{Rec}
 use Rattle.records.specs.declared.RecRead.{RecRead}
-use Rattle.records.specs.Records.{slotAt, keyIn, farOf, valOf, valIn, recVal, recKey, recIn, recSlot, recAt, verIn}
+use Rattle.values.specs.Keys.{verIn}
+use Rattle.records.specs.Records.{slotAt, keyIn, remoteOf, valOf, valIn, recVal, recKey, recIn, recSlot, recAt}
 use Rattle.records.proofs.Inside.{at-inside, at-slot}
 use Rattle.pages.specs.declared.Place.{Place}
-use Rattle.pages.specs.Edges.{place}
+use Rattle.pages.specs.Boundaries.{place}
 use Rattle.pages.specs.Sound.{chainFrom, entered}
 use Rattle.pages.specs.Meaning.{Page, Head, leaf, says, meaning}
 use Rattle.pages.proofs.Given.{sound-given, every-head, head-given}
@@ -41,7 +42,7 @@ use Rattle.sst.proofs.Opens.{outcome-ready, leaf-kind}
 use Rattle.sst.proofs.Answers.{search-seven, search-not-four}
 use Rattle.search_head.specs.Head.{headSlot, headOf, headAt}
 use Rattle.asof.specs.declared.AsOf.{AsOf}
-use Rattle.asof.specs.AsOf.{headPick, oldEnter, pastVal, pastAsOf, asOfHead, asOfAt}
+use Rattle.asof.specs.AsOf.{headPick, oldEnter, olderVal, olderAsOf, asOfHead, asOfAt}
 
 -- ---- the history that a record refers to is the one that its value's front refers to (it belongs to `records`)
 
@@ -58,9 +59,9 @@ module _ (s : List ℕ) (b : Body) (i : ℕ) (r : Rec) (head : b .kind ≡ 0) wh
       no : RecRead.Bad ≡ RecRead.Is r → ⊥
       no z = let y : _≡_ {A = ℕ} 0 1 = cc in omega arith
 
-      far : (h : HistRef) (a : Addr) (p v ra rn n next : ℕ) → (x : RemoteRead) → recVal p v ra rn (farOf h a n next x) ≡ RecRead.Is r → h ≡ r .hist
-      far h a p v ra rn n next (RemoteRead.At q) w = cc
-      far h a p v ra rn n next RemoteRead.Bad w = absurd (no w)
+      remote : (h : HistRef) (a : Addr) (p v ra rn n next : ℕ) → (x : RemoteRead) → recVal p v ra rn (remoteOf h a n next x) ≡ RecRead.Is r → h ≡ r .hist
+      remote h a p v ra rn n next (RemoteRead.At q) w = cc
+      remote h a p v ra rn n next RemoteRead.Bad w = absurd (no w)
 
       rest : (p v ra rn : ℕ) (x : ValRead) → recVal p v ra rn x ≡ RecRead.Is r → ra + rn ≡ r .«rest_at» + r .«rest_len»
       rest p v ra rn (ValRead.Is h va vn rem next) w =
@@ -71,7 +72,7 @@ module _ (s : List ℕ) (b : Body) (i : ℕ) (r : Rec) (head : b .kind ≡ 0) wh
 
       val : (p v ra rn : ℕ) (x : Val) → recVal p v ra rn (valOf s x) ≡ RecRead.Is r → Refers (r .hist) x
       val p v ra rn (Val.Inline h q n next) w = cc
-      val p v ra rn (Val.Remote h a n next) w = far h a p v ra rn n next (remoteAt s a n) w
+      val p v ra rn (Val.Remote h a n next) w = remote h a p v ra rn n next (remoteAt s a n) w
       val p v ra rn Val.Bad w = no w
 
       key : (p : ℕ) (k : KeyRead) → recKey s b p k ≡ RecRead.Is r → Refers (r .hist) (valAt (take (b .end) s) (r .«rest_at» + r .«rest_len») true)
@@ -97,21 +98,21 @@ besideOf s v (Found.Nothing n) = AsOf.Nothing n
 besideOf s v (Found.Refused r) = AsOf.Refused r
 
 module _ (s : List ℕ) (a : Addr) (probe : List ℕ) (v : Ver) where
-  past-refers : (i n : ℕ) (h : HistRef) (x : Val) → Refers h x → pastVal s v i n x ≡ oldEnter s v i n h
-  past-refers i n h (Val.Inline h′ p m next) e = ap (oldEnter s v i n) e
-  past-refers i n h (Val.Remote h′ b m next) e = ap (oldEnter s v i n) e
-  past-refers i n h Val.Bad e = absurd e
+  older-refers : (i n : ℕ) (h : HistRef) (x : Val) → Refers h x → olderVal s v i n x ≡ oldEnter s v i n h
+  older-refers i n h (Val.Inline h′ p m next) e = ap (oldEnter s v i n) e
+  older-refers i n h (Val.Remote h′ b m next) e = ap (oldEnter s v i n) e
+  older-refers i n h Val.Bad e = absurd e
 
   of-record : (b : Body) (i n : ℕ) → Inside s b → b .kind ≡ 0 → (r : RecRead) → recAt s b i ≡ r → (foundRec s i n r ≡ Found.Refused Refusal.BadFrame → ⊥)
       → asOfHead s v (headSlot s b i n) ≡ besideOf s v (foundRec s i n r)
-  unfolding headSlot pastAsOf
+  unfolding headSlot olderAsOf
   of-record b i n j k (RecRead.Is r) e f = rw (at-inside s b i r j e .1) (by (newerThan ver v))
     where
       ver : Ver
       ver = verIn s (r .«ver_at»)
 
       by : (t : Bool) → headPick s v b i ver (r .«rest_at» + r .«rest_len») n t ≡ besidePick s v i ver (r .hist) (place (r .«val_at») (r .«val_len»)) n t
-      by true = past-refers i n (r .hist) (valAt (take (b .end) s) (r .«rest_at» + r .«rest_len») true) (refers s b i r k e)
+      by true = older-refers i n (r .hist) (valAt (take (b .end) s) (r .«rest_at» + r .«rest_len») true) (refers s b i r k e)
       by false = rw e refl
   of-record b i n j k RecRead.Bad e f = absurd (f refl)
 

@@ -7,7 +7,7 @@ use mathlib.Core.List.{List, [], _∷_}
 use Rattle.order.specs.declared.Ver.{Ver}
 use Rattle.order.specs.Version.{newerThan}
 use Rattle.frames.specs.declared.Refusal.{Refusal}
-use Rattle.pages.specs.Edges.{partIn}
+use Rattle.pages.specs.Boundaries.{partIn}
 use Rattle.pages.specs.Meaning.{Page}
 use Rattle.sst.specs.Says.{Lacks}
 use Rattle.walks.specs.Listed.{Entry as Listed}

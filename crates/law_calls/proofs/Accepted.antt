@@ -13,8 +13,8 @@ use Rattle.frames.specs.declared.Refusal.{Refusal}
 use Rattle.frames.specs.Layout.{addr}
 use Rattle.pages.specs.Meaning.{Page, says, meaning}
 use Rattle.build_image.specs.declared.Built.{Built}
-use Rattle.build_table.specs.Table.{Row, judged}
-use Rattle.build_table.proofs.Tables.{All, all-go, passes}
+use Rattle.build_image.specs.Table.{Row, judged}
+use Rattle.build_image.proofs.Tables.{All, all-go, passes}
 use Rattle.law_calls.proofs.Stored.{stored, others-stay, from-then-on}
 
 module _ (rows : List Row) (at to : ℕ) (p : Addr) (end : ℕ) (built : judged rows Built.Refused (Built.At (addr at) to) ≡ Built.At p end) where

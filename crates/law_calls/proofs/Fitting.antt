@@ -10,17 +10,18 @@ use lib.ListN.{length, take}
 use lib.Seq.{length-take-le}
 use lib.Dec.{leb}
 use Rattle.frames.specs.Layout.{pageId}
+use Rattle.frames.specs.Limits.{maxEntries, maxKey, maxSize}
 use Rattle.frames.proofs.Frames.{and-l, and-r}
 use Rattle.build_sources.specs.Source.{Entry}
 use Rattle.build_sources.specs.Marks.{Each, Marked}
 use Rattle.build_image.specs.declared.Call.{Call}
 use Rattle.build_image.specs.Prefix.{common}
-use Rattle.build_image.specs.Image.{Bounds, leafSize, leafRoom, indexSize}
-use Rattle.build_bounds.specs.Edges.{edgeOf}
+use Rattle.build_image.specs.Image.{leafSize, leafRoom, indexSize, Borders}
+use Rattle.build_bounds.specs.Boundaries.{boundaryOf}
 use Rattle.build_image.specs.Call.{limitOk, budgetOk, nextOk}
 use Rattle.build_image.proofs.Asked.{limit-true, budget-true, next-true}
 use Rattle.build_table.specs.Table.{boundsOk, entryRows}
-use Rattle.build_table.proofs.Tables.{All}
+use Rattle.build_image.proofs.Tables.{All}
 use Rattle.base.specs.Calls.{boundsFrom}
 use Rattle.base.proofs.Calls.{held}
 use Rattle.law_history.specs.Fit.{Fits, Numbers, CallFits, BoundsFit, Address}
@@ -30,11 +31,11 @@ use Rattle.law_index.specs.Children.{Leads, IndexFit}
 -- ---- 1 and 2
 
 pub bounds-fit : (lo hi : List ℕ) (sibling : ℕ) → sibling < 256 ^ 8 → boundsOk lo hi ≡ true → BoundsFit (boundsFrom lo hi sibling)
-bounds-fit lo hi sibling id edges =
+bounds-fit lo hi sibling id boundaries =
     record {
-      lo = leb-true (length lo) 4096 (and-l (leb (length lo) 4096) (leb (length hi) 4096) edges);
-      hi = leb-true (length hi) 4096 (and-r (leb (length lo) 4096) (leb (length hi) 4096) edges);
-      prefix = held lo hi [] (edgeOf lo) (edgeOf hi) (common lo hi) (pageId sibling) refl refl refl true (sym edges) refl .shared;
+      lo = leb-true (length lo) maxKey (and-l (leb (length lo) maxKey) (leb (length hi) maxKey) boundaries);
+      hi = leb-true (length hi) maxKey (and-r (leb (length lo) maxKey) (leb (length hi) maxKey) boundaries);
+      prefix = held lo hi [] (boundaryOf lo) (boundaryOf hi) (common lo hi) (pageId sibling) refl refl refl true (sym boundaries) refl .shared;
       sibling = id;
     }
 
@@ -60,7 +61,7 @@ address-below a next word free =
 
 -- ---- 6 to 9: room is asked of the end, the rest of the entries
 
-module _ (s : List ℕ) (m : Call) (b : Bounds) (at : ℕ) (es : List Entry) (end len : ℕ) (place : Address s at) (bounds : BoundsFit b) where
+module _ (s : List ℕ) (m : Call) (b : Borders) (at : ℕ) (es : List Entry) (end len : ℕ) (place : Address s at) (bounds : BoundsFit b) where
   abbrev prefix : List ℕ
   prefix = take (b .prefix) (b .lo)
 
@@ -75,8 +76,8 @@ module _ (s : List ℕ) (m : Call) (b : Bounds) (at : ℕ) (es : List Entry) (en
         marks = marks;
         rises = h .0;
         begins = h .1 .0;
-        few = leb-true (length es) 65535 (and-l (leb (length es) 65535) (leb (leafSize m b es + leafRoom m es) 16777216) few);
-        small = leb-true (leafSize m b es + leafRoom m es) 16777216 (and-r (leb (length es) 65535) (leb (leafSize m b es + leafRoom m es) 16777216) few);
+        few = leb-true (length es) maxEntries (and-l (leb (length es) maxEntries) (leb (leafSize m b es + leafRoom m es) maxSize) few);
+        small = leb-true (leafSize m b es + leafRoom m es) maxSize (and-r (leb (length es) maxEntries) (leb (leafSize m b es + leafRoom m es) maxSize) few);
       }
 
   pub index-fit : Numbers m → Each Leads es → All (entryRows prefix es (indexSize b es) end len) → IndexFit s m b at es
@@ -89,6 +90,6 @@ module _ (s : List ℕ) (m : Call) (b : Bounds) (at : ℕ) (es : List Entry) (en
         each = each;
         rises = h .0;
         begins = h .1 .0;
-        few = leb-true (length es) 65535 (and-l (leb (length es) 65535) (leb (indexSize b es) 16777216) few);
-        small = leb-true (indexSize b es) 16777216 (and-r (leb (length es) 65535) (leb (indexSize b es) 16777216) few);
+        few = leb-true (length es) maxEntries (and-l (leb (length es) maxEntries) (leb (indexSize b es) maxSize) few);
+        small = leb-true (indexSize b es) maxSize (and-r (leb (length es) maxEntries) (leb (indexSize b es) maxSize) few);
       }

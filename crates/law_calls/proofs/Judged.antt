@@ -20,11 +20,12 @@ use Rattle.build_sources.specs.Marks.{Each, Wide}
 use Rattle.build_sources.proofs.Marked.{list-wide, marked}
 use Rattle.build_image.specs.declared.Call.{Call}
 use Rattle.build_image.specs.Prefix.{common}
-use Rattle.build_image.specs.Image.{Bounds, cutsOf, historyEnd, leafSize, leafRoom, leafImage}
+use Rattle.build_image.specs.Image.{Borders, cutsOf, historyEnd, leafSize, leafRoom, leafImage}
 use Rattle.build_image.specs.declared.Built.{Built}
 use Rattle.build_image.specs.Call.{limitOk, budgetOk}
-use Rattle.build_table.specs.Table.{Row, judged, boundsOk, entryRows}
-use Rattle.build_table.proofs.Tables.{All}
+use Rattle.build_image.specs.Table.{Row, judged}
+use Rattle.build_table.specs.Table.{boundsOk, entryRows}
+use Rattle.build_image.proofs.Tables.{All}
 use Rattle.base.specs.Calls.{boundsFrom, listed, listRows}
 use Rattle.sst.specs.Search.{lowerAt, searchAt}
 use Rattle.walks.specs.Walk.{forwardAt, backwardAt}
@@ -42,11 +43,11 @@ use Rattle.law_calls.proofs.Accepted.{all-hold, after-long, answered-sa
 pub record Limits (m : Call) (lo hi : List ℕ) : Type 0 where
   pub limit : limitOk (m .limit) ≡ true
   pub budget : budgetOk (m .budget) ≡ true
-  pub edges : boundsOk lo hi ≡ true
+  pub boundaries : boundsOk lo hi ≡ true
 
 module _ (a : List ℕ) (next : ℕ) (l : List ℕ) (m : Call) (lo hi : List ℕ) (sibling : ℕ) (bytes : Bytes l) (word : length a < 256 ^ 8) (numbers : Numbers m) (id : sibling < 256 ^ 8)
     (ok : Bool) (limits : ok ≡ true → Limits m lo hi) where
-  abbrev b : Bounds
+  abbrev b : Borders
   b = boundsFrom lo hi sibling
 
   abbrev es : List Entry
@@ -73,7 +74,7 @@ module _ (a : List ℕ) (next : ℕ) (l : List ℕ) (m : Call) (lo hi : List ℕ
     fit =
         let h = holds in
         let k = limits (h .0) in
-        leaf-fit (take next a) m b next es (next + length image) (length a) (address-below a next word (h .1 .0)) (bounds-fit lo hi sibling id (k .edges))
+        leaf-fit (take next a) m b next es (next + length image) (length a) (address-below a next word (h .1 .0)) (bounds-fit lo hi sibling id (k .boundaries))
         (call-fits m numbers (k .limit) (k .budget)) (record-each l (take next a) bytes (take next a)) (marked l (take next a) (firstOf 0) refl) (h .1 .1 .1)
 
     -- the arena afterwards is one of those that follow

@@ -3,6 +3,6 @@ pub mod Stored
 pub mod Listing
 pub mod Accepted
 pub mod Fitting
-pub mod Intl
+pub mod Index
 pub mod Judged
 pub mod New

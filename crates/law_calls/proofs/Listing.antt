@@ -23,7 +23,7 @@ module _ (l w : List ℕ) (bytes : Bytes l) where
   abbrev Sure : Entry → Type 0
   Sure e = Short e × Wide e
 
-  sure : (c : Cursor) → (c .kind ≡ 2 → ⊥) → Each Sure (entries l w c)
+  sure : (c : Cursor) → (c .source ≡ 2 → ⊥) → Each Sure (entries l w c)
   sure c n = each-both Short Wide Sure (λ x p q. (p, q)) (entries l w c) (short l w c) (list-wide l w c n bytes)
 
   pub index-each : Each Leads (entries l w (firstOf 1))

@@ -17,7 +17,7 @@ use Rattle.pages.proofs.Says.{says-checked}
 use Rattle.build_sources.specs.Source.{Entry, heads}
 use Rattle.build_image.specs.declared.Call.{Call}
 use Rattle.build_image.specs.Prefix.{common}
-use Rattle.build_image.specs.Image.{Bounds}
+use Rattle.build_image.specs.Image.{Borders}
 use Rattle.build_totals.specs.Totals.{leafAt}
 use Rattle.build_image.specs.declared.Built.{Built}
 use Rattle.build_image.specs.Call.{limitOk, budgetOk}
@@ -35,7 +35,7 @@ use Rattle.law_calls.proofs.Judged.{Limits, leaf-long, leaf-says, leaf-
 limits : (m : Call) (lo hi : List ℕ) → leafLimits (m .limit) (m .budget) lo hi ≡ true → Limits m lo hi
 limits m lo hi e =
     let f = and-l (limitOk (m .limit) && budgetOk (m .budget)) (boundsOk lo hi) e in
-    record { limit = and-l (limitOk (m .limit)) (budgetOk (m .budget)) f; budget = and-r (limitOk (m .limit)) (budgetOk (m .budget)) f; edges = and-r (limitOk (m .limit) && budgetOk (m .budget)) (boundsOk lo hi) e }
+    record { limit = and-l (limitOk (m .limit)) (budgetOk (m .budget)) f; budget = and-r (limitOk (m .limit)) (budgetOk (m .budget)) f; boundaries = and-r (limitOk (m .limit) && budgetOk (m .budget)) (boundsOk lo hi) e }
 
 -- the arena afterwards is one of those that the laws below speak of
 pub new-long : (a : List ℕ) (next : ℕ) (l : List ℕ) (m : Call) (lo hi : List ℕ) (sibling : ℕ) → Bytes l → length a < 256 ^ 8 → Numbers m → sibling < 256 ^ 8
@@ -48,7 +48,7 @@ new-long a next l m lo hi sibling bytes word numbers id p end built =
 module _ (a : List ℕ) (next : ℕ) (l : List ℕ) (m : Call) (lo hi : List ℕ) (sibling : ℕ) (bytes : Bytes l) (word : length a < 256 ^ 8) (numbers : Numbers m) (id : sibling < 256 ^ 8)
     (p : Addr) (end : ℕ) (built : newAnswer a next l m (boundsFrom lo hi sibling) ≡ Built.At p end)
     (s : List ℕ) (long : end ≤ length s) (same : take end s ≡ take end (newArena a next l m (boundsFrom lo hi sibling))) where
-  abbrev b : Bounds
+  abbrev b : Borders
   b = boundsFrom lo hi sibling
 
   abbrev es : List Entry

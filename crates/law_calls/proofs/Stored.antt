@@ -17,7 +17,7 @@ use Rattle.pages.specs.Meaning.{Page, says, meaning}
 use Rattle.build_sources.specs.Source.{Entry, olds}
 use Rattle.build_sources.specs.Marks.{Each, Held, Keeps}
 use Rattle.build_image.specs.declared.Call.{Call}
-use Rattle.build_image.specs.Image.{Bounds, cutsOf, historyEnd, leafImage, indexImage}
+use Rattle.build_image.specs.Image.{Borders, cutsOf, historyEnd, leafImage, indexImage}
 use Rattle.law_stays.proofs.Grown.{Grown, stay-part}
 use Rattle.law_stays.proofs.FramesStay.{remote-stays}
 use Rattle.law_stays.proofs.PagesStay.{meaning-stays, below-mark}
@@ -85,7 +85,7 @@ module _ (a : List ℕ) (at : ℕ) (x : List ℕ) (room : at + length x ≤ leng
 
 -- ---- a leaf build's store
 
-module _ (a : List ℕ) (m : Call) (b : Bounds) (at : ℕ) (es : List Entry) (fit : LeafFit (take at a) m b at es) (word : length a < 256 ^ 8) (room : at + length (leafImage m b at es) ≤ length a) where
+module _ (a : List ℕ) (m : Call) (b : Borders) (at : ℕ) (es : List Entry) (fit : LeafFit (take at a) m b at es) (word : length a < 256 ^ 8) (room : at + length (leafImage m b at es) ≤ length a) where
   fit-now : LeafFit (stored a at (leafImage m b at es)) m b at es
   fit-now =
       let x = leafImage m b at es in
@@ -106,7 +106,7 @@ module _ (a : List ℕ) (m : Call) (b : Bounds) (at : ℕ) (es : List Entry) (fi
 
 -- ---- an index build's store
 
-module _ (a : List ℕ) (m : Call) (b : Bounds) (at : ℕ) (es : List Entry) (fit : IndexFit a m b at es) (room : at + length (indexImage m b es) ≤ length a) where
+module _ (a : List ℕ) (m : Call) (b : Borders) (at : ℕ) (es : List Entry) (fit : IndexFit a m b at es) (room : at + length (indexImage m b es) ≤ length a) where
   index-now : IndexFit (stored a at (indexImage m b es)) m b at es
   index-now =
       let x = indexImage m b es in

@@ -22,11 +22,11 @@ use Rattle.build_sources.specs.Marks.{Each}
 use Rattle.pages.specs.declared.OldRead.{OldRead}
 use Rattle.pages.specs.Sound.{historyAt, histOk, oldIn, oldAt, entered}
 use Rattle.build_image.specs.declared.Call.{Call}
-use Rattle.build_image.specs.Image.{histSize, histPage, pageEnd, linkTo, history, historyEnd, Place, placesIn, places}
+use Rattle.build_image.specs.Image.{histSize, histPage, pageEnd, linkTo, history, historyEnd, PageSlot, placesIn, places}
 use Rattle.build_image.proofs.Lengths.{length-page}
 use Rattle.law_history.specs.Fit.{Fits, CallFits, Address}
 use Rattle.law_history.specs.Rows.{Rows}
-use Rattle.law_history.proofs.Fars.{fars-even}
+use Rattle.law_history.proofs.Remotes.{remotes-even}
 use Rattle.law_history.proofs.Page.{SaysOld}
 use Rattle.law_history.proofs.History.{PageFits, histBody, hist-at, hist-rows, hist-whole}
 
@@ -37,14 +37,14 @@ Olds s a i [] = Unit {0}
 Olds s a i (e ∷ es) = (p : ℕ) × (q : ℕ) × (r : Rec) × (oldAt s (addr a) i ≡ OldRead.Old (addr p) q r) × (histOk s (addr p) ≡ true) × SaysOld s r e × Olds s p (q + 1) es
 
 -- a place is a slot of a history page, its numbers have their widths, and reading from it on gives these
-pub record Placed (s : List ℕ) (p : Place) (es : List Entry) : Type 0 where
+pub record Placed (s : List ℕ) (p : PageSlot) (es : List Entry) : Type 0 where
   pub word : p .page < 256 ^ 8
   pub half : p .slot < 256 ^ 2
   pub entered : entered s (addr (p .page)) (p .slot) ≡ true
   pub olds : Olds s (p .page) (p .slot) es
 
 -- one place to each old version, and reading from it on gives that one and all behind it
-unfoldable pub Told : List ℕ → List Place → List Entry → Type 0
+unfoldable pub Told : List ℕ → List PageSlot → List Entry → Type 0
 Told s [] [] = Unit {0}
 Told s [] (e ∷ es) = ⊥
 Told s (p ∷ ps) [] = ⊥
@@ -66,7 +66,7 @@ module _ (s : List ℕ) (a : ℕ) (b : Body) (at : historyAt s (addr a) ≡ Open
   unfolding entered
   into i l = rw (at, lt-ltb i (b .elems) l) refl
 
-  pub told-page : a < 256 ^ 8 → b .elems < 256 ^ 2 → (i want : ℕ) (es rest : List Entry) (ps : List Place) → i + length es ≡ b .elems → Rows (SaysOld s) s b i want es → Olds s a (b .elems) rest → Told s ps rest
+  pub told-page : a < 256 ^ 8 → b .elems < 256 ^ 2 → (i want : ℕ) (es rest : List Entry) (ps : List PageSlot) → i + length es ≡ b .elems → Rows (SaysOld s) s b i want es → Olds s a (b .elems) rest → Told s ps rest
       → Told s (placesIn a i (length es) ++ ps) (es ++ rest)
   unfolding Rows Told placesIn
   told-page w k i want [] rest ps n h t u = u
@@ -116,7 +116,7 @@ end-above limit (n ∷ ns) at es = omega (arith, page-above limit at (take n es)
 
 page-even : (limit at : ℕ) (es : List Entry) → at % 8 ≡ 0 → pageEnd limit at es % 8 ≡ 0
 unfolding pageEnd
-page-even limit at es e = omega (arith, fars-even limit es)
+page-even limit at es e = omega (arith, remotes-even limit es)
 
 pub end-even : (limit : ℕ) (ns : List ℕ) (at : ℕ) (es : List Entry) → at % 8 ≡ 0 → historyEnd limit at ns es % 8 ≡ 0
 unfolding historyEnd

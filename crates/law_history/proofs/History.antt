@@ -14,15 +14,15 @@ use Rattle.frames.specs.declared.BoxHeader.{BoxHeader}
 use Rattle.frames.specs.declared.BaseHeader.{BaseHeader}
 use Rattle.frames.specs.declared.Body.{Body}
 use Rattle.frames.specs.declared.Opened.{Opened}
-use Rattle.frames.specs.Layout.{addr, boxLen, baseLen, frameLen, boxOk, baseOk, kindOf, bodyOf, openAt}
-use Rattle.frames.specs.Stored.{boxBytes, baseBytes}
-use Rattle.frames.proofs.Stores.{BaseFits, length-box}
+use Rattle.frames.specs.Layout.{boxLen, baseLen, slotsAt, boxBase, nodeLeaf, flagSibling, addr, frameLen, boxOk, baseOk, kindOf, bodyOf, openAt}
+use Rattle.frames.specs.Stored.{boxBytes, baseBytes, baseOf}
+use Rattle.frames.proofs.Stores.{BaseFits, base-of-fits, box-of-heads, base-of-heads}
 use Rattle.build_sources.specs.Source.{Entry}
 use Rattle.build_sources.specs.Marks.{Each}
 use Rattle.pages.specs.Sound.{slotsOk, historyAt, histOk}
 use Rattle.build_image.specs.declared.Call.{Call}
-use Rattle.build_image.specs.Sizes.{pad, fars}
-use Rattle.build_image.specs.Image.{boxOf, baseOf, farFrames, oldRecs, oldSlots, histHead, histSize, histPage, pageEnd}
+use Rattle.build_image.specs.Sizes.{pad, remotesLen}
+use Rattle.build_image.specs.Image.{pageBox, remoteFrames, oldRecs, oldSlots, histHead, histSize, histPage, pageEnd}
 use Rattle.build_image.proofs.Lengths.{length-pad, length-slots, length-recs, length-hist-head, length-page}
 use Rattle.law_history.specs.Fit.{Fits, CallFits, Address}
 use Rattle.law_history.specs.Rows.{Rows}
@@ -39,7 +39,7 @@ pub record PageFits (limit at link : ℕ) (es : List Entry) : Type 0 where
   pub word : link < 256 ^ 8
 
 abbrev pub histBox : Call → ℕ → List Entry → BoxHeader
-histBox m link es = boxOf m (histSize (m .limit) es) 1 1 1 link (m .txid)
+histBox m link es = pageBox m (histSize (m .limit) es) nodeLeaf flagSibling link
 
 abbrev pub histBase : Call → List Entry → BaseHeader
 histBase m es = baseOf (histSize (m .limit) es) (length es) 0 0 0 0 0 0
@@ -63,33 +63,33 @@ module _ (s : List ℕ) (m : Call) (at link : ℕ) (es : List Entry) (w : CallFi
   unfolding histSize
   size-is = omega (arith, length-recs (m .limit) (at + frameLen size) es)
 
-  whole : at + frameLen size + fars (m .limit) es ≤ length s
+  whole : at + frameLen size + remotesLen (m .limit) es ≤ length s
   unfolding pageEnd
   whole = let p = length-page m at link es in omega (arith, lies-in s at (histPage m at link es) (omega arith) lies)
 
   head-lies : Lies s at (histHead m link (length es) size)
   unfolding histPage
-  head-lies = lies-front s at (histHead m link (length es) size) (slots ++ (recs ++ (pad size ++ farFrames m es))) lies
+  head-lies = lies-front s at (histHead m link (length es) size) (slots ++ (recs ++ (pad size ++ remoteFrames m es))) lies
 
-  rest-lies : Lies s (at + 72) (slots ++ (recs ++ (pad size ++ farFrames m es)))
+  rest-lies : Lies s (at + slotsAt) (slots ++ (recs ++ (pad size ++ remoteFrames m es)))
   unfolding histPage
-  rest-lies = rw (length-hist-head m link (length es) size) at (lies-back s at (histHead m link (length es) size) (slots ++ (recs ++ (pad size ++ farFrames m es))) lies)
+  rest-lies = rw (length-hist-head m link (length es) size) at (lies-back s at (histHead m link (length es) size) (slots ++ (recs ++ (pad size ++ remoteFrames m es))) lies)
 
-  slots-lie : Lies s (at + 72) slots
-  slots-lie = lies-front s (at + 72) slots (recs ++ (pad size ++ farFrames m es)) rest-lies
+  slots-lie : Lies s (at + slotsAt) slots
+  slots-lie = lies-front s (at + slotsAt) slots (recs ++ (pad size ++ remoteFrames m es)) rest-lies
 
-  back-lies : Lies s (at + 72 + 4 * length es) (recs ++ (pad size ++ farFrames m es))
-  back-lies = rw (length-slots (m .limit) (baseLen + 4 * length es) es) at (lies-back s (at + 72) slots (recs ++ (pad size ++ farFrames m es)) rest-lies)
+  back-lies : Lies s (at + slotsAt + 4 * length es) (recs ++ (pad size ++ remoteFrames m es))
+  back-lies = rw (length-slots (m .limit) (baseLen + 4 * length es) es) at (lies-back s (at + slotsAt) slots (recs ++ (pad size ++ remoteFrames m es)) rest-lies)
 
-  recs-lie : Lies s (at + 72 + 4 * length es) recs
-  recs-lie = lies-front s (at + 72 + 4 * length es) recs (pad size ++ farFrames m es) back-lies
+  recs-lie : Lies s (at + slotsAt + 4 * length es) recs
+  recs-lie = lies-front s (at + slotsAt + 4 * length es) recs (pad size ++ remoteFrames m es) back-lies
 
-  fars-lie : Lies s (at + frameLen size) (farFrames m es)
-  fars-lie =
-      let z : at + 72 + 4 * length es + length recs ≡ at + boxLen + size = omega (arith, size-is) in
+  remotes-lie : Lies s (at + frameLen size) (remoteFrames m es)
+  remotes-lie =
+      let z : at + slotsAt + 4 * length es + length recs ≡ at + boxLen + size = omega (arith, size-is) in
       let y : at + boxLen + size + length (pad size) ≡ at + frameLen size = omega (arith, length-pad size) in
-      let t : Lies s (at + boxLen + size) (pad size ++ farFrames m es) = rw z at (lies-back s (at + 72 + 4 * length es) recs (pad size ++ farFrames m es) back-lies) in
-      rw y at (lies-back s (at + boxLen + size) (pad size) (farFrames m es) t)
+      let t : Lies s (at + boxLen + size) (pad size ++ remoteFrames m es) = rw z at (lies-back s (at + slotsAt + 4 * length es) recs (pad size ++ remoteFrames m es) back-lies) in
+      rw y at (lies-back s (at + boxLen + size) (pad size) (remoteFrames m es) t)
 
   -- ---- headers
 
@@ -104,11 +104,11 @@ module _ (s : List ℕ) (m : Call) (at link : ℕ) (es : List Entry) (w : CallFi
 
   box-lies : Lies s at (boxBytes x)
   unfolding histHead
-  box-lies = lies-front s at (boxBytes x) (baseBytes h) head-lies
+  box-lies = box-of-heads s at x h head-lies
 
   base-lies : Lies s (at + boxLen) (baseBytes h)
   unfolding histHead
-  base-lies = rw (length-box x) at (lies-back s at (boxBytes x) (baseBytes h) head-lies)
+  base-lies = base-of-heads s at x h head-lies
 
   box-ok : boxOk x at (length s) ≡ true
   unfolding boxOk
@@ -119,25 +119,11 @@ module _ (s : List ℕ) (m : Call) (at link : ℕ) (es : List Entry) (w : CallFi
   base-ok = rw (le-leb 1 (length es) (pf .some), eq-eqb size size refl, le-leb size size (omega arith), le-leb (baseLen + 4 * length es + 0 + 0) size (omega (arith, size-is))) refl
 
   base-fits : BaseFits h
-  base-fits =
-      record {
-        size = pf .size;
-        elems = pf .few;
-        split = omega arith;
-        sibling = omega arith;
-        child = omega arith;
-        lo = omega arith;
-        hi = omega arith;
-        prefix = omega arith;
-        merging = omega arith;
-        index = omega arith;
-        many = omega arith;
-        padding = omega arith;
-      }
+  base-fits = base-of-fits size (length es) 0 0 0 0 0 0 (pf .size) (pf .few) (omega arith) (omega arith) (omega arith) (omega arith) (omega arith) (omega arith)
 
   pub hist-opens : openAt s (addr at) ≡ Opened.Is body
   hist-opens =
-      open-back s at x (box-fits m size 1 1 1 link (m .txid) (w .numbers) (pf .size) (omega arith) (omega arith) (omega arith) (pf .word) (w .numbers .txid)) box-lies (omega (arith, whole)) box-ok
+      open-back s at x (box-fits m size boxBase nodeLeaf flagSibling link (m .txid) (w .numbers) (pf .size) (omega arith) (omega arith) (omega arith) (pf .word) (w .numbers .txid)) box-lies (omega (arith, whole)) box-ok
       h base-fits base-lies refl (omega (arith, size-is)) base-ok
 
   pub hist-at : historyAt s (addr at) ≡ Opened.Is body
@@ -150,11 +136,11 @@ module _ (s : List ℕ) (m : Call) (at link : ℕ) (es : List Entry) (w : CallFi
   unfolding bodyOf kindOf
   hist-rows =
       let q : at + boxLen + (baseLen + 4 * length es) ≡ at + boxLen + baseLen + 4 * length es + 0 + 0 = omega arith in
-      let y : at + 72 ≡ at + boxLen + baseLen + 4 * 0 = omega arith in
-      let z : at + 72 + 4 * length es ≡ at + boxLen + (baseLen + 4 * length es) = omega arith in
+      let y : at + slotsAt ≡ at + boxLen + baseLen + 4 * 0 = omega arith in
+      let z : at + slotsAt + 4 * length es ≡ at + boxLen + (baseLen + 4 * length es) = omega arith in
       subst (λ (k : ℕ). Rows (SaysOld s) s body 0 k es) q
       (rows-old s m body w refl refl (omega (arith, whole)) (omega (arith, pf .size)) 0 (baseLen + 4 * length es) (at + frameLen size) es (omega arith) (omega arith) (omega (arith, size-is)) each
-      (record { above = omega (arith, ad .above); even = omega (arith, ad .even); word = ad .word }) whole (rw y at slots-lie) (rw z at recs-lie) fars-lie)
+      (record { above = omega (arith, ad .above); even = omega (arith, ad .even); word = ad .word }) whole (rw y at slots-lie) (rw z at recs-lie) remotes-lie)
 
   pub hist-whole : histOk s (addr at) ≡ true
   unfolding histOk slotsOk bodyOf kindOf

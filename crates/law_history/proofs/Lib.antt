@@ -2,10 +2,10 @@
 pub mod Opening
 pub mod Rowing
 pub mod Values
-pub mod Fars
+pub mod Remotes
 pub mod Page
 pub mod History
 pub mod Chain
 pub mod Paging
-pub mod Edges
+pub mod Boundaries
 pub mod Prefix

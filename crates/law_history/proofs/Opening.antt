@@ -17,8 +17,9 @@ use Rattle.frames.specs.declared.FrameRead.{FrameRead}
 use Rattle.frames.specs.declared.PageRead.{PageRead}
 use Rattle.frames.specs.declared.Opened.{Opened}
 use Rattle.frames.specs.declared.RemoteRead.{RemoteRead}
-use Rattle.frames.specs.Layout.{addr, boxLen, baseLen, frameLen, boxFields, boxOk, boxAt, baseFields, baseOk, pageAt, bodyOf, openAt, remoteAt}
+use Rattle.frames.specs.Layout.{boxLen, baseLen, boxBase, boxRemote, nodeLeaf, addr, frameLen, boxFields, boxOk, boxAt, baseFields, baseOk, pageAt, bodyOf, openAt, remoteAt}
 use Rattle.frames.specs.Stored.{boxBytes, baseBytes}
+use Rattle.frames.specs.Limits.{maxValue}
 use Rattle.frames.proofs.Stores.{BoxFits, BaseFits, length-box, box-reads, base-reads}
 use Rattle.build_image.specs.declared.Call.{Call}
 use Rattle.build_image.specs.Sizes.{pad}
@@ -32,12 +33,12 @@ module _ (s : List ℕ) (a : ℕ) (x : BoxHeader) (f : BoxFits x) (lies : Lies s
   unfolding boxAt
   box-back = let e : boxFields s a ≡ x = box-reads s a x f lies in rw (le-leb (a + boxLen) (length s) room, e, ok) refl
 
-  module _ (h : BaseHeader) (g : BaseFits h) (back : Lies s (a + boxLen) (baseBytes h)) (kind : x .kind ≡ 1) (holds : baseLen ≤ x .«payload_size») (ok′ : baseOk x h ≡ true) where
+  module _ (h : BaseHeader) (g : BaseFits h) (back : Lies s (a + boxLen) (baseBytes h)) (kind : x .«box_kind» ≡ boxBase) (holds : baseLen ≤ x .«payload_size») (ok′ : baseOk x h ≡ true) where
     pub page-back : pageAt s (addr a) ≡ PageRead.Page x h
     unfolding pageAt
     page-back =
         let e : baseFields s (a + boxLen) ≡ h = base-reads s (a + boxLen) h g back in
-        rw (box-back, eq-eqb (x .kind) 1 kind, le-leb baseLen (x .«payload_size») holds, e, ok′) refl
+        rw (box-back, eq-eqb (x .«box_kind») boxBase kind, le-leb baseLen (x .«payload_size») holds, e, ok′) refl
 
     pub open-back : openAt s (addr a) ≡ Opened.Is (bodyOf (addr a) x h)
     unfolding openAt
@@ -58,9 +59,9 @@ box-fits m n kind node flag link txid w p k d f l t =
     record { payload = p; kind = k; node = d; flag = f; group = w .group; link = l; txid = t; lsn = w .lsn }
 
 -- a remote frame resolves, and its bytes are the value's
-module _ (s : List ℕ) (m : Call) (a : ℕ) (v : List ℕ) (w : Numbers m) (fr : Framing s a (8 + length v)) (small : length v ≤ 65536) (lies : Lies s a (remoteFrame m v)) where
+module _ (s : List ℕ) (m : Call) (a : ℕ) (v : List ℕ) (w : Numbers m) (fr : Framing s a (8 + length v)) (small : length v ≤ maxValue) (lies : Lies s a (remoteFrame m v)) where
   abbrev box : BoxHeader
-  box = boxOf m (8 + length v) 3 1 0 0 0
+  box = boxOf m (8 + length v) boxRemote nodeLeaf 0 0 0
 
   front : Lies s a (boxBytes box)
   unfolding remoteFrame
@@ -78,7 +79,7 @@ module _ (s : List ℕ) (m : Call) (a : ℕ) (v : List ℕ) (w : Numbers m) (fr 
   unfolding remoteAt
   remote-back =
       let e : leAt 8 s (a + boxLen) ≡ length v = lies-le s (a + boxLen) 8 (length v) (omega arith) (lies-front s (a + boxLen) (le 8 (length v)) (v ++ pad (8 + length v)) rest) in
-      rw (box-back s a box (box-fits m (8 + length v) 3 1 0 0 0 w (omega arith) (omega arith) (omega arith) (omega arith) (omega arith) (omega arith)) front (omega (arith, fr .room)) is-ok, eq-eqb (8 + length v) (8 + length v) refl, e, eq-eqb (length v) (length v) refl) refl
+      rw (box-back s a box (box-fits m (8 + length v) boxRemote nodeLeaf 0 0 0 w (omega arith) (omega arith) (omega arith) (omega arith) (omega arith) (omega arith)) front (omega (arith, fr .room)) is-ok, eq-eqb (8 + length v) (8 + length v) refl, e, eq-eqb (length v) (length v) refl) refl
 
   pub remote-bytes : part s (a + boxLen + 8) (length v) ≡ v
   remote-bytes =

@@ -8,8 +8,9 @@ use native.Mathlib.Omega.{arith}
 use lib.ListN.{length, take, drop, length-drop}
 use lib.Seq.{length-take-le}
 use Rattle.order.specs.declared.Ver.{Ver}
-use Rattle.frames.specs.Layout.{addr}
-use Rattle.build_paging.specs.Cuts.{pageStart, cuts, firstCut, total}
+use Rattle.frames.specs.Layout.{baseLen, addr}
+use Rattle.frames.specs.Limits.{maxBudget}
+use Rattle.build_paging.specs.Cuts.{cuts, firstCut, total}
 use Rattle.build_paging.proofs.Cutting.{cuts-nil, Told, told, first-some, page-most}
 use Rattle.build_sources.specs.Source.{Entry}
 use Rattle.pages.specs.Sound.{chainFrom}
@@ -32,9 +33,9 @@ module _ (m : Call) (w : CallFits m) where
   page-small : (e : Entry) (es : List Entry) (k : ℕ) → k ≡ firstCut (m .budget) (costsOf limit (e ∷ es)) → k ≤ length (e ∷ es) → (k < 256 ^ 2) × (histSize limit (take k (e ∷ es)) < 256 ^ 4)
   unfolding histSize costsOf total
   page-small e es k q l =
-      let most : pageStart + total (take (firstCut (m .budget) (costsOf limit (e ∷ es))) (costsOf limit (e ∷ es))) ≤ 131072 =
-      page-most (m .budget) 131072 (costsOf limit (e ∷ es)) (w .budget) (omega arith) (omega (arith, cost-some limit e .1, w .limit)) in
-      let size : pageStart + total (costsOf limit (take k (e ∷ es))) ≤ 131072 = rw (costs-take limit k (e ∷ es), q) most in
+      let most : baseLen + total (take (firstCut (m .budget) (costsOf limit (e ∷ es))) (costsOf limit (e ∷ es))) ≤ maxBudget =
+      page-most (m .budget) maxBudget (costsOf limit (e ∷ es)) (w .budget) (omega arith) (omega (arith, cost-some limit e .1, w .limit)) in
+      let size : baseLen + total (costsOf limit (take k (e ∷ es))) ≤ maxBudget = rw (costs-take limit k (e ∷ es), q) most in
       let many : 21 * length (take k (e ∷ es)) ≤ total (costsOf limit (take k (e ∷ es))) = costs-many limit (take k (e ∷ es)) in
       let long : length (take k (e ∷ es)) ≡ k = length-take-le k (e ∷ es) l in
       (omega arith, omega arith)

@@ -18,9 +18,10 @@ use Rattle.order.specs.Version.{verOf}
 use Rattle.frames.specs.declared.Addr.{Addr}
 use Rattle.frames.specs.declared.Body.{Body}
 use Rattle.frames.specs.Layout.{addr, baseLen}
+use Rattle.frames.specs.Limits.{maxValue}
 use Rattle.values.specs.declared.HistRef.{HistRef}
 use Rattle.values.specs.declared.KeyRead.{KeyRead}
-use Rattle.values.specs.Keys.{verBytes}
+use Rattle.values.specs.Keys.{verBytes, verIn}
 use Rattle.values.specs.Vals.{frontSize, inlineBytes, remoteBytes}
 use Rattle.values.proofs.Laws.{length-inline, length-remote}
 use Rattle.values.proofs.KeysBack.{SmallVer}
@@ -29,19 +30,19 @@ use Rattle.records.specs.declared.SlotRead.{SlotRead}
 use Rattle.records.specs.declared.ValRead.{ValRead}
 use Rattle.records.specs.declared.Rec.{Rec}
 use Rattle.records.specs.declared.RecRead.{RecRead}
-use Rattle.records.specs.Records.{slotAt, verIn, keyIn, valOf, valIn, recOf, recIn, recAt}
+use Rattle.records.specs.Records.{slotAt, keyIn, valOf, valIn, recOf, recIn, recAt}
 use Rattle.build_sources.specs.Source.{Entry}
 use Rattle.build_sources.specs.Marks.{Held}
-use Rattle.build_image.specs.Image.{farAddr, valBytes}
+use Rattle.build_image.specs.Image.{remoteAddr, valBytes}
 
 -- what lies in the front of a list lies there by itself
 pub lies-take : (s : List ℕ) (at n : ℕ) (x : List ℕ) → at + length x ≤ n → Lies s at x → Lies (take n s) at x
 lies-take s at n x h l = lies-kept s (take n s) at n x h (take-take n n s (omega arith)) l
 
 -- a value that is a remote: its frame holds the bytes
-pub record Resolves (s : List ℕ) (limit far : ℕ) (e : Entry) : Type 0 where
-  pub word : farAddr far (e .kept) < 256 ^ 8
-  pub held : limit ≤ length (e .val) → Held s (farAddr far (e .kept)) (e .val)
+pub record Resolves (s : List ℕ) (limit frameAt : ℕ) (e : Entry) : Type 0 where
+  pub word : remoteAddr frameAt (e .kept) < 256 ^ 8
+  pub held : limit ≤ length (e .val) → Held s (remoteAddr frameAt (e .kept)) (e .val)
 
 -- ---- a value
 
@@ -51,7 +52,7 @@ pub record ValBack (s : List ℕ) (b : Body) (at : ℕ) (h : HistRef) (e : Entry
   pub read : valIn s b at ≡ ValRead.Is (canon h) place (length (e .val)) remote next
   pub bytes : part s place (length (e .val)) ≡ e .val
 
-module _ (s : List ℕ) (b : Body) (at limit far : ℕ) (h : HistRef) (e : Entry) (ok : Allowed h (eqb (b .kind) 0)) (w : SmallHist h) (small : length (e .val) ≤ 65536) (res : Resolves s limit far e) where
+module _ (s : List ℕ) (b : Body) (at limit frameAt : ℕ) (h : HistRef) (e : Entry) (ok : Allowed h (eqb (b .kind) 0)) (w : SmallHist h) (small : length (e .val) ≤ maxValue) (res : Resolves s limit frameAt e) where
   near : Lies s at (inlineBytes h (e .val)) → at + length (inlineBytes h (e .val)) ≤ b .end → ValBack s b at h e (at + length (inlineBytes h (e .val)))
   unfolding valIn
   near l r =
@@ -66,7 +67,7 @@ module _ (s : List ℕ) (b : Body) (at limit far : ℕ) (h : HistRef) (e : Entry
       }
 
   abbrev a : ℕ
-  a = farAddr far (e .kept)
+  a = remoteAddr frameAt (e .kept)
 
   away : limit ≤ length (e .val) → Lies s at (remoteBytes h (length (e .val)) a) → at + length (remoteBytes h (length (e .val)) a) ≤ b .end → ValBack s b at h e (at + length (remoteBytes h (length (e .val)) a))
   unfolding valIn
@@ -82,7 +83,7 @@ module _ (s : List ℕ) (b : Body) (at limit far : ℕ) (h : HistRef) (e : Entry
         bytes = k .bytes;
       }
 
-  pub val-back : Lies s at (valBytes limit far h e) → at + length (valBytes limit far h e) ≤ b .end → ValBack s b at h e (at + length (valBytes limit far h e))
+  pub val-back : Lies s at (valBytes limit frameAt h e) → at + length (valBytes limit frameAt h e) ≤ b .end → ValBack s b at h e (at + length (valBytes limit frameAt h e))
   unfolding valBytes
   val-back l r = go (ltb (length (e .val)) limit) refl l r
     where
@@ -91,15 +92,6 @@ module _ (s : List ℕ) (b : Body) (at limit far : ℕ) (h : HistRef) (e : Entry
           → ValBack s b at h e (at + length (cond t (inlineBytes h (e .val)) (remoteBytes h (length (e .val)) a)))
       go true q l′ r′ = near l′ r′
       go false q l′ r′ = away (ltb-false (length (e .val)) limit q) l′ r′
-
--- ---- a version
-
-pub ver-in : (s : List ℕ) (at : ℕ) (v : Ver) → SmallVer v → Lies s at (verBytes v) → verIn s at ≡ v
-unfolding verIn verBytes
-ver-in s at v w h =
-    let a = lies-le s at 8 (v .txid) (w .txid) (lies-front s at (le 8 (v .txid)) (le 4 (v .cmd)) h) in
-    let k : Lies s (at + 8) (le 4 (v .cmd)) = rw (length-le 8 (v .txid)) at (lies-back s at (le 8 (v .txid)) (le 4 (v .cmd)) h) in
-    ap₂ verOf a (lies-le s (at + 8) 4 (v .cmd) (w .cmd) k)
 
 -- ---- a record of a leaf or history page, from its key and its value
 

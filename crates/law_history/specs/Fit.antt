@@ -4,10 +4,11 @@ use Prim.Native.Nat.{ℕ, _%_, _^_, _≤_, _<_}
 use mathlib.Core.Path.{_≡_}
 use mathlib.Core.List.{List}
 use lib.ListN.{length}
+use Rattle.frames.specs.Limits.{maxBudget, maxKey, maxLimit}
 use Rattle.build_sources.specs.Source.{Entry}
 use Rattle.build_sources.specs.Marks.{Short, Wide, Keeps}
 use Rattle.build_image.specs.declared.Call.{Call}
-use Rattle.build_image.specs.Image.{Bounds}
+use Rattle.build_image.specs.Image.{Borders}
 
 -- an entry: its lengths are document 01's, its numbers have their widths, and a remote that it keeps holds its value
 pub record Fits (s : List ℕ) (e : Entry) : Type 0 where
@@ -23,14 +24,14 @@ pub record Numbers (m : Call) : Type 0 where
 
 -- "inline limit .. 1..65,536; budget .. 256..131,072"
 pub record CallFits (m : Call) : Type 0 where
-  pub limit : m .limit ≤ 65536
-  pub budget : m .budget ≤ 131072
+  pub limit : m .limit ≤ maxLimit
+  pub budget : m .budget ≤ maxBudget
   pub numbers : Numbers m
 
 -- "lo or hi over 4,096" is refused; "prefix_len is at most lo_len"
-pub record BoundsFit (b : Bounds) : Type 0 where
-  pub lo : length (b .lo) ≤ 4096
-  pub hi : length (b .hi) ≤ 4096
+pub record BoundsFit (b : Borders) : Type 0 where
+  pub lo : length (b .lo) ≤ maxKey
+  pub hi : length (b .hi) ≤ maxKey
   pub prefix : b .prefix ≤ length (b .lo)
   pub sibling : b .sibling < 256 ^ 8
 

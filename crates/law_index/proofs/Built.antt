@@ -11,6 +11,7 @@ use lib.Seq.{length-take-le}
 use Rattle.spans.specs.Span.{Lies}
 use Rattle.frames.specs.declared.Body.{Body}
 use Rattle.frames.specs.Layout.{addr, boxLen, baseLen, frameLen, baseOk, kindOf, bodyOf}
+use Rattle.frames.specs.Limits.{maxKey}
 use Rattle.pages.specs.Sound.{slotsFrom, slotsOk, hintsOk, soundBody}
 use Rattle.pages.specs.Meaning.{Child, says, prefixOf, childOf, rowsFrom, pageSays, meaning}
 use Rattle.pages.proofs.Turns.{chains-index, body-hints}
@@ -18,15 +19,15 @@ use Rattle.build_sources.specs.Source.{Entry}
 use Rattle.spans.proofs.Lying.{lies-front, lies-in}
 use Rattle.build_image.specs.declared.Call.{Call}
 use Rattle.build_image.specs.Sizes.{pad}
-use Rattle.build_image.specs.Image.{Bounds, firstOf, indexRecs, indexSums, indexSlots, indexSize, indexImage}
+use Rattle.build_image.specs.Image.{firstOf, indexRecs, indexSums, indexSlots, indexSize, indexImage, Borders}
 use Rattle.build_image.proofs.Index.{length-index-slots, length-index}
 use Rattle.law_history.specs.Rows.{Rows}
 use Rattle.law_history.proofs.Rowing.{rows-say, slots-rise}
-use Rattle.law_history.proofs.Edges.{Sheet, sheetBox, sheetBase, sheetBody, SheetFits, sheet-opens, slots-lie, lo-back, prefix-back, hi-back, more-lies}
+use Rattle.law_history.proofs.Boundaries.{Sheet, sheetBox, sheetBase, sheetBody, SheetFits, sheet-opens, slots-lie, lo-back, prefix-back, hi-back, more-lies}
 use Rattle.law_index.specs.Children.{childrenOf, indexPage, IndexFit}
 use Rattle.law_index.proofs.Slots.{SaysChild, rows-index, children-rise, children-many}
 
-module _ (s : List ℕ) (m : Call) (b : Bounds) (at : ℕ) (es : List Entry) (fit : IndexFit s m b at es) (lies : Lies s at (indexImage m b es)) where
+module _ (s : List ℕ) (m : Call) (b : Borders) (at : ℕ) (es : List Entry) (fit : IndexFit s m b at es) (lies : Lies s at (indexImage m b es)) where
   abbrev size : ℕ
   size = indexSize b es
 
@@ -52,7 +53,7 @@ module _ (s : List ℕ) (m : Call) (b : Bounds) (at : ℕ) (es : List Entry) (fi
   base-ok : baseOk (sheetBox m k) (sheetBase b k) ≡ true
   unfolding baseOk
   base-ok =
-      rw (eq-eqb size size refl, le-leb (length (b .lo)) 4096 (fit .bounds .lo), le-leb (length (b .hi)) 4096 (fit .bounds .hi), le-leb (b .prefix) (length (b .lo)) (fit .bounds .prefix), le-leb size size (omega arith), le-leb (firstOf b (length es)) size (omega (arith, size-is))) refl
+      rw (eq-eqb size size refl, le-leb (length (b .lo)) maxKey (fit .bounds .lo), le-leb (length (b .hi)) maxKey (fit .bounds .hi), le-leb (b .prefix) (length (b .lo)) (fit .bounds .prefix), le-leb size size (omega arith), le-leb (firstOf b (length es)) size (omega (arith, size-is))) refl
 
   sheet : SheetFits s m b at k
   sheet =

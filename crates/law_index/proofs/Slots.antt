@@ -18,6 +18,7 @@ use Rattle.order.specs.Version.{verOf}
 use Rattle.order.proofs.Versions.{newer-self}
 use Rattle.frames.specs.declared.Body.{Body}
 use Rattle.frames.specs.Layout.{addr, baseLen}
+use Rattle.frames.specs.Limits.{maxKey}
 use Rattle.values.specs.declared.KeyRead.{KeyRead}
 use Rattle.values.specs.Keys.{indexKey, keyAt}
 use Rattle.values.specs.Vals.{noHist}
@@ -52,7 +53,7 @@ module _ (s : List ℕ) (b : Body) (p : ℕ) (e : Entry) (pre : List ℕ) (kind 
   abbrev n : ℕ
   n = length (uleb (length rest))
 
-  small : length rest ≤ 4096
+  small : length rest ≤ maxKey
   small = omega (arith, sp .long, fit .short .key)
 
   key-lies : Lies s at (indexKey rest)
@@ -62,7 +63,7 @@ module _ (s : List ℕ) (b : Body) (p : ℕ) (e : Entry) (pre : List ℕ) (kind 
   unfolding keyIn
   key =
       let k : keyAt (take (b .end) s) at 1 ≡ KeyRead.Key (at + n) (at + n + 0) (length rest) = index-back (take (b .end) s) at rest small (lies-take s at (b .end) (indexKey rest) (omega arith) key-lies) in
-      rw (kind, k, cut, le-leb (p + length rest) 4096 (omega (arith, sp .long, fit .short .key))) refl
+      rw (kind, k, cut, le-leb (p + length rest) maxKey (omega (arith, sp .long, fit .short .key))) refl
 
   abbrev next : ℕ
   next = at + n + 0 + length rest + 8

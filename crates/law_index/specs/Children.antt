@@ -7,12 +7,13 @@ use mathlib.Core.List.{List, [], _∷_}
 use lib.ListN.{length, take}
 use Rattle.order.specs.Version.{verOf}
 use Rattle.frames.specs.Layout.{pageId}
+use Rattle.frames.specs.Limits.{maxEntries, maxSize}
 use Rattle.pages.specs.Meaning.{Child, Page, index}
 use Rattle.build_sources.specs.Source.{Entry}
 use Rattle.build_sources.specs.Marks.{Each, Short, Wide}
 use Rattle.build_sources.specs.Judged.{rising, prefixed}
 use Rattle.build_image.specs.declared.Call.{Call}
-use Rattle.build_image.specs.Image.{Bounds, indexSize}
+use Rattle.build_image.specs.Image.{indexSize, Borders}
 use Rattle.law_history.specs.Fit.{Numbers, BoundsFit, Address}
 
 -- a whole key and the page that it leads to
@@ -24,7 +25,7 @@ childrenOf [] = []
 childrenOf (e ∷ es) = childIs e ∷ childrenOf es
 
 -- the page that an index build is told to write
-unfoldable pub indexPage : Bounds → List Entry → Page
+unfoldable pub indexPage : Borders → List Entry → Page
 unfolding childrenOf
 indexPage b es = record { lo = b .lo; hi = b .hi; prefix = take (b .prefix) (b .lo); sibling = pageId (b .sibling); rows = index (childrenOf es) }
 
@@ -35,12 +36,12 @@ pub record Leads (e : Entry) : Type 0 where
   pub plain : e .ver ≡ verOf 0 0
 
 -- what the judge of an index build lets pass
-pub record IndexFit (s : List ℕ) (m : Call) (b : Bounds) (at : ℕ) (es : List Entry) : Type 0 where
+pub record IndexFit (s : List ℕ) (m : Call) (b : Borders) (at : ℕ) (es : List Entry) : Type 0 where
   pub address : Address s at
   pub numbers : Numbers m
   pub bounds : BoundsFit b
   pub each : Each Leads es
   pub rises : rising es ≡ true
   pub begins : prefixed (take (b .prefix) (b .lo)) es ≡ true
-  pub few : length es ≤ 65535
-  pub small : indexSize b es ≤ 16777216
+  pub few : length es ≤ maxEntries
+  pub small : indexSize b es ≤ maxSize

@@ -14,15 +14,16 @@ use Rattle.spans.proofs.Lying.{lies-front, lies-back, lies-in}
 use Rattle.frames.specs.declared.Body.{Body}
 use Rattle.frames.specs.declared.Opened.{Opened}
 use Rattle.frames.specs.Layout.{addr, boxLen, baseLen, frameLen, baseOk, kindOf, bodyOf, openAt}
-use Rattle.frames.specs.Stored.{boxBytes, baseBytes}
+use Rattle.frames.specs.Stored.{pageBytes}
+use Rattle.frames.specs.Limits.{maxKey}
 use Rattle.pages.specs.Sound.{slotsFrom, slotsOk, chainsFrom, chainsOk, hintsOk, soundBody}
 use Rattle.pages.specs.Meaning.{says, prefixOf, headOf, rowsFrom, pageSays, meaning}
 use Rattle.pages.proofs.Turns.{body-hints}
 use Rattle.build_sources.specs.Source.{Entry, wanted, only, olds, heads}
 use Rattle.build_sources.specs.Marks.{Each}
 use Rattle.build_image.specs.declared.Call.{Call}
-use Rattle.build_image.specs.Sizes.{pad, fars}
-use Rattle.build_image.specs.Image.{farFrames, farAddrs, history, historyEnd, starts, histAddrs, Place, places, headRecs, headSlots, hints, Bounds, firstOf, leafSize, cutsOf, leafRoom, oneIf, leafFrame, leafImage}
+use Rattle.build_image.specs.Sizes.{pad, remotesLen}
+use Rattle.build_image.specs.Image.{remoteFrames, remoteAddrs, history, historyEnd, starts, histAddrs, PageSlot, places, headRecs, headSlots, hints, Borders, firstOf, leafSize, cutsOf, leafRoom, oneIf, leafFrame, leafImage}
 use Rattle.build_image.proofs.Lengths.{only-few}
 use Rattle.build_image.proofs.Leaf.{length-history, length-head-slots, leaf-hints-fit, leaf-tail-fits, length-leaf-frame, length-leaf-image}
 use Rattle.law_history.specs.Fit.{Fits, Address}
@@ -30,7 +31,7 @@ use Rattle.law_history.specs.Rows.{Rows, multis}
 use Rattle.law_history.proofs.Rowing.{rows-say, slots-rise, chains-say}
 use Rattle.law_history.proofs.Chain.{end-above, end-even, Whole, history-back}
 use Rattle.law_history.proofs.Paging.{cuts-paged}
-use Rattle.law_history.proofs.Edges.{Sheet, sheetBox, sheetBase, sheetBody, SheetFits, sheet-opens, slots-lie, lo-back, prefix-back, hi-back, more-lies}
+use Rattle.law_history.proofs.Boundaries.{Sheet, sheetBox, sheetBase, sheetBody, SheetFits, sheet-opens, slots-lie, lo-back, prefix-back, hi-back, more-lies}
 use Rattle.law_leaf.specs.Grouped.{grouped, leafPage, LeafFit}
 use Rattle.law_leaf.proofs.Groups.{grouped-many, countOf, multis-is, ages, keyed, heads-rise}
 use Rattle.law_leaf.proofs.Slots.{SaysHead, Coming, rows-leaf}
@@ -56,7 +57,7 @@ one-most : (n : ℕ) → oneIf n ≤ 1
 one-most zero = omega arith
 one-most (suc n) = omega arith
 
-module _ (s : List ℕ) (m : Call) (b : Bounds) (first : ℕ) (es : List Entry) (fit : LeafFit s m b first es) (lies : Lies s first (leafImage m b first es)) where
+module _ (s : List ℕ) (m : Call) (b : Borders) (first : ℕ) (es : List Entry) (fit : LeafFit s m b first es) (lies : Lies s first (leafImage m b first es)) where
   abbrev ns : List ℕ
   ns = cutsOf m es
 
@@ -70,10 +71,10 @@ module _ (s : List ℕ) (m : Call) (b : Bounds) (first : ℕ) (es : List Entry) 
   abbrev room : ℕ
   room = leafRoom m es
 
-  abbrev far : ℕ
-  far = at + frameLen (size + room)
+  abbrev remote : ℕ
+  remote = at + frameLen (size + room)
 
-  abbrev ps : List Place
+  abbrev ps : List PageSlot
   ps = places (m .limit) first ns (olds es)
 
   abbrev n : ℕ
@@ -83,13 +84,13 @@ module _ (s : List ℕ) (m : Call) (b : Bounds) (first : ℕ) (es : List Entry) 
   slots = headSlots (m .limit) (b .prefix) (firstOf b n) es
 
   abbrev recs : List ℕ
-  recs = headRecs (m .limit) (b .prefix) far ps es
+  recs = headRecs (m .limit) (b .prefix) remote ps es
 
   abbrev tail : List ℕ
   tail = replicate (size - (firstOf b n + length recs)) 0
 
   abbrev told : List ℕ
-  told = hints room (starts (m .limit) first ns (olds es)) (histAddrs (m .limit) first ns (olds es) ++ farAddrs (m .limit) far (heads es))
+  told = hints room (starts (m .limit) first ns (olds es)) (histAddrs (m .limit) first ns (olds es) ++ remoteAddrs (m .limit) remote (heads es))
 
   abbrev more : List ℕ
   more = recs ++ (tail ++ (told ++ pad (size + room)))
@@ -102,7 +103,7 @@ module _ (s : List ℕ) (m : Call) (b : Bounds) (first : ℕ) (es : List Entry) 
 
   -- ---- places
 
-  pub whole : far + fars (m .limit) (heads es) ≤ length s
+  pub whole : remote + remotesLen (m .limit) (heads es) ≤ length s
   whole =
       let l = length-leaf-image m b first es in
       omega (arith, lies-in s first (leafImage m b first es) (omega (arith, end-above (m .limit) ns first (olds es))) lies)
@@ -117,18 +118,18 @@ module _ (s : List ℕ) (m : Call) (b : Bounds) (first : ℕ) (es : List Entry) 
 
   history-lies : Lies s first (history m first ns (olds es))
   unfolding leafImage
-  history-lies = lies-front s first (history m first ns (olds es)) (leafFrame m b first at es ++ farFrames m (heads es)) lies
+  history-lies = lies-front s first (history m first ns (olds es)) (leafFrame m b first at es ++ remoteFrames m (heads es)) lies
 
-  rest-lies : Lies s at (leafFrame m b first at es ++ farFrames m (heads es))
+  rest-lies : Lies s at (leafFrame m b first at es ++ remoteFrames m (heads es))
   unfolding leafImage
-  rest-lies = rw (length-history m ns first (olds es)) at (lies-back s first (history m first ns (olds es)) (leafFrame m b first at es ++ farFrames m (heads es)) lies)
+  rest-lies = rw (length-history m ns first (olds es)) at (lies-back s first (history m first ns (olds es)) (leafFrame m b first at es ++ remoteFrames m (heads es)) lies)
 
-  frame-lies : Lies s at (boxBytes (sheetBox m k) ++ (baseBytes (sheetBase b k) ++ (slots ++ (b .lo ++ (b .hi ++ more)))))
+  frame-lies : Lies s at (pageBytes (sheetBox m k) (sheetBase b k) ++ (slots ++ (b .lo ++ (b .hi ++ more))))
   unfolding leafFrame
-  frame-lies = lies-front s at (leafFrame m b first at es) (farFrames m (heads es)) rest-lies
+  frame-lies = lies-front s at (leafFrame m b first at es) (remoteFrames m (heads es)) rest-lies
 
-  frames-lie : Lies s far (farFrames m (heads es))
-  frames-lie = rw (length-leaf-frame m b first at es) at (lies-back s at (leafFrame m b first at es) (farFrames m (heads es)) rest-lies)
+  frames-lie : Lies s remote (remoteFrames m (heads es))
+  frames-lie = rw (length-leaf-frame m b first at es) at (lies-back s at (leafFrame m b first at es) (remoteFrames m (heads es)) rest-lies)
 
   history-is : Whole s (m .limit) first ns (olds es)
   history-is =
@@ -137,15 +138,15 @@ module _ (s : List ℕ) (m : Call) (b : Bounds) (first : ℕ) (es : List Entry) 
   -- ---- the page
 
   holds : firstOf b n + length recs ≤ size
-  holds = leaf-tail-fits m b far ps es
+  holds = leaf-tail-fits m b remote ps es
 
   base-ok : baseOk (sheetBox m k) (sheetBase b k) ≡ true
   unfolding baseOk
   base-ok =
       rw (
         many-ok (length (olds es)),
-        le-leb (length (b .lo)) 4096 (fit .bounds .lo),
-        le-leb (length (b .hi)) 4096 (fit .bounds .hi),
+        le-leb (length (b .lo)) maxKey (fit .bounds .lo),
+        le-leb (length (b .hi)) maxKey (fit .bounds .hi),
         le-leb (b .prefix) (length (b .lo)) (fit .bounds .prefix),
         le-leb size (size + room) (omega arith),
         le-leb (firstOf b n) size (omega (arith, holds)),
@@ -204,7 +205,7 @@ module _ (s : List ℕ) (m : Call) (b : Bounds) (first : ℕ) (es : List Entry) 
   unfolding bodyOf
   short = omega (arith, fit .small)
 
-  coming : Coming s m body (b .prefix) pre (fit .call) kind-is cut-is is-pre wide ends short 0 (firstOf b n) far ps es
+  coming : Coming s m body (b .prefix) pre (fit .call) kind-is cut-is is-pre wide ends short 0 (firstOf b n) remote ps es
   unfolding bodyOf
   coming =
       record {
@@ -227,7 +228,7 @@ module _ (s : List ℕ) (m : Call) (b : Bounds) (first : ℕ) (es : List Entry) 
   unfolding bodyOf
   rows =
       let q : at + boxLen + firstOf b n ≡ at + boxLen + baseLen + 4 * n + length (b .lo) + length (b .hi) = omega arith in
-      subst (λ (x : ℕ). Rows (SaysHead s body) s body 0 x (grouped es)) q (rows-leaf s m body (b .prefix) pre (fit .call) kind-is cut-is is-pre wide ends short es 0 (firstOf b n) far ps coming)
+      subst (λ (x : ℕ). Rows (SaysHead s body) s body 0 x (grouped es)) q (rows-leaf s m body (b .prefix) pre (fit .call) kind-is cut-is is-pre wide ends short es 0 (firstOf b n) remote ps coming)
 
   -- ---- sound
 
@@ -254,7 +255,7 @@ module _ (s : List ℕ) (m : Call) (b : Bounds) (first : ℕ) (es : List Entry) 
   hints-ok : hintsOk s body ≡ true
   unfolding bodyOf
   hints-ok =
-      hints-back s body room (starts (m .limit) first ns (olds es)) (histAddrs (m .limit) first ns (olds es) ++ farAddrs (m .limit) far (heads es)) (omega arith) (omega (arith, fit .small)) (leaf-hints-fit m es first far) hints-lie
+      hints-back s body room (starts (m .limit) first ns (olds es)) (histAddrs (m .limit) first ns (olds es) ++ remoteAddrs (m .limit) remote (heads es)) (omega arith) (omega (arith, fit .small)) (leaf-hints-fit m es first remote) hints-lie
 
   sound : soundBody s body ≡ true
   sound = body-hints s body (λ q. omega (arith, kind-is)) true slots-ok chains-ok hints-ok

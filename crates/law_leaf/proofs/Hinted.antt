@@ -15,8 +15,8 @@ use Rattle.pages.specs.HintsAt.{hintsOf, historyHintsAt, remoteHintsAt, hintIn}
 use Rattle.build_sources.specs.Source.{Entry, olds, heads}
 use Rattle.build_sources.specs.Marks.{Each}
 use Rattle.build_image.specs.declared.Call.{Call}
-use Rattle.build_image.specs.Sizes.{farLen, fars, counted, roomOf}
-use Rattle.build_image.specs.Image.{farAddr, farAddrs, histSize, pageEnd, historyEnd, starts, histAddrs, Bounds, leafSize, cutsOf, leafRoom, leafImage}
+use Rattle.build_image.specs.Sizes.{remoteLen, remotesLen, counted, roomOf}
+use Rattle.build_image.specs.Image.{remoteAddr, remoteAddrs, histSize, pageEnd, historyEnd, starts, histAddrs, Borders, leafSize, cutsOf, leafRoom, leafImage}
 use Rattle.build_image.proofs.Leaf.{length-starts, length-addrs, remotes-counted, remotes-kinds, hist-addrs-few, leaf-hints-fit}
 use Rattle.law_history.specs.Fit.{Fits}
 use Rattle.law_history.proofs.Chain.{end-above, each-take, each-drop}
@@ -32,7 +32,7 @@ unfolding Each
 each-append P [] ys p q = q
 each-append P (x ∷ xs) ys p q = (p .0, each-append P xs ys (p .1) q)
 
-page-end : (limit at : ℕ) (es : List Entry) → at + frameLen (histSize limit es) + fars limit es ≡ pageEnd limit at es
+page-end : (limit at : ℕ) (es : List Entry) → at + frameLen (histSize limit es) + remotesLen limit es ≡ pageEnd limit at es
 unfolding pageEnd
 page-end limit at es = refl
 
@@ -43,31 +43,31 @@ starts-word limit (n ∷ ns) at es h =
     let next = pageEnd limit at (take n es) in
     (omega (arith, page-end limit at (take n es), end-above limit ns next (drop n es)), starts-word limit ns next (drop n es) h)
 
-addr-word : (c : Bool) (far kept : ℕ) → far < 256 ^ 8 → kept < 256 ^ 8 → cond c far kept < 256 ^ 8
-addr-word true far kept p q = p
-addr-word false far kept p q = q
+addr-word : (c : Bool) (remote kept : ℕ) → remote < 256 ^ 8 → kept < 256 ^ 8 → cond c remote kept < 256 ^ 8
+addr-word true remote kept p q = p
+addr-word false remote kept p q = q
 
 addrs-by : (t : Bool) (x : ℕ) (xs ys : List ℕ) → Word x → Each Word xs → Each Word ys → Each Word (cond t xs (x ∷ ys))
 unfolding Each
 addrs-by true x xs ys w p q = p
 addrs-by false x xs ys w p q = (w, q)
 
-addrs-word : (s : List ℕ) (limit : ℕ) (es : List Entry) (far : ℕ) → Each (Fits s) es → far + fars limit es < 256 ^ 8 → Each Word (farAddrs limit far es)
-unfolding farAddrs fars farAddr Each
-addrs-word s limit [] far f h = tt
-addrs-word s limit (e ∷ es) far f h =
-    let next = far + farLen limit (length (e .val)) (e .kept) in
-    addrs-by (ltb (length (e .val)) limit) (cond (eqb (e .kept) 0) far (e .kept)) (farAddrs limit far es) (farAddrs limit next es)
-    (addr-word (eqb (e .kept) 0) far (e .kept) (omega arith) (f .0 .wide .kept)) (addrs-word s limit es far (f .1) (omega arith)) (addrs-word s limit es next (f .1) (omega arith))
+addrs-word : (s : List ℕ) (limit : ℕ) (es : List Entry) (remote : ℕ) → Each (Fits s) es → remote + remotesLen limit es < 256 ^ 8 → Each Word (remoteAddrs limit remote es)
+unfolding remoteAddrs remotesLen remoteAddr Each
+addrs-word s limit [] remote f h = tt
+addrs-word s limit (e ∷ es) remote f h =
+    let next = remote + remoteLen limit (length (e .val)) (e .kept) in
+    addrs-by (ltb (length (e .val)) limit) (cond (eqb (e .kept) 0) remote (e .kept)) (remoteAddrs limit remote es) (remoteAddrs limit next es)
+    (addr-word (eqb (e .kept) 0) remote (e .kept) (omega arith) (f .0 .wide .kept)) (addrs-word s limit es remote (f .1) (omega arith)) (addrs-word s limit es next (f .1) (omega arith))
 
 hist-word : (s : List ℕ) (limit : ℕ) (ns : List ℕ) (at : ℕ) (es : List Entry) → Each (Fits s) es → historyEnd limit at ns es < 256 ^ 8 → Each Word (histAddrs limit at ns es)
 unfolding histAddrs historyEnd Each
 hist-word s limit [] at es f h = tt
 hist-word s limit (n ∷ ns) at es f h =
     let here = take n es in
-    let far = at + frameLen (histSize limit here) in
+    let remote = at + frameLen (histSize limit here) in
     let next = pageEnd limit at here in
-    each-append Word (farAddrs limit far here) (histAddrs limit next ns (drop n es)) (addrs-word s limit here far (each-take (Fits s) n es f) (omega (arith, page-end limit at here, end-above limit ns next (drop n es))))
+    each-append Word (remoteAddrs limit remote here) (histAddrs limit next ns (drop n es)) (addrs-word s limit here remote (each-take (Fits s) n es f) (omega (arith, page-end limit at here, end-above limit ns next (drop n es))))
     (hist-word s limit ns next (drop n es) (each-drop (Fits s) n es f) h)
 
 -- ---- a room of 0 lists nothing
@@ -86,29 +86,29 @@ room-none m es h =
 
 -- ---- the leaf
 
-module _ (s : List ℕ) (m : Call) (b : Bounds) (first : ℕ) (es : List Entry) (fit : LeafFit s m b first es) (lies : Lies s first (leafImage m b first es)) where
+module _ (s : List ℕ) (m : Call) (b : Borders) (first : ℕ) (es : List Entry) (fit : LeafFit s m b first es) (lies : Lies s first (leafImage m b first es)) where
   abbrev at : ℕ
   at = historyEnd (m .limit) first (cutsOf m es) (olds es)
 
-  abbrev far : ℕ
-  far = at + frameLen (leafSize m b es + leafRoom m es)
+  abbrev remote : ℕ
+  remote = at + frameLen (leafSize m b es + leafRoom m es)
 
   -- the addresses that the hints list
   abbrev pages : List ℕ
   pages = starts (m .limit) first (cutsOf m es) (olds es)
 
-  abbrev fars-of : List ℕ
-  fars-of = histAddrs (m .limit) first (cutsOf m es) (olds es) ++ farAddrs (m .limit) far (heads es)
+  abbrev remotes-of : List ℕ
+  remotes-of = histAddrs (m .limit) first (cutsOf m es) (olds es) ++ remoteAddrs (m .limit) remote (heads es)
 
-  none : eqb (leafRoom m es) 0 ≡ true → (length pages ≡ 0) × (length fars-of ≡ 0)
+  none : eqb (leafRoom m es) 0 ≡ true → (length pages ≡ 0) × (length remotes-of ≡ 0)
   none h =
       let z = room-none m es h in
       let hs = histAddrs (m .limit) first (cutsOf m es) (olds es) in (
         omega (arith, length-starts (m .limit) (cutsOf m es) first (olds es)),
         omega (
           arith,
-          length-append hs (farAddrs (m .limit) far (heads es)),
-          length-addrs (m .limit) (heads es) far,
+          length-append hs (remoteAddrs (m .limit) remote (heads es)),
+          length-addrs (m .limit) (heads es) remote,
           hist-addrs-few (m .limit) (cutsOf m es) first (olds es),
           remotes-kinds (m .limit) es,
           remotes-counted (m .limit) es,
@@ -125,18 +125,18 @@ module _ (s : List ℕ) (m : Call) (b : Bounds) (first : ℕ) (es : List Entry) 
   pub leaf-history-hints : historyHintsAt s (addr at) ≡ hintsOf (hints-at + 4) (length pages)
   unfolding bodyOf
   leaf-history-hints =
-      history-hints s _ (leafRoom m es) pages fars-of (omega arith) small (leaf-hints-fit m es first far) (hints-lie s m b first es fit lies) (addr at) (leaf-opens s m b first es fit lies) (kind-is s m b first es fit lies) none
+      history-hints s _ (leafRoom m es) pages remotes-of (omega arith) small (leaf-hints-fit m es first remote) (hints-lie s m b first es fit lies) (addr at) (leaf-opens s m b first es fit lies) (kind-is s m b first es fit lies) none
 
-  pub leaf-remote-hints : remoteHintsAt s (addr at) ≡ hintsOf (hints-at + 4 + 8 * length pages + 4) (length fars-of)
+  pub leaf-remote-hints : remoteHintsAt s (addr at) ≡ hintsOf (hints-at + 4 + 8 * length pages + 4) (length remotes-of)
   unfolding bodyOf
   leaf-remote-hints =
-      remote-hints s _ (leafRoom m es) pages fars-of (omega arith) small (leaf-hints-fit m es first far) (hints-lie s m b first es fit lies) (addr at) (leaf-opens s m b first es fit lies) (kind-is s m b first es fit lies) none
+      remote-hints s _ (leafRoom m es) pages remotes-of (omega arith) small (leaf-hints-fit m es first remote) (hints-lie s m b first es fit lies) (addr at) (leaf-opens s m b first es fit lies) (kind-is s m b first es fit lies) none
 
   word : at < 256 ^ 8
   word = omega (arith, whole s m b first es fit lies, fit .address .word)
 
-  far-word : far + fars (m .limit) (heads es) < 256 ^ 8
-  far-word = omega (arith, whole s m b first es fit lies, fit .address .word)
+  remote-word : remote + remotesLen (m .limit) (heads es) < 256 ^ 8
+  remote-word = omega (arith, whole s m b first es fit lies, fit .address .word)
 
   full : (t : Bool) → eqb (leafRoom m es) 0 ≡ t → (t ≡ true → ⊥) → t ≡ false
   full true e n = absurd (n refl)
@@ -147,17 +147,17 @@ module _ (s : List ℕ) (m : Call) (b : Bounds) (first : ℕ) (es : List Entry) 
   unfolding bodyOf
   leaf-history-hint k h =
       let q : eqb (leafRoom m es) 0 ≡ false = full (eqb (leafRoom m es) 0) refl (λ z. omega (arith, none z .0)) in
-      let f = leaf-hints-fit m es first far q in
+      let f = leaf-hints-fit m es first remote q in
       hint-back s pages (hints-at + 4) k (starts-word (m .limit) (cutsOf m es) first (olds es) word) h (omega (arith, whole s m b first es fit lies))
-      (pages-lie s (body s m b first es fit lies) (leafRoom m es) pages fars-of (omega arith) small (leaf-hints-fit m es first far) (hints-lie s m b first es fit lies) q)
+      (pages-lie s (body s m b first es fit lies) (leafRoom m es) pages remotes-of (omega arith) small (leaf-hints-fit m es first remote) (hints-lie s m b first es fit lies) q)
 
-  pub leaf-remote-hint : (k : ℕ) → k < length fars-of → hintIn s (record { at = hints-at + 4 + 8 * length pages + 4; count = length fars-of }) k ≡ Hint.Is (addr (getD fars-of k 0))
+  pub leaf-remote-hint : (k : ℕ) → k < length remotes-of → hintIn s (record { at = hints-at + 4 + 8 * length pages + 4; count = length remotes-of }) k ≡ Hint.Is (addr (getD remotes-of k 0))
   unfolding bodyOf
   leaf-remote-hint k h =
       let q : eqb (leafRoom m es) 0 ≡ false = full (eqb (leafRoom m es) 0) refl (λ z. omega (arith, none z .1)) in
-      let f = leaf-hints-fit m es first far q in
+      let f = leaf-hints-fit m es first remote q in
       let hs = histAddrs (m .limit) first (cutsOf m es) (olds es) in
-      hint-back s fars-of (hints-at + 4 + 8 * length pages + 4) k
-      (each-append Word hs (farAddrs (m .limit) far (heads es)) (hist-word s (m .limit) (cutsOf m es) first (olds es) (each-only (Fits s) true es (fit .each)) word)
-      (addrs-word s (m .limit) (heads es) far (each-only (Fits s) false es (fit .each)) far-word)) h (omega (arith, whole s m b first es fit lies))
-      (remotes-lie s (body s m b first es fit lies) (leafRoom m es) pages fars-of (omega arith) small (leaf-hints-fit m es first far) (hints-lie s m b first es fit lies) q)
+      hint-back s remotes-of (hints-at + 4 + 8 * length pages + 4) k
+      (each-append Word hs (remoteAddrs (m .limit) remote (heads es)) (hist-word s (m .limit) (cutsOf m es) first (olds es) (each-only (Fits s) true es (fit .each)) word)
+      (addrs-word s (m .limit) (heads es) remote (each-only (Fits s) false es (fit .each)) remote-word)) h (omega (arith, whole s m b first es fit lies))
+      (remotes-lie s (body s m b first es fit lies) (leafRoom m es) pages remotes-of (omega arith) small (leaf-hints-fit m es first remote) (hints-lie s m b first es fit lies) q)

@@ -13,30 +13,30 @@ use Rattle.values.specs.declared.HistRef.{HistRef}
 use Rattle.values.specs.Vals.{histOf, noHist}
 use Rattle.values.proofs.ValsBack.{SmallHist, canon}
 use Rattle.records.specs.declared.Rec.{Rec}
-use Rattle.records.specs.Records.{verIn}
+use Rattle.values.specs.Keys.{verIn}
 use Rattle.pages.specs.Sound.{entered, headOk}
 use Rattle.pages.specs.Meaning.{oldsFrom}
 use Rattle.pages.proofs.Turns.{head-none, head-chain}
 use Rattle.build_sources.specs.Source.{Entry, olds}
-use Rattle.build_image.specs.Image.{Place, refOf}
+use Rattle.build_image.specs.Image.{PageSlot, refOf}
 use Rattle.law_history.specs.Olders.{oldersOf, Aged}
 use Rattle.law_history.proofs.Chain.{Placed, Told}
 use Rattle.law_history.proofs.Paging.{olds-read, chain-read}
 
 -- the places go on with the old versions
-pub told-drop : (s : List ℕ) (ps : List Place) (e : Entry) (es : List Entry) → Told s ps (e ∷ es) → Told s (drop 1 ps) es
+pub told-drop : (s : List ℕ) (ps : List PageSlot) (e : Entry) (es : List Entry) → Told s ps (e ∷ es) → Told s (drop 1 ps) es
 unfolding Told
 told-drop s [] e es h = absurd h
 told-drop s (p ∷ ps) e es h = h .1
 
 -- a reference's numbers have their widths
-pub ref-small : (s : List ℕ) (ps : List Place) (os : List Entry) (k : ℕ) → k < 256 ^ 4 → Told s ps os → SmallHist (refOf ps k)
+pub ref-small : (s : List ℕ) (ps : List PageSlot) (os : List Entry) (k : ℕ) → k < 256 ^ 4 → Told s ps os → SmallHist (refOf ps k)
 unfolding Told
 ref-small s [] os k l h = record { page = omega arith; slot = omega arith; count = l }
 ref-small s (p ∷ ps) [] k l h = absurd h
 ref-small s (p ∷ ps) (e ∷ es) k l h = record { page = h .0 .word; slot = h .0 .half; count = l }
 
-pub ref-count : (ps : List Place) (k : ℕ) → refOf ps k .count ≡ k
+pub ref-count : (ps : List PageSlot) (k : ℕ) → refOf ps k .count ≡ k
 ref-count [] k = refl
 ref-count (p ∷ ps) k = refl
 
@@ -52,7 +52,7 @@ unfolding oldsFrom oldersOf
 none-reads s t = record { count = refl; olds = refl; ok = λ r e v. head-none s r (ap (λ (h : HistRef). h .count) e) }
 
 -- some: x and the run xs behind it
-some-reads : (s : List ℕ) (p : Place) (t : Ver) (x : Entry) (xs ys : List Entry) → Placed s p ((x ∷ xs) ++ ys) → Aged t (x ∷ xs) → RefReads s (histOf (p .page) (p .slot) (length (x ∷ xs))) t (x ∷ xs)
+some-reads : (s : List ℕ) (p : PageSlot) (t : Ver) (x : Entry) (xs ys : List Entry) → Placed s p ((x ∷ xs) ++ ys) → Aged t (x ∷ xs) → RefReads s (histOf (p .page) (p .slot) (length (x ∷ xs))) t (x ∷ xs)
 some-reads s p t x xs ys h g =
     record {
       count = refl;
@@ -63,7 +63,7 @@ some-reads s p t x xs ys h g =
           ∙ rw (e, v) (chain-read s (p .page) (p .slot) t (x ∷ xs) ys (h .olds) g);
     }
 
-pub ref-reads : (s : List ℕ) (ps : List Place) (t : Ver) (run rest : List Entry) → Told s ps (run ++ rest) → Aged t run → RefReads s (canon (refOf ps (length run))) t run
+pub ref-reads : (s : List ℕ) (ps : List PageSlot) (t : Ver) (run rest : List Entry) → Told s ps (run ++ rest) → Aged t run → RefReads s (canon (refOf ps (length run))) t run
 unfolding Told
 ref-reads s ps t [] rest h g = rw (ap (λ (c : ℕ). eqb c 0) (ref-count ps 0)) (none-reads s t)
 ref-reads s [] t (x ∷ xs) rest h g = absurd h

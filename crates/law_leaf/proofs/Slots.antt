@@ -14,31 +14,32 @@ use Rattle.numbers.proofs.Numbers.{length-le}
 use Rattle.lengths.specs.Leb128.{uleb}
 use Rattle.frames.specs.declared.Body.{Body}
 use Rattle.frames.specs.Layout.{baseLen}
+use Rattle.frames.specs.Limits.{maxKey}
 use Rattle.values.specs.declared.HistRef.{HistRef}
 use Rattle.values.specs.declared.KeyRead.{KeyRead}
-use Rattle.values.specs.Keys.{verBytes, leafFront, leafKey, keyAt}
+use Rattle.values.specs.Keys.{verBytes, leafFront, leafKey, keyAt, verIn}
 use Rattle.values.specs.Vals.{sizeOf}
 use Rattle.values.proofs.Laws.{length-leafKey}
-use Rattle.values.proofs.KeysBack.{SmallVer, leaf-back, leaf-rest}
+use Rattle.values.proofs.KeysBack.{SmallVer, ver-back, leaf-back, leaf-rest}
 use Rattle.values.proofs.ValsBack.{SmallHist, canon}
 use Rattle.records.specs.declared.Rec.{Rec}
 use Rattle.records.specs.declared.RecRead.{RecRead}
-use Rattle.records.specs.Records.{verIn, keyIn, recIn, recAt}
+use Rattle.records.specs.Records.{keyIn, recIn, recAt}
 use Rattle.pages.specs.Sound.{headOk}
 use Rattle.pages.specs.Meaning.{Head, prefixOf, headOf}
 use Rattle.build_sources.specs.Source.{Entry, only, olds, heads}
 use Rattle.build_sources.specs.Marks.{Each}
 use Rattle.build_sources.specs.Judged.{prefixed}
 use Rattle.build_image.specs.declared.Call.{Call}
-use Rattle.build_image.specs.Sizes.{farLen, fars, keyLen, oldRun}
-use Rattle.build_image.specs.Image.{valBytes, farFrame, farFrames, Place, refOf, headRec, headRecs, any, headSlots}
-use Rattle.build_image.proofs.Lengths.{length-far}
+use Rattle.build_image.specs.Sizes.{remoteLen, remotesLen, keyLen, oldRun}
+use Rattle.build_image.specs.Image.{valBytes, remoteFrameOf, remoteFrames, PageSlot, refOf, headRec, headRecs, any, headSlots}
+use Rattle.build_image.proofs.Lengths.{length-remote-of}
 use Rattle.build_image.proofs.Leaf.{length-head}
 use Rattle.law_history.specs.Fit.{Fits, CallFits, Address}
 use Rattle.law_history.specs.Rows.{Rows}
 use Rattle.law_history.specs.Olders.{oldersOf}
-use Rattle.law_history.proofs.Values.{lies-take, Resolves, val-back, ver-in, RecBack, rec-back, rec-at}
-use Rattle.law_history.proofs.Fars.{far-even, resolves}
+use Rattle.law_history.proofs.Values.{lies-take, Resolves, val-back, RecBack, rec-back, rec-at}
+use Rattle.law_history.proofs.Remotes.{remote-even, resolves}
 use Rattle.law_history.proofs.Chain.{Told}
 use Rattle.law_history.proofs.Prefix.{Split, split, prefixed-first}
 use Rattle.law_leaf.specs.Grouped.{runOf, headIs, grouped}
@@ -62,27 +63,27 @@ pub record HeadRead (s : List ℕ) (b : Body) (at next : ℕ) (h : Head) : Type 
 -- ---- one record
 
 module _ (s : List ℕ) (b : Body) (p : ℕ) (pre : List ℕ) (kind : b .kind ≡ 0) (cut : b .«prefix_len» ≡ p) (is-pre : prefixOf s b ≡ pre) (ends : b .end ≤ length s)
-    (limit far : ℕ) (e : Entry) (h : HistRef) (run : List Entry) (small : SmallHist h) (fit : Fits s e) (sp : Split p pre (e .key)) (res : Resolves s limit far e) (ref : RefReads s (canon h) (e .ver) run)
-    (at : ℕ) (lies : Lies s at (headRec limit p far h e)) (room : at + length (headRec limit p far h e) ≤ b .end) where
+    (limit remote : ℕ) (e : Entry) (h : HistRef) (run : List Entry) (small : SmallHist h) (fit : Fits s e) (sp : Split p pre (e .key)) (res : Resolves s limit remote e) (ref : RefReads s (canon h) (e .ver) run)
+    (at : ℕ) (lies : Lies s at (headRec limit p remote h e)) (room : at + length (headRec limit p remote h e) ≤ b .end) where
   abbrev rest : List ℕ
   rest = drop p (e .key)
 
   abbrev n : ℕ
   n = length (uleb (12 + length rest))
 
-  tiny : length rest ≤ 4096
+  tiny : length rest ≤ maxKey
   tiny = omega (arith, sp .long, fit .short .key)
 
   sver : SmallVer (e .ver)
   sver = record { txid = fit .wide .txid; cmd = fit .wide .cmd }
 
-  long : length (headRec limit p far h e) ≡ length (leafKey (e .ver) rest) + length (valBytes limit far h e)
+  long : length (headRec limit p remote h e) ≡ length (leafKey (e .ver) rest) + length (valBytes limit remote h e)
   unfolding headRec
-  long = length-append (leafKey (e .ver) rest) (valBytes limit far h e)
+  long = length-append (leafKey (e .ver) rest) (valBytes limit remote h e)
 
   key-lies : Lies s at (leafKey (e .ver) rest)
   unfolding headRec
-  key-lies = lies-front s at (leafKey (e .ver) rest) (valBytes limit far h e) lies
+  key-lies = lies-front s at (leafKey (e .ver) rest) (valBytes limit remote h e) lies
 
   ver-lies : Lies s (at + n) (verBytes (e .ver))
   unfolding leafKey leafFront
@@ -93,24 +94,24 @@ module _ (s : List ℕ) (b : Body) (p : ℕ) (pre : List ℕ) (kind : b .kind �
   key =
       let k : keyAt (take (b .end) s) at 0 ≡ KeyRead.Key (at + n) (at + n + 12) (length rest) =
       leaf-back (take (b .end) s) at (e .ver) rest tiny sver (lies-take s at (b .end) (leafKey (e .ver) rest) (omega (arith, long)) key-lies) in
-      rw (kind, k, cut, le-leb (p + length rest) 4096 (omega (arith, sp .long, fit .short .key))) refl
+      rw (kind, k, cut, le-leb (p + length rest) maxKey (omega (arith, sp .long, fit .short .key))) refl
 
-  val-lies : Lies s (at + n + 12 + length rest) (valBytes limit far h e)
+  val-lies : Lies s (at + n + 12 + length rest) (valBytes limit remote h e)
   unfolding headRec
   val-lies =
       let z : at + length (leafKey (e .ver) rest) ≡ at + n + 12 + length rest = omega (arith, length-leafKey (e .ver) rest) in
-      rw z at (lies-back s at (leafKey (e .ver) rest) (valBytes limit far h e) lies)
+      rw z at (lies-back s at (leafKey (e .ver) rest) (valBytes limit remote h e) lies)
 
-  head-back : RecBack s b at (at + n) (at + n + 12) (length rest) h e (at + n + 12 + length rest + length (valBytes limit far h e))
+  head-back : RecBack s b at (at + n) (at + n + 12) (length rest) h e (at + n + 12 + length rest + length (valBytes limit remote h e))
   head-back =
-      rec-back s b at (at + n) (at + n + 12) (length rest) h e (at + n + 12 + length rest + length (valBytes limit far h e)) (λ q. omega arith) key
-      (val-back s b (at + n + 12 + length rest) limit far h e (λ q. eq-eqb (b .kind) 0 kind) small (fit .short .val) res val-lies (omega (arith, long, length-leafKey (e .ver) rest)))
+      rec-back s b at (at + n) (at + n + 12) (length rest) h e (at + n + 12 + length rest + length (valBytes limit remote h e)) (λ q. omega arith) key
+      (val-back s b (at + n + 12 + length rest) limit remote h e (λ q. eq-eqb (b .kind) 0 kind) small (fit .short .val) res val-lies (omega (arith, long, length-leafKey (e .ver) rest)))
 
-  head-next : head-back .rec .next ≡ at + length (headRec limit p far h e)
+  head-next : head-back .rec .next ≡ at + length (headRec limit p remote h e)
   head-next = head-back .behind ∙ omega (arith, long, length-leafKey (e .ver) rest)
 
   ver-is : verIn s (head-back .rec .«ver_at») ≡ e .ver
-  ver-is = rw (head-back .ver-at) (ver-in s (at + n) (e .ver) sver ver-lies)
+  ver-is = rw (head-back .ver-at) (ver-back s (at + n) (e .ver) sver ver-lies)
 
   rest-is : part s (head-back .rec .«rest_at») (head-back .rec .«rest_len») ≡ rest
   rest-is = rw (head-back .rest-at, head-back .rest-len) (lies-part s (at + n + 12) (length rest) rest refl (leaf-rest s at (e .ver) rest tiny sver key-lies))
@@ -124,7 +125,7 @@ module _ (s : List ℕ) (b : Body) (p : ℕ) (pre : List ℕ) (kind : b .kind �
         count = ap (λ (x : HistRef). x .count) (head-back .hist) ∙ ref .count ∙ sym (length-olders run);
       }
 
-  pub head-read : HeadRead s b at (at + length (headRec limit p far h e)) (record { key = e .key; ver = e .ver; value = e .val; olds = oldersOf run })
+  pub head-read : HeadRead s b at (at + length (headRec limit p remote h e)) (record { key = e .key; ver = e .ver; value = e .val; olds = oldersOf run })
   head-read = record { rec = head-back .rec; read = head-back .read; from = head-back .from; behind = head-next; says = head-says }
 
 -- ---- the records in order
@@ -139,25 +140,25 @@ olds-old e es q = ap (λ (t : Bool). cond t (e ∷ only true es) (only true es))
 
 module _ (s : List ℕ) (m : Call) (b : Body) (p : ℕ) (pre : List ℕ) (w : CallFits m) (kind : b .kind ≡ 0) (cut : b .«prefix_len» ≡ p) (is-pre : prefixOf s b ≡ pre) (wide : length pre ≡ p) (ends : b .end ≤ length s) (short : b .end < b .at + 256 ^ 4) where
   -- what is still to come from slot i on
-  pub record Coming (i off far : ℕ) (ps : List Place) (es : List Entry) : Type 0 where
+  pub record Coming (i off remote : ℕ) (ps : List PageSlot) (es : List Entry) : Type 0 where
     pub count : i + length (heads es) ≡ b .elems
     pub low : b .first ≤ b .at + off
-    pub high : b .at + off + length (headRecs (m .limit) p far ps es) ≤ b .end
+    pub high : b .at + off + length (headRecs (m .limit) p remote ps es) ≤ b .end
     pub each : Each (Fits s) es
     pub begins : prefixed pre es ≡ true
     pub told : Told s ps (olds es)
     pub ages : Ages es
     pub few : length es < 256 ^ 4
-    pub address : Address s far
-    pub room : far + fars (m .limit) (heads es) ≤ length s
+    pub address : Address s remote
+    pub room : remote + remotesLen (m .limit) (heads es) ≤ length s
     pub slots : Lies s (b .at + baseLen + 4 * i) (headSlots (m .limit) p off es)
-    pub recs : Lies s (b .at + off) (headRecs (m .limit) p far ps es)
-    pub frames : Lies s far (farFrames m (heads es))
+    pub recs : Lies s (b .at + off) (headRecs (m .limit) p remote ps es)
+    pub frames : Lies s remote (remoteFrames m (heads es))
 
   -- an old version stands in no slot
-  skipped : (i off far : ℕ) (ps : List Place) (e : Entry) (es : List Entry) → e .old ≡ true → Coming i off far ps (e ∷ es) → Coming i off far (drop 1 ps) es
+  skipped : (i off remote : ℕ) (ps : List PageSlot) (e : Entry) (es : List Entry) → e .old ≡ true → Coming i off remote ps (e ∷ es) → Coming i off remote (drop 1 ps) es
   unfolding only headSlots headRecs Each Ages
-  skipped i off far ps e es q c =
+  skipped i off remote ps e es q c =
       record {
         count = rw q at (c .count);
         low = c .low;
@@ -174,7 +175,7 @@ module _ (s : List ℕ) (m : Call) (b : Body) (p : ℕ) (pre : List ℕ) (w : Ca
         frames = rw q at (c .frames);
       }
 
-  module _ (i off far : ℕ) (ps : List Place) (e : Entry) (es : List Entry) (q : e .old ≡ false) (c : Coming i off far ps (e ∷ es)) where
+  module _ (i off remote : ℕ) (ps : List PageSlot) (e : Entry) (es : List Entry) (q : e .old ≡ false) (c : Coming i off remote ps (e ∷ es)) where
     abbrev limit : ℕ
     limit = m .limit
 
@@ -185,16 +186,16 @@ module _ (s : List ℕ) (m : Call) (b : Body) (p : ℕ) (pre : List ℕ) (w : Ca
     ref = refOf ps k
 
     abbrev here : List ℕ
-    here = headRec limit p far ref e
+    here = headRec limit p remote ref e
 
-    abbrev far′ : ℕ
-    far′ = far + farLen limit (length (e .val)) (e .kept)
+    abbrev remote′ : ℕ
+    remote′ = remote + remoteLen limit (length (e .val)) (e .kept)
 
     abbrev off′ : ℕ
     off′ = off + (keyLen p (length (e .key)) + sizeOf (any k) limit (length (e .val)))
 
     abbrev more : List ℕ
-    more = headRecs limit p far′ ps es
+    more = headRecs limit p remote′ ps es
 
     recs-are : Lies s (b .at + off) (here ++ more)
     unfolding headRecs
@@ -208,12 +209,12 @@ module _ (s : List ℕ) (m : Call) (b : Body) (p : ℕ) (pre : List ℕ) (w : Ca
     unfolding headSlots
     slots-are = rw q at (c .slots)
 
-    frames-are : Lies s far (farFrame m e ++ farFrames m (heads es))
-    unfolding only farFrames
+    frames-are : Lies s remote (remoteFrameOf m e ++ remoteFrames m (heads es))
+    unfolding only remoteFrames
     frames-are = rw q at (c .frames)
 
-    room-is : far + (farLen limit (length (e .val)) (e .kept) + fars limit (heads es)) ≤ length s
-    unfolding only fars
+    room-is : remote + (remoteLen limit (length (e .val)) (e .kept) + remotesLen limit (heads es)) ≤ length s
+    unfolding only remotesLen
     room-is = rw q at (c .room)
 
     count-is : i + suc (length (heads es)) ≡ b .elems
@@ -225,12 +226,12 @@ module _ (s : List ℕ) (m : Call) (b : Body) (p : ℕ) (pre : List ℕ) (w : Ca
     told-is = rw q at (c .told)
 
     here-long : length here ≡ keyLen p (length (e .key)) + sizeOf (any k) limit (length (e .val))
-    here-long = length-head limit p far ref e ∙ ap (λ (j : ℕ). keyLen p (length (e .key)) + sizeOf (any j) limit (length (e .val))) (ref-count ps k)
+    here-long = length-head limit p remote ref e ∙ ap (λ (j : ℕ). keyLen p (length (e .key)) + sizeOf (any j) limit (length (e .val))) (ref-count ps k)
 
     next-at : b .at + off + length here ≡ b .at + off′
     next-at = omega (arith, here-long)
 
-    followed : Coming (i + 1) off′ far′ ps es
+    followed : Coming (i + 1) off′ remote′ ps es
     unfolding Each Ages
     followed =
         let y : b .at + baseLen + 4 * i + length (le 4 off) ≡ b .at + baseLen + 4 * (i + 1) = omega (arith, length-le 4 off) in
@@ -243,11 +244,11 @@ module _ (s : List ℕ) (m : Call) (b : Body) (p : ℕ) (pre : List ℕ) (w : Ca
           told = told-is;
           ages = c .ages .1;
           few = omega (arith, c .few);
-          address = record { above = omega (arith, c .address .above); even = omega (arith, c .address .even, far-even limit (length (e .val)) (e .kept)); word = c .address .word };
+          address = record { above = omega (arith, c .address .above); even = omega (arith, c .address .even, remote-even limit (length (e .val)) (e .kept)); word = c .address .word };
           room = omega (arith, room-is);
           slots = rw y at (lies-back s (b .at + baseLen + 4 * i) (le 4 off) (headSlots limit p off′ es) slots-are);
           recs = rw next-at at (lies-back s (b .at + off) here more recs-are);
-          frames = rw (length-far m e) at (lies-back s far (farFrame m e) (farFrames m (heads es)) frames-are);
+          frames = rw (length-remote-of m e) at (lies-back s remote (remoteFrameOf m e) (remoteFrames m (heads es)) frames-are);
         }
 
     -- the head itself
@@ -255,8 +256,8 @@ module _ (s : List ℕ) (m : Call) (b : Body) (p : ℕ) (pre : List ℕ) (w : Ca
     unfolding Each
     fit = c .each .0
 
-    res : Resolves s limit far e
-    res = resolves s m far e w fit (c .address) (omega (arith, room-is)) (lies-front s far (farFrame m e) (farFrames m (heads es)) frames-are)
+    res : Resolves s limit remote e
+    res = resolves s m remote e w fit (c .address) (omega (arith, room-is)) (lies-front s remote (remoteFrameOf m e) (remoteFrames m (heads es)) frames-are)
 
     sp : Split p pre (e .key)
     sp = split p pre (e .key) wide (prefixed-first pre e es (c .begins) .0)
@@ -277,7 +278,7 @@ module _ (s : List ℕ) (m : Call) (b : Body) (p : ℕ) (pre : List ℕ) (w : Ca
     here-room = omega (arith, high-is, length-append here more)
 
     back : HeadRead s b (b .at + off) (b .at + off + length here) (headIs e es)
-    back = head-read s b p pre kind cut is-pre ends limit far e ref (runOf es) (ref-small s ps (olds es) k run-few told-is) fit sp res reads (b .at + off) here-lies here-room
+    back = head-read s b p pre kind cut is-pre ends limit remote e ref (runOf es) (ref-small s ps (olds es) k run-few told-is) fit sp res reads (b .at + off) here-lies here-room
 
     read : recAt s b i ≡ recIn s b (b .at + off)
     read = rec-at s b i off (omega (arith, count-is)) (c .low) (omega (arith, here-room, here-long, key-some p (length (e .key)))) (omega (arith, here-room, short)) (lies-front s (b .at + baseLen + 4 * i) (le 4 off) (headSlots limit p off′ es) slots-are)
@@ -286,15 +287,15 @@ module _ (s : List ℕ) (m : Call) (b : Body) (p : ℕ) (pre : List ℕ) (w : Ca
     unfolding Rows
     added h = (back .rec, read ∙ back .read, back .from, back .says, subst (λ (x : ℕ). Rows (SaysHead s b) s b (i + 1) x (grouped es)) (sym (back .behind ∙ next-at)) h)
 
-  rows-by : (t : Bool) (i off far : ℕ) (ps : List Place) (e : Entry) (es : List Entry) → e .old ≡ t → Coming i off far ps (e ∷ es)
-      → ((i off far : ℕ) (ps : List Place) → Coming i off far ps es → Rows (SaysHead s b) s b i (b .at + off) (grouped es))
+  rows-by : (t : Bool) (i off remote : ℕ) (ps : List PageSlot) (e : Entry) (es : List Entry) → e .old ≡ t → Coming i off remote ps (e ∷ es)
+      → ((i off remote : ℕ) (ps : List PageSlot) → Coming i off remote ps es → Rows (SaysHead s b) s b i (b .at + off) (grouped es))
       → Rows (SaysHead s b) s b i (b .at + off) (cond t (grouped es) (headIs e es ∷ grouped es))
-  rows-by true i off far ps e es q c ih = ih i off far (drop 1 ps) (skipped i off far ps e es q c)
-  rows-by false i off far ps e es q c ih =
-      added i off far ps e es q c (ih (i + 1) (off′ i off far ps e es q c) (far′ i off far ps e es q c) ps (followed i off far ps e es q c))
+  rows-by true i off remote ps e es q c ih = ih i off remote (drop 1 ps) (skipped i off remote ps e es q c)
+  rows-by false i off remote ps e es q c ih =
+      added i off remote ps e es q c (ih (i + 1) (off′ i off remote ps e es q c) (remote′ i off remote ps e es q c) ps (followed i off remote ps e es q c))
 
   -- the records are the heads with their older versions
-  pub rows-leaf : (es : List Entry) (i off far : ℕ) (ps : List Place) → Coming i off far ps es → Rows (SaysHead s b) s b i (b .at + off) (grouped es)
+  pub rows-leaf : (es : List Entry) (i off remote : ℕ) (ps : List PageSlot) → Coming i off remote ps es → Rows (SaysHead s b) s b i (b .at + off) (grouped es)
   unfolding Rows grouped
-  rows-leaf [] i off far ps c = tt
-  rows-leaf (e ∷ es) i off far ps c = rows-by (e .old) i off far ps e es refl c (rows-leaf es)
+  rows-leaf [] i off remote ps c = tt
+  rows-leaf (e ∷ es) i off remote ps c = rows-by (e .old) i off remote ps e es refl c (rows-leaf es)

@@ -6,12 +6,13 @@ use mathlib.Core.Bool.{true, cond}
 use mathlib.Core.List.{List, [], _∷_}
 use lib.ListN.{length, take}
 use Rattle.frames.specs.Layout.{pageId}
+use Rattle.frames.specs.Limits.{maxEntries, maxSize}
 use Rattle.pages.specs.Meaning.{Head, Page, leaf}
 use Rattle.build_sources.specs.Source.{Entry}
 use Rattle.build_sources.specs.Marks.{Each, Marked}
 use Rattle.build_sources.specs.Judged.{rising, prefixed}
 use Rattle.build_image.specs.declared.Call.{Call}
-use Rattle.build_image.specs.Image.{Bounds, leafSize, leafRoom}
+use Rattle.build_image.specs.Image.{leafSize, leafRoom, Borders}
 use Rattle.law_history.specs.Fit.{Fits, CallFits, BoundsFit, Address}
 use Rattle.law_history.specs.Olders.{oldersOf}
 
@@ -30,12 +31,12 @@ grouped [] = []
 grouped (e ∷ es) = cond (e .old) (grouped es) (headIs e es ∷ grouped es)
 
 -- the page that a leaf build is told to write
-unfoldable pub leafPage : Bounds → List Entry → Page
+unfoldable pub leafPage : Borders → List Entry → Page
 unfolding grouped
 leafPage b es = record { lo = b .lo; hi = b .hi; prefix = take (b .prefix) (b .lo); sibling = pageId (b .sibling); rows = leaf (grouped es) }
 
 -- what the judge of a leaf build lets pass
-pub record LeafFit (s : List ℕ) (m : Call) (b : Bounds) (at : ℕ) (es : List Entry) : Type 0 where
+pub record LeafFit (s : List ℕ) (m : Call) (b : Borders) (at : ℕ) (es : List Entry) : Type 0 where
   pub address : Address s at
   pub call : CallFits m
   pub bounds : BoundsFit b
@@ -43,5 +44,5 @@ pub record LeafFit (s : List ℕ) (m : Call) (b : Bounds) (at : ℕ) (es : List 
   pub marks : Marked es
   pub rises : rising es ≡ true
   pub begins : prefixed (take (b .prefix) (b .lo)) es ≡ true
-  pub few : length es ≤ 65535
-  pub small : leafSize m b es + leafRoom m es ≤ 16777216
+  pub few : length es ≤ maxEntries
+  pub small : leafSize m b es + leafRoom m es ≤ maxSize

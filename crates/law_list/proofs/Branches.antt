@@ -12,7 +12,7 @@ use Rattle.order.specs.Order.{startsWith}
 use Rattle.frames.specs.declared.Addr.{Addr}
 use Rattle.pages.specs.Meaning.{Child, index, says, meaning}
 use Rattle.build_sources.specs.Source.{Entry}
-use Rattle.build_image.specs.Image.{Bounds}
+use Rattle.build_image.specs.Image.{Borders}
 use Rattle.sst.specs.Search.{lowerAt, floorAt}
 use Rattle.sst.specs.Says.{FloorSays}
 use Rattle.sst.proofs.Answers.{lower-says, floor-says}
@@ -36,7 +36,7 @@ unfolding childrenOf having
 children-having p [] = refl
 children-having p (e ∷ es) = part-by p (p (e .key)) (childIs e) e (having childKey p (childrenOf es)) (having keyIs p es) refl (children-having p es)
 
-module _ (s : List ℕ) (a : Addr) (b : Bounds) (es : List Entry) (means : meaning s a ≡ says (indexPage b es)) where
+module _ (s : List ℕ) (a : Addr) (b : Borders) (es : List Entry) (means : meaning s a ≡ says (indexPage b es)) where
   abbrev cs : List Child
   cs = childrenOf es
 

@@ -15,11 +15,11 @@ use Rattle.order.proofs.Laws.{case-order, cmp-same, cmp-eq, cmp-less}
 use Rattle.frames.specs.declared.Addr.{Addr}
 use Rattle.values.specs.declared.HistRef.{HistRef}
 use Rattle.pages.specs.declared.Place.{Place}
-use Rattle.pages.specs.Edges.{partIn}
+use Rattle.pages.specs.Boundaries.{partIn}
 use Rattle.pages.specs.Meaning.{Head, leaf, says, oldsFrom, meaning}
 use Rattle.build_sources.specs.Source.{Entry, heads}
 use Rattle.build_sources.specs.Marks.{Each, Marked, Wide}
-use Rattle.build_image.specs.Image.{Bounds}
+use Rattle.build_image.specs.Image.{Borders}
 use Rattle.sst.specs.declared.Found.{Found}
 use Rattle.sst.specs.Search.{lowerAt, searchAt}
 use Rattle.sst.specs.Says.{noHead, FoundSays, IsHead}
@@ -47,7 +47,7 @@ unequal k probe n = go (cmpBytes k probe) refl
     go Order.Equal e = absurd (n (cmp-eq k probe e))
     go Order.Greater e = refl
 
-module _ (s : List ℕ) (a : Addr) (b : Bounds) (es : List Entry) (means : meaning s a ≡ says (leafPage b es)) (marks : Marked es) where
+module _ (s : List ℕ) (a : Addr) (b : Borders) (es : List Entry) (means : meaning s a ≡ says (leafPage b es)) (marks : Marked es) where
   abbrev hs : List Head
   hs = grouped es
 

@@ -1,6 +1,6 @@
 -- What is asked of a page, said over the list that it was built from: its records, those of a range of keys, those of one key.
 -- Assumes nothing.
-use Prim.Native.Nat.{ℕ, _-_, _^_, _<_}
+use Prim.Native.Nat.{ℕ, _-_, _^_}
 use mathlib.Core.Path.{_≡_}
 use mathlib.Core.Bool.{Bool, not, _&&_, cond}
 use mathlib.Core.List.{List, [], _∷_}
@@ -9,7 +9,7 @@ use Rattle.order.specs.Order.{cmpBytes, isEqual}
 use Rattle.order.specs.Version.{verOf}
 use Rattle.frames.specs.declared.Refusal.{Refusal}
 use Rattle.pages.specs.Sound.{isLess}
-use Rattle.pages.specs.Edges.{partIn}
+use Rattle.pages.specs.Boundaries.{partIn}
 use Rattle.pages.specs.Meaning.{Page, oldsFrom}
 use Rattle.build_sources.specs.Source.{Entry}
 use Rattle.sst.specs.declared.Bound.{Bound}

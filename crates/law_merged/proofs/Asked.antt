@@ -15,8 +15,8 @@ use Rattle.pages.specs.Meaning.{says, meaning, checkOf}
 use Rattle.pages.proofs.Says.{says-checked}
 use Rattle.build_sources.specs.Source.{Entry, heads}
 use Rattle.build_sources.specs.Marks.{Each, Marked, Wide}
-use Rattle.build_image.specs.Image.{Bounds}
-use Rattle.base.specs.Calls.{newAnswer, newArena, intlAnswer, intlArena}
+use Rattle.build_image.specs.Image.{Borders}
+use Rattle.base.specs.Calls.{newAnswer, newArena, newIndexAnswer, newIndexArena}
 use Rattle.sst.specs.Search.{lowerAt, searchAt, floorAt}
 use Rattle.sst.specs.Says.{FloorSays}
 use Rattle.walks.specs.Walk.{forwardAt, backwardAt}
@@ -34,7 +34,7 @@ use Rattle.law_merged.proofs.Trees.{leaf-made, leaf-wide, index-made}
 -- ---- leaves
 
 module _ (t : Tree) (s : List ℕ) (mark : ℕ) (p : Addr) (made : Made newAnswer newArena t s mark p) where
-  abbrev b : Bounds
+  abbrev b : Borders
   b = boundsOf t
 
   -- the lists one behind the other, and as one list
@@ -85,8 +85,8 @@ module _ (t : Tree) (s : List ℕ) (mark : ℕ) (p : Addr) (made : Made newAnswe
 
 -- ---- index pages
 
-module _ (t : Tree) (s : List ℕ) (mark : ℕ) (p : Addr) (made : Made intlAnswer intlArena t s mark p) where
-  abbrev c : Bounds
+module _ (t : Tree) (s : List ℕ) (mark : ℕ) (p : Addr) (made : Made newIndexAnswer newIndexArena t s mark p) where
+  abbrev c : Borders
   c = boundsOf t
 
   abbrev front : List ℕ

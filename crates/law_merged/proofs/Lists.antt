@@ -11,8 +11,8 @@ use Rattle.order.specs.Order.{cmpBytes, isEqual}
 use Rattle.order.specs.Version.{verOf}
 use Rattle.pages.specs.Meaning.{Child}
 use Rattle.build_sources.specs.declared.Cursor.{Cursor}
-use Rattle.build_sources.specs.declared.Item.{Item}
-use Rattle.build_sources.specs.declared.Step.{Step}
+use Rattle.build_sources.specs.declared.EntryAt.{EntryAt}
+use Rattle.build_sources.specs.declared.EntryRead.{EntryRead}
 use Rattle.build_sources.specs.Source.{Entry, after, listF, nextOf, leftOf, entryOf, entries}
 use Rattle.build_sources.specs.Marks.{Each, MarkedFrom, Marked, Wide}
 use Rattle.build_sources.proofs.Walk.{after-same}
@@ -28,25 +28,25 @@ use Rattle.law_merged.specs.Joined.{markedAs, behind, oneList}
 -- ---- whatever lies in the arena
 
 module _ (l w w′ : List ℕ) where
-  entry-anywhere : (i : Item) → i .low ≡ false → entryOf l w i ≡ entryOf l w′ i
+  entry-anywhere : (i : EntryAt) → i .ground ≡ false → entryOf l w i ≡ entryOf l w′ i
   unfolding entryOf
   entry-anywhere i e = rw e refl
 
-  step-anywhere : (c : Cursor) → (c .kind ≡ 2 → ⊥) → nextOf l w c ≡ nextOf l w′ c
+  step-anywhere : (c : Cursor) → (c .source ≡ 2 → ⊥) → nextOf l w c ≡ nextOf l w′ c
   unfolding nextOf
-  step-anywhere c n = rw (ne-eqb (c .kind) 2 n) refl
+  step-anywhere c n = rw (ne-eqb (c .source) 2 n) refl
 
-  from-anywhere : (f : ℕ) (c : Cursor) → (c .kind ≡ 2 → ⊥) → listF (nextOf l w) (entryOf l w) f c ≡ listF (nextOf l w′) (entryOf l w′) f c
+  from-anywhere : (f : ℕ) (c : Cursor) → (c .source ≡ 2 → ⊥) → listF (nextOf l w) (entryOf l w) f c ≡ listF (nextOf l w′) (entryOf l w′) f c
   unfolding listF
   from-anywhere zero c n = refl
   from-anywhere (suc f) c n =
-      ap (λ (st : Step). after st (λ (i : Item) (d : Cursor). entryOf l w i ∷ listF (nextOf l w) (entryOf l w) f d) [] []) (step-anywhere c n)
+      ap (λ (st : EntryRead). after st (λ (i : EntryAt) (d : Cursor). entryOf l w i ∷ listF (nextOf l w) (entryOf l w) f d) [] []) (step-anywhere c n)
       ∙ after-same (nextOf l w′ c) _ _ [] []
       (λ i d e.
       let t = step-tells l w′ c i d e in
-      ap₂ (λ (x : Entry) (xs : List Entry). x ∷ xs) (entry-anywhere i (t .low ∙ ne-eqb (c .kind) 2 n)) (from-anywhere f d (λ k. n (sym (t .kind) ∙ k))))
+      ap₂ (λ (x : Entry) (xs : List Entry). x ∷ xs) (entry-anywhere i (t .ground ∙ ne-eqb (c .source) 2 n)) (from-anywhere f d (λ k. n (sym (t .source) ∙ k))))
 
-  pub list-anywhere : (c : Cursor) → (c .kind ≡ 2 → ⊥) → entries l w c ≡ entries l w′ c
+  pub list-anywhere : (c : Cursor) → (c .source ≡ 2 → ⊥) → entries l w c ≡ entries l w′ c
   unfolding entries leftOf
   list-anywhere c n = from-anywhere (suc (leftOf l w c)) c n
 

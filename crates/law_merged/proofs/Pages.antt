@@ -19,18 +19,18 @@ use Rattle.build_sources.specs.Source.{Entry, olds}
 use Rattle.build_sources.specs.Marks.{Each, Short}
 use Rattle.walks.specs.Listed.{entriesOf}
 use Rattle.build_image.specs.declared.Call.{Call}
-use Rattle.build_image.specs.Image.{Bounds, cutsOf, historyEnd, leafImage, indexImage}
+use Rattle.build_image.specs.Image.{Borders, cutsOf, historyEnd, leafImage, indexImage}
 use Rattle.build_totals.specs.Totals.{leafAt}
 use Rattle.build_image.specs.declared.Built.{Built}
 use Rattle.build_image.specs.Call.{limitOk, budgetOk, nextOk, limitsOk}
-use Rattle.build_table.specs.Table.{Row, row, judged}
+use Rattle.build_image.specs.Table.{Row, row, judged}
 use Rattle.build_table.specs.Index.{indexEnd}
 use Rattle.build_table.specs.Leaf.{leafEnd}
-use Rattle.build_table.proofs.Tables.{All}
+use Rattle.build_image.proofs.Tables.{All}
 use Rattle.law_two_pages.specs.Pairs.{bare, child, Carried, NoPage, NoVersion}
-use Rattle.merge.specs.declared.Sorts.{Sorts}
+use Rattle.merge.specs.declared.Kinds.{Kinds}
 use Rattle.merge.specs.Merge.{boundsBetween, boundsIn, merged, Merged}
-use Rattle.merge.specs.Answer.{sortsIn, sortRows, answerBy, arenaBy, mergeAnswer, mergeArena}
+use Rattle.merge.specs.Answer.{kindsIn, kindRows, answerBy, arenaBy, mergeAnswer, mergeArena}
 use Rattle.merge.proofs.Gathering.{lo-short, hi-short, prefix-short}
 use Rattle.merge.proofs.Said.{sibling-fits, bounds-said, leaves-said, indexes-said}
 use Rattle.law_history.specs.Fit.{Fits, BoundsFit}
@@ -47,7 +47,7 @@ module _ (a : List ℕ) (next : ℕ) (m : Call) (left right : Addr) (typed : Typ
   abbrev w : List ℕ
   w = take next a
 
-  abbrev b : Bounds
+  abbrev b : Borders
   b = boundsIn w left right
 
   abbrev es : List Entry
@@ -61,16 +61,16 @@ module _ (a : List ℕ) (next : ℕ) (m : Call) (left right : Addr) (typed : Typ
   bytes = bytes-part a 0 next (typed .bytes)
 
   -- the table, the kinds of the pages known
-  abbrev rows : Sorts → List Row
-  rows k = row (limitsOk (m .limit) (m .budget)) BadLimit ∷ row (nextOk (length a) next) BadArena ∷ sortRows (length a) next m b es k
+  abbrev rows : Kinds → List Row
+  rows k = row (limitsOk (m .limit) (m .budget)) BadLimit ∷ row (nextOk (length a) next) BadArena ∷ kindRows (length a) next m b es k
 
-  answers-by : (k : Sorts) → sortsIn w left right ≡ k → answerBy (rows k) next m b es k ≡ Built.At p end
+  answers-by : (k : Kinds) → kindsIn w left right ≡ k → answerBy (rows k) next m b es k ≡ Built.At p end
   unfolding mergeAnswer
-  answers-by k q = ap (λ (s : Sorts). answerBy (rows s) next m b es s) (sym q) ∙ answers
+  answers-by k q = ap (λ (s : Kinds). answerBy (rows s) next m b es s) (sym q) ∙ answers
 
-  arena-by : (k : Sorts) → sortsIn w left right ≡ k → after ≡ arenaBy (rows k) a next m b es k
+  arena-by : (k : Kinds) → kindsIn w left right ≡ k → after ≡ arenaBy (rows k) a next m b es k
   unfolding mergeArena
-  arena-by k q = ap (λ (s : Sorts). arenaBy (rows s) a next m b es s) q
+  arena-by k q = ap (λ (s : Kinds). arenaBy (rows s) a next m b es s) q
 
   module _ (x y : Page) (f : meaning w left ≡ says x) (g : meaning w right ≡ says y) where
     bounds : BoundsFit b
@@ -79,7 +79,7 @@ module _ (a : List ℕ) (next : ℕ) (m : Call) (left right : Addr) (typed : Typ
     -- ---- two leaves
 
     module _ (hs ks : List Head) (d : x .rows ≡ leaf hs) (e : y .rows ≡ leaf ks) where
-      are-leaves : sortsIn w left right ≡ Sorts.Leaves
+      are-leaves : kindsIn w left right ≡ Kinds.Leaves
       are-leaves = rw (f, g, d, e) refl
 
       abbrev at : ℕ
@@ -88,15 +88,15 @@ module _ (a : List ℕ) (next : ℕ) (m : Call) (left right : Addr) (typed : Typ
       abbrev image : List ℕ
       image = leafImage m b next es
 
-      leaf-built : judged (rows Sorts.Leaves) Built.Refused (Built.At (addr at) (next + length image)) ≡ Built.At p end
+      leaf-built : judged (rows Kinds.Leaves) Built.Refused (Built.At (addr at) (next + length image)) ≡ Built.At p end
       unfolding leafEnd leafAt
-      leaf-built = answers-by Sorts.Leaves are-leaves
+      leaf-built = answers-by Kinds.Leaves are-leaves
 
-      leaf-is : after ≡ judged (rows Sorts.Leaves) (λ r. a) (put a next image)
-      leaf-is = arena-by Sorts.Leaves are-leaves
+      leaf-is : after ≡ judged (rows Kinds.Leaves) (λ r. a) (put a next image)
+      leaf-is = arena-by Kinds.Leaves are-leaves
 
-      leaf-holds : All (rows Sorts.Leaves)
-      leaf-holds = all-hold (rows Sorts.Leaves) at (next + length image) p end leaf-built
+      leaf-holds : All (rows Kinds.Leaves)
+      leaf-holds = all-hold (rows Kinds.Leaves) at (next + length image) p end leaf-built
 
       leaf-room : next + length image ≤ length a
       unfolding leafEnd
@@ -124,31 +124,31 @@ module _ (a : List ℕ) (next : ℕ) (m : Call) (left right : Addr) (typed : Typ
 
         pub leaves-merged : meaning s p ≡ says (leafPage (boundsBetween x y) es)
         leaves-merged =
-            answered-says (rows Sorts.Leaves) a next at image p end leaf-built leaf-room after leaf-is s long (later .same) (leafPage b es) (leaf-stored a m b next es leaf-fits (typed .word) leaf-room)
-            ∙ ap (λ (z : Bounds). says (leafPage z es)) (bounds-said w left right x y f g)
+            answered-says (rows Kinds.Leaves) a next at image p end leaf-built leaf-room after leaf-is s long (later .same) (leafPage b es) (leaf-stored a m b next es leaf-fits (typed .word) leaf-room)
+            ∙ ap (λ (z : Borders). says (leafPage z es)) (bounds-said w left right x y f g)
 
         -- every page that said something below the old mark still says it
         pub leaves-others : (q : Addr) (r : Page) → meaning w q ≡ says r → meaning s q ≡ says r
-        leaves-others = answered-others (rows Sorts.Leaves) a next at image p end leaf-built leaf-room after leaf-is s long (later .same)
+        leaves-others = answered-others (rows Kinds.Leaves) a next at image p end leaf-built leaf-room after leaf-is s long (later .same)
 
     -- ---- two index pages
 
     module _ (cs ds : List Child) (d : x .rows ≡ index cs) (e : y .rows ≡ index ds) where
-      are-indexes : sortsIn w left right ≡ Sorts.Indexes
+      are-indexes : kindsIn w left right ≡ Kinds.Indexes
       are-indexes = rw (f, g, d, e) refl
 
       abbrev page : List ℕ
       page = indexImage m b es
 
-      index-built : judged (rows Sorts.Indexes) Built.Refused (Built.At (addr next) (next + length page)) ≡ Built.At p end
+      index-built : judged (rows Kinds.Indexes) Built.Refused (Built.At (addr next) (next + length page)) ≡ Built.At p end
       unfolding indexEnd
-      index-built = answers-by Sorts.Indexes are-indexes
+      index-built = answers-by Kinds.Indexes are-indexes
 
-      index-is : after ≡ judged (rows Sorts.Indexes) (λ r. a) (put a next page)
-      index-is = arena-by Sorts.Indexes are-indexes
+      index-is : after ≡ judged (rows Kinds.Indexes) (λ r. a) (put a next page)
+      index-is = arena-by Kinds.Indexes are-indexes
 
-      index-holds : All (rows Sorts.Indexes)
-      index-holds = all-hold (rows Sorts.Indexes) next (next + length page) p end index-built
+      index-holds : All (rows Kinds.Indexes)
+      index-holds = all-hold (rows Kinds.Indexes) next (next + length page) p end index-built
 
       index-room : next + length page ≤ length a
       unfolding indexEnd
@@ -176,8 +176,8 @@ module _ (a : List ℕ) (next : ℕ) (m : Call) (left right : Addr) (typed : Typ
 
         pub indexes-merged : meaning s p ≡ says (indexPage (boundsBetween x y) es)
         indexes-merged =
-            answered-says (rows Sorts.Indexes) a next next page p end index-built index-room after index-is s reach (later .same) (indexPage b es) (index-stored a m b next es index-fits index-room)
-            ∙ ap (λ (z : Bounds). says (indexPage z es)) (bounds-said w left right x y f g)
+            answered-says (rows Kinds.Indexes) a next next page p end index-built index-room after index-is s reach (later .same) (indexPage b es) (index-stored a m b next es index-fits index-room)
+            ∙ ap (λ (z : Borders). says (indexPage z es)) (bounds-said w left right x y f g)
 
         pub indexes-others : (q : Addr) (r : Page) → meaning w q ≡ says r → meaning s q ≡ says r
-        indexes-others = answered-others (rows Sorts.Indexes) a next next page p end index-built index-room after index-is s reach (later .same)
+        indexes-others = answered-others (rows Kinds.Indexes) a next next page p end index-built index-room after index-is s reach (later .same)

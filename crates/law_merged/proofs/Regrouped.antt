@@ -6,8 +6,8 @@ use mathlib.Core.Path.{_≡_, refl, sym, ap, ap₂, _∙_}
 use mathlib.Core.List.{List, [], _∷_, _++_, append-nil, append-assoc}
 use Rattle.frames.specs.declared.Addr.{Addr}
 use Rattle.pages.specs.Meaning.{says, meaning}
-use Rattle.build_image.specs.Image.{Bounds}
-use Rattle.base.specs.Calls.{listed, newAnswer, newArena, intlAnswer, intlArena, boundsFrom}
+use Rattle.build_image.specs.Image.{Borders}
+use Rattle.base.specs.Calls.{listed, newAnswer, newArena, newIndexAnswer, newIndexArena, boundsFrom}
 use Rattle.law_leaf.specs.Grouped.{leafPage}
 use Rattle.law_index.specs.Children.{childrenOf, indexPage}
 use Rattle.law_list.specs.Asked.{recordsOf}
@@ -22,15 +22,15 @@ module _ (t u : Tree) (bounds : boundsOf t ≡ boundsOf u) (s s′ : List ℕ) (
   pub same-leaves : recordsOf (entriesIn 0 t) ≡ recordsOf (entriesIn 0 u) → Made newAnswer newArena t s mark p → Made newAnswer newArena u s′ mark′ p′ → meaning s p ≡ meaning s′ p′
   same-leaves h x y =
       leaf-made t s mark p x
-      ∙ ap (λ (b : Bounds). says (leafPage b (recordList t))) bounds
+      ∙ ap (λ (b : Borders). says (leafPage b (recordList t))) bounds
       ∙ ap says
       (same-leaf (boundsOf u) (recordList t) (recordList u) (one-records (entriesIn 0 t) ∙ h ∙ sym (one-records (entriesIn 0 u))) (one-marked (entriesIn 0 t)) (one-marked (entriesIn 0 u)))
       ∙ sym (leaf-made u s′ mark′ p′ y)
 
-  pub same-branches : childrenOf (entriesIn 1 t) ≡ childrenOf (entriesIn 1 u) → Made intlAnswer intlArena t s mark p → Made intlAnswer intlArena u s′ mark′ p′ → meaning s p ≡ meaning s′ p′
+  pub same-branches : childrenOf (entriesIn 1 t) ≡ childrenOf (entriesIn 1 u) → Made newIndexAnswer newIndexArena t s mark p → Made newIndexAnswer newIndexArena u s′ mark′ p′ → meaning s p ≡ meaning s′ p′
   same-branches h x y =
       index-made t s mark p x
-      ∙ ap (λ (b : Bounds). says (indexPage b (entriesIn 1 t))) bounds
+      ∙ ap (λ (b : Borders). says (indexPage b (entriesIn 1 t))) bounds
       ∙ ap says (same-index (boundsOf u) (entriesIn 1 t) (entriesIn 1 u) h)
       ∙ sym (index-made u s′ mark′ p′ y)
 
@@ -77,9 +77,9 @@ module _ (t u : Tree) (same : inputsOf t ≡ inputsOf u) where
   none : Input
   none = record { list = []; lo = []; hi = []; sibling = 0 }
 
-  same-entries : (kind : ℕ) → entriesIn kind t ≡ entriesIn kind u
-  same-entries kind =
-      all-flat (λ i. listed (i .list) [] kind) t ∙ ap (flat (λ (i : Input). listed (i .list) [] kind)) same ∙ sym (all-flat (λ i. listed (i .list) [] kind) u)
+  same-entries : (source : ℕ) → entriesIn source t ≡ entriesIn source u
+  same-entries source =
+      all-flat (λ i. listed (i .list) [] source) t ∙ ap (flat (λ (i : Input). listed (i .list) [] source)) same ∙ sym (all-flat (λ i. listed (i .list) [] source) u)
 
   same-left : leftmost t ≡ leftmost u
   same-left = sym (left-first none t []) ∙ ap (λ (is : List Input). firstOr none (is ++ [])) same ∙ left-first none u []
@@ -95,5 +95,5 @@ module _ (t u : Tree) (same : inputsOf t ≡ inputsOf u) where
     pub regrouped-leaves : Made newAnswer newArena t s mark p → Made newAnswer newArena u s′ mark′ p′ → meaning s p ≡ meaning s′ p′
     regrouped-leaves = same-leaves t u same-bounds s s′ mark mark′ p p′ (ap recordsOf (same-entries 0))
 
-    pub regrouped-branches : Made intlAnswer intlArena t s mark p → Made intlAnswer intlArena u s′ mark′ p′ → meaning s p ≡ meaning s′ p′
+    pub regrouped-branches : Made newIndexAnswer newIndexArena t s mark p → Made newIndexAnswer newIndexArena u s′ mark′ p′ → meaning s p ≡ meaning s′ p′
     regrouped-branches = same-branches t u same-bounds s s′ mark mark′ p p′ (ap childrenOf (same-entries 1))

@@ -16,9 +16,9 @@ use Rattle.build_sources.specs.Marks.{Each, Marked, Wide}
 use Rattle.build_sources.proofs.Marked.{list-wide, marked}
 use Rattle.walks.specs.Listed.{Entry as Listed, entriesOf}
 use Rattle.build_image.specs.declared.Call.{Call}
-use Rattle.build_image.specs.Image.{Bounds}
+use Rattle.build_image.specs.Image.{Borders}
 use Rattle.build_image.specs.declared.Built.{Built}
-use Rattle.base.specs.Calls.{listed, newAnswer, newArena, intlAnswer, intlArena}
+use Rattle.base.specs.Calls.{listed, newAnswer, newArena, newIndexAnswer, newIndexArena}
 use Rattle.merge.specs.Merge.{boundsBetween, merged}
 use Rattle.merge.specs.Answer.{mergeAnswer, mergeArena}
 use Rattle.law_leaf.specs.Grouped.{grouped, leafPage}
@@ -26,8 +26,8 @@ use Rattle.law_index.specs.Children.{childrenOf, indexPage}
 use Rattle.law_list.specs.Asked.{recordsOf}
 use Rattle.law_list.proofs.Flat.{flat-grouped}
 use Rattle.law_calls.proofs.New.{new-says}
-use Rattle.law_calls.proofs.Intl.{intl-says}
-use Rattle.law_merged.specs.Trees.{Input, Tree, built, joined, Typed, Later, Answer, Arena, edgesOf, BuiltBy, Made}
+use Rattle.law_calls.proofs.Index.{index-says}
+use Rattle.law_merged.specs.Trees.{Input, Tree, built, joined, Typed, Later, Answer, Arena, boundariesOf, BuiltBy, Made}
 use Rattle.law_merged.specs.Joined.{allOf, entriesIn, leftmost, rightmost, boundsOf, recordList, leafOf, indexOf}
 use Rattle.law_leaf.proofs.Hinted.{each-append}
 use Rattle.law_merged.proofs.Lists.{list-anywhere, bare-records, child-children, records-append, children-append, one-records, one-marked, same-groups}
@@ -57,7 +57,7 @@ module _ (answer : Answer) (arena : Arena) where
         bytes = x .bytes;
         id = x .id;
         answers = x .answers;
-        later = later-on (x .end) (arena (x .was) (x .next) (i .list) (x .call) (edgesOf i)) s s′ mark mark′ h k e (x .later);
+        later = later-on (x .end) (arena (x .was) (x .next) (i .list) (x .call) (boundariesOf i)) s s′ mark mark′ h k e (x .later);
       }
   made-later (joined t u) s s′ mark mark′ p h k e x =
       record {
@@ -102,7 +102,7 @@ module _ (answer : Answer) (arena : Arena) where
 -- ---- leaves
 
 -- a page says a list's records: marks right, any two such lists are one
-pub same-leaf : (b : Bounds) (es fs : List Entry) → recordsOf es ≡ recordsOf fs → Marked es → Marked fs → leafPage b es ≡ leafPage b fs
+pub same-leaf : (b : Borders) (es fs : List Entry) → recordsOf es ≡ recordsOf fs → Marked es → Marked fs → leafPage b es ≡ leafPage b fs
 unfolding leafPage
 same-leaf b es fs h m n =
     ap (λ (hs : List Head). record { lo = b .lo; hi = b .hi; prefix = take (b .prefix) (b .lo); sibling = pageId (b .sibling); rows = leaf hs }) (same-groups es fs h m n)
@@ -149,18 +149,18 @@ leaf-wide (joined t u) s mark p x =
 
 -- ---- index pages
 
-pub same-index : (b : Bounds) (es fs : List Entry) → childrenOf es ≡ childrenOf fs → indexPage b es ≡ indexPage b fs
+pub same-index : (b : Borders) (es fs : List Entry) → childrenOf es ≡ childrenOf fs → indexPage b es ≡ indexPage b fs
 unfolding indexPage
 same-index b es fs h =
     ap (λ (cs : List Child). record { lo = b .lo; hi = b .hi; prefix = take (b .prefix) (b .lo); sibling = pageId (b .sibling); rows = index cs }) h
 
-index-first : (i : Input) (s : List ℕ) (mark : ℕ) (p : Addr) → BuiltBy intlAnswer intlArena i s mark p → meaning s p ≡ says (indexOf (built i))
+index-first : (i : Input) (s : List ℕ) (mark : ℕ) (p : Addr) → BuiltBy newIndexAnswer newIndexArena i s mark p → meaning s p ≡ says (indexOf (built i))
 unfolding allOf leftmost rightmost
 index-first i s mark p x =
     let l = i .list in
     let w = take (x .next) (x .was) in
     let long : x .end ≤ length s = omega (arith, x .later .above, x .later .inside) in
-    intl-says (x .was) (x .next) l (x .call) (i .lo) (i .hi) (i .sibling) (x .bytes) (x .typed .word) (x .typed .numbers) (x .id) p (x .end) (x .answers) s long (x .later .same)
+    index-says (x .was) (x .next) l (x .call) (i .lo) (i .hi) (i .sibling) (x .bytes) (x .typed .word) (x .typed .numbers) (x .id) p (x .end) (x .answers) s long (x .later .same)
     ∙ ap (λ (es : List Entry). says (indexPage (boundsOf (built i)) es)) (list-anywhere l w [] (firstOf 1) (λ k. omega arith))
 
 index-then : (t u : Tree) (a : List ℕ) (next : ℕ) (m : Call) (left right : Addr) → Typed a m → (p : Addr) (end : ℕ) → mergeAnswer a next m left right ≡ Built.At p end
@@ -177,5 +177,5 @@ index-then t u a next m left right typed p end answers f g s mark later =
     ∙ ap says (same-index (boundsOf (joined t u)) es (entriesIn 1 (joined t u)) h)
 
 -- THE LAW for index pages
-pub index-made : (t : Tree) (s : List ℕ) (mark : ℕ) (p : Addr) → Made intlAnswer intlArena t s mark p → meaning s p ≡ says (indexOf t)
-index-made = by-tree intlAnswer intlArena indexOf index-first index-then
+pub index-made : (t : Tree) (s : List ℕ) (mark : ℕ) (p : Addr) → Made newIndexAnswer newIndexArena t s mark p → meaning s p ≡ says (indexOf t)
+index-made = by-tree newIndexAnswer newIndexArena indexOf index-first index-then

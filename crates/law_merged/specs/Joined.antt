@@ -6,7 +6,7 @@ use mathlib.Core.List.{List, [], _∷_, _++_}
 use Rattle.order.specs.Order.{cmpBytes, isEqual}
 use Rattle.pages.specs.Meaning.{Page}
 use Rattle.build_sources.specs.Source.{Entry}
-use Rattle.build_image.specs.Image.{Bounds}
+use Rattle.build_image.specs.Image.{Borders}
 use Rattle.base.specs.Calls.{boundsFrom, listed}
 use Rattle.law_leaf.specs.Grouped.{leafPage}
 use Rattle.law_index.specs.Children.{indexPage}
@@ -23,7 +23,7 @@ inputsOf t = allOf (λ i. i ∷ []) t
 
 -- the entries of the lists, one list behind the other: 0 record lists, 1 index lists
 abbrev pub entriesIn : ℕ → Tree → List Entry
-entriesIn kind t = allOf (λ i. listed (i .list) [] kind) t
+entriesIn source t = allOf (λ i. listed (i .list) [] source) t
 
 -- "Merge takes lo .. of the left, .. hi and right_sibling of the right"
 unfoldable pub leftmost : Tree → Input
@@ -34,7 +34,7 @@ unfoldable pub rightmost : Tree → Input
 rightmost (built i) = i
 rightmost (joined t u) = rightmost u
 
-abbrev pub boundsOf : Tree → Bounds
+abbrev pub boundsOf : Tree → Borders
 boundsOf t = boundsFrom (leftmost t .lo) (rightmost t .hi) (rightmost t .sibling)
 
 -- ---- as one list: "The first version of each key is its head", also where a key goes on from one list into the next

@@ -7,7 +7,7 @@ use lib.ListN.{length, take}
 use Rattle.numbers.specs.Number.{Bytes}
 use Rattle.frames.specs.declared.Addr.{Addr}
 use Rattle.build_image.specs.declared.Call.{Call}
-use Rattle.build_image.specs.Image.{Bounds}
+use Rattle.build_image.specs.Image.{Borders}
 use Rattle.build_image.specs.declared.Built.{Built}
 use Rattle.base.specs.Calls.{boundsFrom}
 use Rattle.merge.specs.Answer.{mergeAnswer, mergeArena}
@@ -41,13 +41,13 @@ pub record Later (end : ℕ) (after s : List ℕ) (mark : ℕ) : Type 0 where
 
 -- a build's answer and arena, by arena, next free address, list, call and boundaries
 abbrev pub Answer : Type 0
-Answer = List ℕ → ℕ → List ℕ → Call → Bounds → Built
+Answer = List ℕ → ℕ → List ℕ → Call → Borders → Built
 
 abbrev pub Arena : Type 0
-Arena = List ℕ → ℕ → List ℕ → Call → Bounds → List ℕ
+Arena = List ℕ → ℕ → List ℕ → Call → Borders → List ℕ
 
-abbrev pub edgesOf : Input → Bounds
-edgesOf i = boundsFrom (i .lo) (i .hi) (i .sibling)
+abbrev pub boundariesOf : Input → Borders
+boundariesOf i = boundsFrom (i .lo) (i .hi) (i .sibling)
 
 -- p was answered by a build from i, and s, mark are later
 pub record BuiltBy (answer : Answer) (arena : Arena) (i : Input) (s : List ℕ) (mark : ℕ) (p : Addr) : Type 0 where
@@ -58,8 +58,8 @@ pub record BuiltBy (answer : Answer) (arena : Arena) (i : Input) (s : List ℕ) 
   pub typed : Typed was call
   pub bytes : Bytes (i .list)
   pub id : i .sibling < 256 ^ 8
-  pub answers : answer was next (i .list) call (edgesOf i) ≡ Built.At p end
-  pub later : Later end (arena was next (i .list) call (edgesOf i)) s mark
+  pub answers : answer was next (i .list) call (boundariesOf i) ≡ Built.At p end
+  pub later : Later end (arena was next (i .list) call (boundariesOf i)) s mark
 
 -- p was answered by a merge of two pages that came to be in the arena that it was lent, and s, mark are later
 pub record JoinedBy (Left Right : List ℕ → ℕ → Addr → Type 0) (s : List ℕ) (mark : ℕ) (p : Addr) : Type 0 where

@@ -18,9 +18,10 @@ use Rattle.frames.specs.declared.PageRead.{PageRead}
 use Rattle.frames.specs.declared.Body.{Body}
 use Rattle.frames.specs.declared.Opened.{Opened}
 use Rattle.frames.specs.declared.RemoteRead.{RemoteRead}
-use Rattle.frames.specs.Layout.{boxLen, baseLen, frameLen, boxFields, addressOk, kindsOk, flagOk, linkOk, remoteOk, boxOk, boxAt, baseFields, baseOk, pageOf, pageAt, openOf, openAt, remoteOf, remoteAt}
+use Rattle.frames.specs.Layout.{boxLen, baseLen, boxBase, boxRemote, frameLen, boxFields, addressOk, boxKindOk, flagOk, linkOk, remoteOk, boxOk, boxAt, baseFields, baseOk, pageOf, pageAt, openOf, openAt, remoteOf, remoteAt}
 use Rattle.frames.proofs.Frames.{and-l, and-r, framed}
-use Rattle.law_stays.proofs.Grown.{Grown, stay-byte, stay-number}
+use Rattle.frames.proofs.Stores.{base-same}
+use Rattle.law_stays.proofs.Grown.{Grown, stay-part, stay-byte, stay-number}
 
 and-both : (a b : Bool) → a ≡ true → b ≡ true → (a && b) ≡ true
 and-both true b p q = q
@@ -30,7 +31,7 @@ and-both false b p q = p
 box-longer : (h : BoxHeader) (at m n : ℕ) → m ≤ n → boxOk h at m ≡ true → boxOk h at n ≡ true
 unfolding boxOk
 box-longer h at m n l e =
-    let front = addressOk at && kindsOk h && flagOk h && linkOk h at && remoteOk h in
+    let front = addressOk at && boxKindOk h && flagOk h && linkOk h at && remoteOk h in
     let r = leb-true (at + frameLen (h .«payload_size»)) m (and-r front (leb (at + frameLen (h .«payload_size»)) m) e) in
     and-both front (leb (at + frameLen (h .«payload_size»)) n) (and-l front (leb (at + frameLen (h .«payload_size»)) m) e) (le-leb (at + frameLen (h .«payload_size»)) n (omega arith))
 
@@ -41,7 +42,7 @@ module _ (t s : List ℕ) (g : Grown t s) where
       λ i.
       record {
         «payload_size» = stay-number t s g 4 at (omega arith) i;
-        kind = stay-byte t s g (at + 4) (omega arith) i;
+        «box_kind» = stay-byte t s g (at + 4) (omega arith) i;
         «node_type» = stay-byte t s g (at + 5) (omega arith) i;
         flag = stay-byte t s g (at + 6) (omega arith) i;
         group = stay-byte t s g (at + 7) (omega arith) i;
@@ -51,23 +52,7 @@ module _ (t s : List ℕ) (g : Grown t s) where
       }
 
   base-fields : (at : ℕ) → at + baseLen ≤ length t → baseFields s at ≡ baseFields t at
-  unfolding baseFields
-  base-fields at h =
-      λ i.
-      record {
-        size = stay-number t s g 4 at (omega arith) i;
-        elems = stay-number t s g 2 (at + 4) (omega arith) i;
-        «split_elems» = stay-number t s g 2 (at + 6) (omega arith) i;
-        «right_sibling» = record { 0 = stay-number t s g 8 (at + 8) (omega arith) i };
-        «merging_child» = record { 0 = stay-number t s g 8 (at + 16) (omega arith) i };
-        «lo_len» = stay-number t s g 4 (at + 24) (omega arith) i;
-        «hi_len» = stay-number t s g 4 (at + 28) (omega arith) i;
-        «prefix_len» = stay-number t s g 4 (at + 32) (omega arith) i;
-        merging = stay-byte t s g (at + 36) (omega arith) i;
-        «is_index» = stay-byte t s g (at + 37) (omega arith) i;
-        «has_multiple_versions» = stay-byte t s g (at + 38) (omega arith) i;
-        padding = stay-byte t s g (at + 39) (omega arith) i;
-      }
+  base-fields at h = base-same s t at (stay-part t s g at baseLen h)
 
   pub box-stays : (a : Addr) (h : BoxHeader) → boxAt t a ≡ FrameRead.Frame h → boxAt s a ≡ FrameRead.Frame h
   unfolding boxAt
@@ -90,7 +75,7 @@ module _ (t s : List ℕ) (g : Grown t s) where
 
       go : (f : FrameRead) → boxAt t a ≡ f → pageOf t (a .0) f ≡ PageRead.Page x h → pageOf s (a .0) (boxAt s a) ≡ PageRead.Page x h
       go (FrameRead.Frame y) q e′ =
-          let a1 = ask (eqb (y .kind) 1) _ PageRead.Bad (PageRead.Page x h) no e′ in
+          let a1 = ask (eqb (y .«box_kind») boxBase) _ PageRead.Bad (PageRead.Page x h) no e′ in
           let a2 = ask (leb baseLen (y .«payload_size»)) _ PageRead.Bad (PageRead.Page x h) no (a1 .1) in
           let l : a .0 + boxLen + baseLen ≤ length t = omega (arith, framed t a y q .room, leb-true baseLen (y .«payload_size») (a2 .0)) in
           rw (box-stays a y q, base-fields (a .0 + boxLen) l) e′
@@ -113,7 +98,7 @@ module _ (t s : List ℕ) (g : Grown t s) where
 
       go : (f : FrameRead) → boxAt t a ≡ f → remoteOf t (a .0) n f ≡ RemoteRead.At p → remoteOf s (a .0) n (boxAt s a) ≡ RemoteRead.At p
       go (FrameRead.Frame h) q e′ =
-          let a1 = ask (eqb (h .kind) 3) _ RemoteRead.Bad (RemoteRead.At p) no e′ in
+          let a1 = ask (eqb (h .«box_kind») boxRemote) _ RemoteRead.Bad (RemoteRead.At p) no e′ in
           let a2 = ask (eqb (h .«payload_size») (8 + n)) _ RemoteRead.Bad (RemoteRead.At p) no (a1 .1) in
           let l : a .0 + boxLen + 8 ≤ length t = omega (arith, framed t a h q .room, eqb-true (h .«payload_size») (8 + n) (a2 .0)) in
           rw (box-stays a h q, stay-number t s g 8 (a .0 + boxLen) l) e′

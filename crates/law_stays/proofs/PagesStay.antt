@@ -25,7 +25,8 @@ use Rattle.values.specs.Vals.{noHist}
 use Rattle.records.specs.declared.SlotRead.{SlotRead}
 use Rattle.records.specs.declared.Rec.{Rec}
 use Rattle.records.specs.declared.RecRead.{RecRead}
-use Rattle.records.specs.Records.{slotAt, keyIn, recOf, recKey, recIn, recSlot, recAt, verIn}
+use Rattle.values.specs.Keys.{verIn}
+use Rattle.records.specs.Records.{slotAt, keyIn, recOf, recKey, recIn, recSlot, recAt}
 use Rattle.records.proofs.Inside.{at-inside, ver-inside}
 use Rattle.pages.specs.declared.OldRead.{OldRead}
 use Rattle.pages.specs.Sound.{isLess, inOrder, slotsFrom, slotsOk, historyOf, historyAt, histOf, histOk, oldRec, oldIn, oldLink, oldOf, oldAt, chainFrom, enteredOf, entered, headOk, multiOf, chainsOf, chainsFrom, chainsOk, remotesAt, hintsOk, soundBody}

@@ -16,13 +16,13 @@ use Rattle.frames.specs.Layout.{baseLen, addr, Inside, remoteAt}
 use Rattle.values.specs.declared.HistRef.{HistRef}
 use Rattle.values.specs.declared.KeyRead.{KeyRead}
 use Rattle.values.specs.declared.Val.{Val}
-use Rattle.values.specs.Keys.{keyAt}
+use Rattle.values.specs.Keys.{verIn, keyAt}
 use Rattle.values.specs.Vals.{noHist, valAt}
 use Rattle.records.specs.declared.SlotRead.{SlotRead}
 use Rattle.records.specs.declared.ValRead.{ValRead}
 use Rattle.records.specs.declared.Rec.{Rec}
 use Rattle.records.specs.declared.RecRead.{RecRead}
-use Rattle.records.specs.Records.{placeOf, slotAt, verIn, keyWhole, keyIn, farOf, valOf, valIn, recOf, recVal, recKey, recIn, recSlot, recAt}
+use Rattle.records.specs.Records.{placeOf, slotAt, keyWhole, keyIn, remoteOf, valOf, valIn, recOf, recVal, recKey, recIn, recSlot, recAt}
 use Rattle.records.proofs.Inside.{slot-inside}
 use Rattle.law_stays.proofs.Grown.{Grown, stay-take, stay-number}
 use Rattle.law_stays.proofs.FramesStay.{remote-stays}
@@ -54,13 +54,13 @@ module _ (t s : List ℕ) (g : Grown t s) where
     val-stays at h p n a next e =
         rw page-bytes (go (valAt (take (b .end) t) at (eqb (b .kind) 0)) e)
       where
-        far : (h′ : HistRef) (a′ : Addr) (n′ next′ : ℕ) (r : RemoteRead) → remoteAt t a′ n′ ≡ r → farOf h′ a′ n′ next′ r ≡ ValRead.Is h p n a next → farOf h′ a′ n′ next′ (remoteAt s a′ n′) ≡ ValRead.Is h p n a next
-        far h′ a′ n′ next′ (RemoteRead.At q) w e′ = rw (remote-stays t s g a′ n′ q w) e′
-        far h′ a′ n′ next′ RemoteRead.Bad w e′ = absurd (let z : _≡_ {A = ℕ} 0 1 = cc in omega arith)
+        remote : (h′ : HistRef) (a′ : Addr) (n′ next′ : ℕ) (r : RemoteRead) → remoteAt t a′ n′ ≡ r → remoteOf h′ a′ n′ next′ r ≡ ValRead.Is h p n a next → remoteOf h′ a′ n′ next′ (remoteAt s a′ n′) ≡ ValRead.Is h p n a next
+        remote h′ a′ n′ next′ (RemoteRead.At q) w e′ = rw (remote-stays t s g a′ n′ q w) e′
+        remote h′ a′ n′ next′ RemoteRead.Bad w e′ = absurd (let z : _≡_ {A = ℕ} 0 1 = cc in omega arith)
 
         go : (v : Val) → valOf t v ≡ ValRead.Is h p n a next → valOf s v ≡ ValRead.Is h p n a next
         go (Val.Inline h′ p′ n′ next′) e′ = e′
-        go (Val.Remote h′ a′ n′ next′) e′ = far h′ a′ n′ next′ (remoteAt t a′ n′) refl e′
+        go (Val.Remote h′ a′ n′ next′) e′ = remote h′ a′ n′ next′ (remoteAt t a′ n′) refl e′
         go Val.Bad e′ = absurd (let z : _≡_ {A = ℕ} 0 1 = cc in omega arith)
 
     in-stays : (at : ℕ) (r : Rec) → recIn t b at ≡ RecRead.Is r → recIn s b at ≡ RecRead.Is r

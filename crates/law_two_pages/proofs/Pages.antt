@@ -17,26 +17,26 @@ use Rattle.frames.specs.declared.Body.{Body}
 use Rattle.frames.specs.declared.Opened.{Opened}
 use Rattle.frames.specs.Layout.{addr, pageId, openAt}
 use Rattle.frames.proofs.Frames.{open-inside}
-use Rattle.pages.specs.Edges.{place, partIn, boundsOf, boundsAt, prefixAt}
+use Rattle.pages.specs.Boundaries.{place, partIn, boundsOf, boundsAt, prefixAt}
 use Rattle.pages.specs.Meaning.{Head, Child, leaf, index, Page, says, headOf, childOf, headsFrom, childrenFrom, pageSays, meaning}
 use Rattle.pages.proofs.Given.{Sound, sound-given, every-slot}
 use Rattle.pages.proofs.Rows.{rows-many}
 use Rattle.pages.proofs.Says.{prefix-says}
 use Rattle.walks.specs.declared.Walk.{Walk}
-use Rattle.walks.specs.declared.Item as walks-item
+use Rattle.walks.specs.declared.Item.{Item}
 use Rattle.walks.specs.declared.Branch.{Branch}
-use Rattle.walks.specs.declared.Begun as walks-begun
-use Rattle.walks.specs.declared.Step as walks-step
+use Rattle.walks.specs.declared.Begun.{Begun}
+use Rattle.walks.specs.declared.Step.{Step}
 use Rattle.walks.specs.Walk.{forwardAt, stepAt}
 use Rattle.walks.specs.Listed as listed
 use Rattle.walks.specs.Listed.{entriesOf, leadOf, WalksTo, LeadsTo}
 use Rattle.walks.proofs.Says.{forward-lists, forward-leads}
 use Rattle.walks.proofs.Hands.{found-handed}
 use Rattle.build_sources.specs.declared.Cursor.{Cursor}
-use Rattle.build_sources.specs.declared.Item.{Item}
-use Rattle.build_sources.specs.declared.Begun.{Begun}
-use Rattle.build_sources.specs.declared.Step.{Step}
-use Rattle.build_sources.specs.declared.Step.the-variants.{Got, End, Bad}
+use Rattle.build_sources.specs.declared.EntryAt.{EntryAt}
+use Rattle.build_sources.specs.declared.Started.{Started}
+use Rattle.build_sources.specs.declared.EntryRead.{EntryRead}
+use Rattle.build_sources.specs.declared.EntryRead.the-variants.{Got, End, Bad}
 use Rattle.build_sources.specs.Keys.{keyBytes}
 use Rattle.build_sources.specs.Lists.{firstOf}
 use Rattle.build_sources.specs.Pages.{pageFirst, pageItem, pagePast, walked, turned, pagesNext}
@@ -54,7 +54,7 @@ module _ (l w : List ℕ) where
   same-next : (c d : Cursor) → nextOf l w c ≡ nextOf l w d → (entries l w c ≡ entries l w d) × (wellFormed l w c ≡ wellFormed l w d)
   same-next c d e = go (nextOf l w d) refl
     where
-      go : (st : Step) → nextOf l w d ≡ st → (entries l w c ≡ entries l w d) × (wellFormed l w c ≡ wellFormed l w d)
+      go : (st : EntryRead) → nextOf l w d ≡ st → (entries l w c ≡ entries l w d) × (wellFormed l w c ≡ wellFormed l w d)
       go (Got i f) q =
           let a = found l w c i f (e ∙ q) in
           let b = found l w d i f q in
@@ -68,28 +68,28 @@ module _ (l w : List ℕ) where
           let b = odd l w d q in
           (a .0 ∙ sym (b .0), a .1 ∙ sym (b .1))
 
-  module _ (c : Cursor) (k : c .kind ≡ 2) where
-    next-got : (i : Item) (d : Cursor) → walked w c ≡ Got i d → nextOf l w c ≡ Got i d
+  module _ (c : Cursor) (k : c .source ≡ 2) where
+    next-got : (i : EntryAt) (d : Cursor) → walked w c ≡ Got i d → nextOf l w c ≡ Got i d
     unfolding nextOf pagesNext
-    next-got i d e = rw (eq-eqb (c .kind) 2 k, e)
+    next-got i d e = rw (eq-eqb (c .source) 2 k, e)
 
     next-end : walked w c ≡ End → c .then .0 ≡ 0 → nextOf l w c ≡ End
     unfolding nextOf pagesNext turned
-    next-end e z = rw (eq-eqb (c .kind) 2 k, e, eq-eqb (c .then .0) 0 z)
+    next-end e z = rw (eq-eqb (c .source) 2 k, e, eq-eqb (c .then .0) 0 z)
 
-    next-turn : walked w c ≡ End → (c .then .0 ≡ 0 → ⊥) → (d : Cursor) → pageFirst w c (c .then) (addr 0) ≡ Begun.From d → nextOf l w c ≡ walked w d
+    next-turn : walked w c ≡ End → (c .then .0 ≡ 0 → ⊥) → (d : Cursor) → pageFirst w c (c .then) (addr 0) ≡ Started.From d → nextOf l w c ≡ walked w d
     unfolding nextOf pagesNext turned
-    next-turn e n d f = rw (eq-eqb (c .kind) 2 k, e, ne-eqb (c .then .0) 0 n, f)
+    next-turn e n d f = rw (eq-eqb (c .source) 2 k, e, ne-eqb (c .then .0) 0 n, f)
 
     next-bad : walked w c ≡ Bad → nextOf l w c ≡ Bad
     unfolding nextOf pagesNext
-    next-bad e = rw (eq-eqb (c .kind) 2 k, e)
+    next-bad e = rw (eq-eqb (c .source) 2 k, e)
 
     -- with no page behind, a step is one of the page
     next-last : c .then .0 ≡ 0 → nextOf l w c ≡ walked w c
     next-last z = go (walked w c) refl
       where
-        go : (st : Step) → walked w c ≡ st → nextOf l w c ≡ walked w c
+        go : (st : EntryRead) → walked w c ≡ st → nextOf l w c ≡ walked w c
         go (Got i d) e = next-got i d e ∙ sym e
         go End e = next-end e z ∙ sym e
         go Bad e = next-bad e ∙ sym e
@@ -98,15 +98,15 @@ module _ (l w : List ℕ) where
 
 -- one step of a walk that lists x and then xs
 pub record Gone {A : Type 0} (tell : Entry → A) (P : Entry → Type 0) (Goes : List ℕ → Walk → List A → Type 0) (l w p : List ℕ) (c : Cursor) (x : A) (xs : List A) : Type 0 where
-  pub item : Item
-  pub past : Cursor
-  pub step : walked w c ≡ Got item past
-  pub on : On w past
+  pub item : EntryAt
+  pub older : Cursor
+  pub step : walked w c ≡ Got item older
+  pub on : On w older
   pub told : tell (entryOf l w item) ≡ x
   pub kind : P (entryOf l w item)
-  pub pre : past .pre ≡ c .pre
-  pub then : past .then ≡ c .then
-  pub more : Goes p (past .walk) xs
+  pub pre : older .pre ≡ c .pre
+  pub then : older .then ≡ c .then
+  pub more : Goes p (older .walk) xs
 
 -- a page whose walk lists xs
 pub record Walkable {A : Type 0} (Goes : List ℕ → Walk → List A → Type 0) (w : List ℕ) (a : Addr) (xs : List A) : Type 0 where
@@ -118,7 +118,7 @@ pub record Walkable {A : Type 0} (Goes : List ℕ → Walk → List A → Type 0
   pub goes : Goes pre (wholeWalk body) xs
 
 module _ {A : Type 0} (tell : Entry → A) (P : Entry → Type 0) (Goes : List ℕ → Walk → List A → Type 0) (l w : List ℕ) (y : Bytes w)
-    (ends : (p : List ℕ) (v : Walk) → Goes p v [] → stepAt w v ≡ walks-step.Step.End)
+    (ends : (p : List ℕ) (v : Walk) → Goes p v [] → stepAt w v ≡ Step.End)
     (goes : (p : List ℕ) (c : Cursor) (x : A) (xs : List A) → On w c → partIn w (c .pre) ≡ p → Goes p (c .walk) (x ∷ xs) → Gone tell P Goes l w p c x xs) where
   record Lists (c : Cursor) (xs : List A) : Type 0 where
     list : map tell (entries l w c) ≡ xs
@@ -139,9 +139,9 @@ module _ {A : Type 0} (tell : Entry → A) (P : Entry → Type 0) (Goes : List �
   lists [] c p t h e q g rest f = f c h q (end-is w y c h (ends p (c .walk) g))
   lists (x ∷ xs) c p t h e q g rest f =
       let s = goes p c x xs h e g in
-      let n = found l w c (s .item) (s .past) (next-got l w c (h .kind) (s .item) (s .past) (s .step)) in
-      let r = lists xs (s .past) p t (s .on) (rw (s .pre) e) (s .then ∙ q) (s .more) rest f in
-      record { list = ap (map tell) (n .list) ∙ rw (s .told, r .list); well = n .well ∙ r .well; kind = each-more c (entryOf l w (s .item)) (entries l w (s .past)) (n .list) (s .kind) (r .kind) }
+      let n = found l w c (s .item) (s .older) (next-got l w c (h .kind) (s .item) (s .older) (s .step)) in
+      let r = lists xs (s .older) p t (s .on) (rw (s .pre) e) (s .then ∙ q) (s .more) rest f in
+      record { list = ap (map tell) (n .list) ∙ rw (s .told, r .list); well = n .well ∙ r .well; kind = each-more c (entryOf l w (s .item)) (entries l w (s .older)) (n .list) (s .kind) (r .kind) }
 
   module _ (left right : Addr) (xs ys : List A) (a : Walkable Goes w left xs) (b : Walkable Goes w right ys) where
     -- behind the right page there is nothing
@@ -190,9 +190,9 @@ module _ (w : List ℕ) (a : Addr) (p : Page) (m : meaning w a ≡ says p) where
   unfolding prefixAt boundsAt
   pre-says g = rw (g .opened, ne-eqb (g .body .kind) 2 (g .kind)) at (prefix-says w a p m)
 
-  whole-begins : (g : Sound w a p) (v : Walk) → forwardAt w a 0 (g .body .elems) ≡ walks-begun.Begun.Is v → wholeWalk (g .body) ≡ v
+  whole-begins : (g : Sound w a p) (v : Walk) → forwardAt w a 0 (g .body .elems) ≡ Begun.Is v → wholeWalk (g .body) ≡ v
   whole-begins g v e =
-      let q : walks-begun.Begun.Is (wholeWalk (g .body)) ≡ walks-begun.Begun.Is v = sym (whole-walk w a (g .body) (g .opened) (g .kind)) ∙ e in
+      let q : Begun.Is (wholeWalk (g .body)) ≡ Begun.Is v = sym (whole-walk w a (g .body) (g .opened) (g .kind)) ∙ e in
       cc
 
   module _ (hs : List Head) (e : p .rows ≡ leaf hs) where
@@ -236,7 +236,7 @@ module _ (w : List ℕ) (a : Addr) (p : Page) (m : meaning w a ≡ says p) where
 -- ---- what a record says
 
 module _ (l w : List ℕ) (y : Bytes w) (p : List ℕ) (c : Cursor) (h : On w c) (e : partIn w (c .pre) ≡ p) where
-  found-bare : (x : walks-item.Item) (v : Walk) → stepAt w (c .walk) ≡ walks-step.Step.Found x v → bare (entryOf l w (pageItem w c (x .key) (x .ver) (x .value) (x .remote) (pageId 0))) ≡ listed.entryOf w p x
+  found-bare : (x : Item) (v : Walk) → stepAt w (c .walk) ≡ Step.Found x v → bare (entryOf l w (pageItem w c (x .key) (x .ver) (x .value) (x .remote) (pageId 0))) ≡ listed.entryOf w p x
   unfolding bare entryOf keyBytes listed.entryOf
   found-bare x v s =
       let k = found-handed w y (c .walk) (h .holds) x v s .1 in
@@ -246,7 +246,7 @@ module _ (l w : List ℕ) (y : Bytes w) (p : List ℕ) (c : Cursor) (h : On w c)
   unfolding child entryOf keyBytes leadOf
   leads-child x = rw e
 
-  page-none : (x : walks-item.Item) → NoPage (entryOf l w (pageItem w c (x .key) (x .ver) (x .value) (x .remote) (pageId 0)))
+  page-none : (x : Item) → NoPage (entryOf l w (pageItem w c (x .key) (x .ver) (x .value) (x .remote) (pageId 0)))
   unfolding entryOf
   page-none x = refl
 
@@ -259,7 +259,7 @@ module _ (l w : List ℕ) (y : Bytes w) (p : List ℕ) (c : Cursor) (h : On w c)
   leaf-gone x xs g =
       record {
         item = pageItem w c (g .0 .key) (g .0 .ver) (g .0 .value) (g .0 .remote) (pageId 0);
-        past = pagePast c (g .0 .key) (g .1);
+        older = pagePast c (g .0 .key) (g .1);
         step = found-is w y c h (g .0) (g .1) (g .2);
         on = found-on w y c h (g .0) (g .1) (g .2);
         told = found-bare (g .0) (g .1) (g .2) ∙ g .3;
@@ -274,7 +274,7 @@ module _ (l w : List ℕ) (y : Bytes w) (p : List ℕ) (c : Cursor) (h : On w c)
   index-gone x xs g =
       record {
         item = pageItem w c (g .0 .key) (verOf 0 0) (place 0 0) (addr 0) (g .0 .page);
-        past = pagePast c (g .0 .key) (g .1);
+        older = pagePast c (g .0 .key) (g .1);
         step = leads-is w y c h (g .0) (g .1) (g .2);
         on = leads-on w y c h (g .0) (g .1) (g .2);
         told = leads-child (g .0) ∙ g .3;
@@ -284,11 +284,11 @@ module _ (l w : List ℕ) (y : Bytes w) (p : List ℕ) (c : Cursor) (h : On w c)
         more = g .4;
       }
 
-walks-end : (w p : List ℕ) (v : Walk) → WalksTo w p v [] → stepAt w v ≡ walks-step.Step.End
+walks-end : (w p : List ℕ) (v : Walk) → WalksTo w p v [] → stepAt w v ≡ Step.End
 unfolding WalksTo
 walks-end w p v g = g
 
-leads-end : (w p : List ℕ) (v : Walk) → LeadsTo w p v [] → stepAt w v ≡ walks-step.Step.End
+leads-end : (w p : List ℕ) (v : Walk) → LeadsTo w p v [] → stepAt w v ≡ Step.End
 unfolding LeadsTo
 leads-end w p v g = g
 

@@ -9,7 +9,7 @@ use Rattle.frames.specs.Layout.{pageId}
 use Rattle.pages.specs.Meaning.{Child}
 use Rattle.walks.specs.Listed as listed
 use Rattle.build_sources.specs.declared.Cursor.{Cursor}
-use Rattle.build_sources.specs.declared.Begun.{Begun}
+use Rattle.build_sources.specs.declared.Started.{Started}
 use Rattle.build_sources.specs.Source.{Entry, entries, wellFormed}
 use Rattle.build_sources.specs.Marks.{Each, Marked, Short, Wide, Keeps}
 
@@ -34,9 +34,9 @@ abbrev pub NoVersion : Entry → Type 0
 NoVersion e = e .ver ≡ verOf 0 0
 
 -- what was begun is a source that ends well, whose entries say exactly these, in order, marked, each of its kind (P)
-pub record Reads {A : Type 0} (tell : Entry → A) (P : Entry → Type 0) (l w : List ℕ) (b : Begun) (xs : List A) : Type 0 where
+pub record Reads {A : Type 0} (tell : Entry → A) (P : Entry → Type 0) (l w : List ℕ) (b : Started) (xs : List A) : Type 0 where
   pub cursor : Cursor
-  pub begun : b ≡ Begun.From cursor
+  pub begun : b ≡ Started.From cursor
   pub well : wellFormed l w cursor ≡ true
   pub list : map tell (entries l w cursor) ≡ xs
   pub kind : Each P (entries l w cursor)

@@ -2,8 +2,8 @@
 // an arena of 49,152 bytes from 8 on, and lists what the page says by walking it; or prints the number of the refusal.
 use build_image::Built;
 use frames::Addr;
+use frames::NULL_PID;
 use frames::Opened;
-use frames::PageId;
 use frames::Refusal;
 use walks::Begun;
 use walks::Item;
@@ -106,7 +106,7 @@ fn listed(s: &[u8], a: Addr) {
 
 // Builds the list's leaf, and lists it.
 fn built(arena: &mut [u8], list: &[u8]) {
-    let r = base::new_leaf(arena, 8, list, b"", b"", PageId(0), 64, 256, 0, 0, 0, 0);
+    let r = base::new_leaf(arena, 8, list, b"", b"", NULL_PID, 64, 256, 0, 0, 0, 0);
     match r {
         Built::At(a, _) => {
             listed(&arena[..], a);

@@ -10,12 +10,12 @@ use Rattle.order.specs.Order.{cmpBytes, startsWith}
 use Rattle.order.specs.Version.{newerThan}
 use Rattle.frames.specs.declared.Refusal.the-variants.{BadLimit, BadArena, BadFrame, MixedKinds, OutOfOrder, NoRoom}
 use Rattle.frames.specs.Layout.{addr, boxFields, boxOk, boxAt, baseFields, baseOk, pageAt, kindOf, bodyOf, openAt, remoteAt}
-use Rattle.frames.specs.Stored.{boxBytes, baseFront, baseBack, baseBytes}
+use Rattle.frames.specs.Stored.{boxBytes, baseFront, baseBack, baseBytes, pageBytes}
 use Rattle.frames.specs.Cases.{p7}
-use Rattle.values.specs.Keys.{verBytes, leafFront, leafKey, skipOf, keyAt}
+use Rattle.values.specs.Keys.{verBytes, leafFront, leafKey, skipOf, keyAt, verIn}
 use Rattle.values.specs.Vals.{flagOf, histBytes, frontBytes, inlineBytes, remoteBytes, sizeOf, refAt, frontAt, valAt}
-use Rattle.records.specs.Records.{slotAt, verIn, keyIn, valIn, recIn, recAt}
-use Rattle.pages.specs.Edges.{boundsOf, boundsAt, loAt, hiAt}
+use Rattle.records.specs.Records.{slotAt, keyIn, valIn, recIn, recAt}
+use Rattle.pages.specs.Boundaries.{boundsOf, boundsAt, loAt, hiAt}
 use Rattle.pages.specs.Sound.{inOrder, slotsFrom, slotsOk, historyAt, histOk, oldIn, oldAt, chainFrom, entered, headOk, multiOf, chainsFrom, chainsOk, hintsOk, soundBody}
 use Rattle.pages.specs.Meaning.{oldsFrom, prefixOf, headOf, childOf, rowsFrom, pageSays, meaning}
 use Rattle.walks.specs.Walk.{upRange, upWay, kindOfWay, forwardAt, fitsIn, readAt, movedOf, onOf, behindOf, itemOf, nextIn, nextOld, enterAt, headStep, stepAt}
@@ -26,8 +26,8 @@ use Rattle.build_sources.specs.Pages.{wholeAt, pageFirst, itemAt, walked, turne
 use Rattle.build_sources.specs.Source.{after, listF, nextOf, leftOf, entryOf, entries, only}
 use Rattle.build_sources.specs.Judged.{above, risingFrom, rising, prefixed}
 use Rattle.build_image.specs.Prefix.{common}
-use Rattle.build_image.specs.Sizes.{pad, farLen, cost, costsOf, fars, keyLen, oldRun, sums, counted, roomOf}
-use Rattle.build_image.specs.Image.{farAddr, valBytes, remoteFrame, farFrame, farFrames, farAddrs, oldRec, oldRecs, oldSlots, histHead, histSize, histPage, pageEnd, history, historyEnd, starts, histAddrs, placesIn, places, headRec, headRecs, headSlots, les, hints, leafSize, leafRoom, leafFrame, leafImage}
+use Rattle.build_image.specs.Sizes.{pad, remoteLen, cost, costsOf, remotesLen, keyLen, oldRun, sums, counted, roomOf}
+use Rattle.build_image.specs.Image.{remoteAddr, valBytes, remoteFrame, remoteFrameOf, remoteFrames, remoteAddrs, oldRec, oldRecs, oldSlots, histHead, histSize, histPage, pageEnd, history, historyEnd, starts, histAddrs, placesIn, places, headRec, headRecs, headSlots, les, hints, leafSize, leafRoom, leafFrame, leafImage}
 use Rattle.build_totals.specs.Totals.{leafAt}
 use Rattle.build_image.specs.declared.Built.the-variants.{At, Refused}
 use Rattle.build_table.specs.Leaf.{leafEnd}
@@ -61,5 +61,5 @@ pub rows : (mergeAnswer (above-p7 (leafPage 98 7) 256) 336 (at64 256) (addr 104)
     × (mergeAnswer (above-p7 (leafPage 98 7) 256) 336 (at64 256) (addr 240) (addr 104) ≡ Refused OutOfOrder)
     × (mergeAnswer (above-p7 (leafPage 98 7) 256) 336 (at64 256) (addr 104) (addr 104) ≡ Refused OutOfOrder)
     × (mergeAnswer (above-p7 (leafPage 97 2) 256) 336 (at64 256) (addr 104) (addr 240) ≡ At (addr 456) 592)
-unfolding leafPage childPage above-p7 p7 larger common sameKey after listF nextOf leftOf entryOf entries only keyBytes above risingFrom rising prefixed startsWith cmpBytes newerThan part partOr put ofLe leAt leafAt leafEnd le enc uleb boxBytes baseFront baseBack baseBytes verBytes leafFront leafKey flagOf histBytes frontBytes inlineBytes remoteBytes sizeOf fits cutsFrom total pad farLen cost costsOf fars keyLen oldRun sums counted roomOf farAddr valBytes remoteFrame farFrame farFrames farAddrs oldRec oldRecs oldSlots histHead histSize histPage pageEnd history historyEnd starts histAddrs placesIn places headRec headRecs headSlots les hints leafSize leafRoom leafFrame leafImage boxFields boxOk boxAt baseFields baseOk pageAt kindOf bodyOf openAt remoteAt carry dec within readLen skipOf keyAt refAt frontAt valAt slotAt verIn keyIn valIn recIn recAt inOrder slotsFrom slotsOk historyAt histOk oldIn oldAt chainFrom entered headOk multiOf chainsFrom chainsOk hintsOk soundBody oldsFrom prefixOf headOf rowsFrom pageSays meaning upRange upWay kindOfWay forwardAt fitsIn readAt movedOf onOf behindOf itemOf nextIn nextOld enterAt headStep stepAt wholeAt pageFirst itemAt walked turned pagesNext pagesLeft boundsOf boundsAt loAt hiAt merged boundsIn mergeAnswer mergeArena childOf
+unfolding leafPage childPage above-p7 p7 larger common sameKey after listF nextOf leftOf entryOf entries only keyBytes above risingFrom rising prefixed startsWith cmpBytes newerThan part partOr put ofLe leAt leafAt leafEnd le enc uleb boxBytes baseFront baseBack baseBytes pageBytes verBytes leafFront leafKey flagOf histBytes frontBytes inlineBytes remoteBytes sizeOf fits cutsFrom total pad remoteLen cost costsOf remotesLen keyLen oldRun sums counted roomOf remoteAddr valBytes remoteFrame remoteFrameOf remoteFrames remoteAddrs oldRec oldRecs oldSlots histHead histSize histPage pageEnd history historyEnd starts histAddrs placesIn places headRec headRecs headSlots les hints leafSize leafRoom leafFrame leafImage boxFields boxOk boxAt baseFields baseOk pageAt kindOf bodyOf openAt remoteAt carry dec within readLen skipOf keyAt refAt frontAt valAt slotAt verIn keyIn valIn recIn recAt inOrder slotsFrom slotsOk historyAt histOk oldIn oldAt chainFrom entered headOk multiOf chainsFrom chainsOk hintsOk soundBody oldsFrom prefixOf headOf rowsFrom pageSays meaning upRange upWay kindOfWay forwardAt fitsIn readAt movedOf onOf behindOf itemOf nextIn nextOld enterAt headStep stepAt wholeAt pageFirst itemAt walked turned pagesNext pagesLeft boundsOf boundsAt loAt hiAt merged boundsIn mergeAnswer mergeArena childOf
 rows = (refl, refl, refl, refl, refl, refl, refl, refl, refl, refl)

@@ -18,30 +18,31 @@ use Rattle.frames.specs.declared.FrameRead.{FrameRead}
 use Rattle.frames.specs.declared.PageRead.{PageRead}
 use Rattle.frames.specs.declared.Body.{Body}
 use Rattle.frames.specs.declared.Opened.{Opened}
-use Rattle.frames.specs.Layout.{boxLen, baseLen, pageId, boxAt, baseFields, zerosOk, leafOk, indexOk, manyOk, historyOk, payloadOk, lengthsOk, baseOk, pageOf, pageAt, bodyOf, openOf, openAt, Inside}
+use Rattle.frames.specs.Layout.{boxLen, baseLen, pageId, boxAt, baseFields, zerosOk, leafOk, indexOk, manyOk, historyOk, payloadOk, lengthsOk, baseOk, pageOf, pageAt, bodyOf, openOf, openAt, Inside, boxBase}
+use Rattle.frames.specs.Limits.{maxKey}
 use Rattle.frames.proofs.Frames.{and-l, and-r, open-inside}
 use Rattle.pages.specs.declared.BoundsRead.{BoundsRead}
-use Rattle.pages.specs.Edges.{partIn, boundsOf, boundsAt, loAt, hiAt}
+use Rattle.pages.specs.Boundaries.{partIn, boundsOf, boundsAt, loAt, hiAt}
 use Rattle.pages.specs.Meaning.{Page, says, meaning}
 use Rattle.pages.proofs.Given.{Sound, sound-given}
 use Rattle.build_sources.specs.declared.Cursor.{Cursor}
-use Rattle.build_sources.specs.declared.Begun.{Begun}
+use Rattle.build_sources.specs.declared.Started.{Started}
 use Rattle.build_sources.specs.Lists.{firstOf}
 use Rattle.build_sources.specs.Pages.{pageFirst}
 use Rattle.build_sources.specs.Source.{entries}
 use Rattle.build_image.specs.Prefix.{common}
-use Rattle.build_bounds.specs.declared.Edges.{Edges}
-use Rattle.build_bounds.specs.Edges as edges-specs
-use Rattle.build_bounds.specs.Edges.{Within, edgeBytes, edgeOf as edge-of}
+use Rattle.build_bounds.specs.declared.Boundaries.{Boundaries}
+use Rattle.build_bounds.specs.Boundaries as boundaries-specs
+use Rattle.build_bounds.specs.Boundaries.{Within, boundaryBytes, boundaryOf as boundary-of}
 use Rattle.build_table.specs.Index.{Held}
 use Rattle.base.proofs.Calls.{held}
 use Rattle.law_two_pages.proofs.On.{frontOf, first-is, bounds-are}
 use Rattle.merge.specs.declared.Gathered.{Gathered}
-use Rattle.merge.specs.Merge.{boundsIn, entriesFrom, merged, edgesIn, gathered}
+use Rattle.merge.specs.Merge.{boundsIn, entriesFrom, merged, boundariesIn, gathered}
 
 -- ---- a page's boundaries are short (it belongs to `frames`)
 
-base-short : (x : BoxHeader) (h : BaseHeader) → baseOk x h ≡ true → (h .«lo_len» ≤ 4096) × (h .«hi_len» ≤ 4096)
+base-short : (x : BoxHeader) (h : BaseHeader) → baseOk x h ≡ true → (h .«lo_len» ≤ maxKey) × (h .«hi_len» ≤ maxKey)
 unfolding baseOk
 base-short x h o =
     let front = zerosOk h && (leafOk x h || indexOk x h) && manyOk x h && historyOk x h && payloadOk x h in
@@ -51,37 +52,37 @@ base-short x h o =
     let o1 = and-l (front && lengthsOk h && p && z) w o in
     let o2 = and-l (front && lengthsOk h && p) z o1 in
     let o3 = and-r front (lengthsOk h) (and-l (front && lengthsOk h) p o2) in
-    (leb-true (h .«lo_len») 4096 (and-l (leb (h .«lo_len») 4096) (leb (h .«hi_len») 4096) o3), leb-true (h .«hi_len») 4096 (and-r (leb (h .«lo_len») 4096) (leb (h .«hi_len») 4096) o3))
+    (leb-true (h .«lo_len») maxKey (and-l (leb (h .«lo_len») maxKey) (leb (h .«hi_len») maxKey) o3), leb-true (h .«hi_len») maxKey (and-r (leb (h .«lo_len») maxKey) (leb (h .«hi_len») maxKey) o3))
 
-open-short : (s : List ℕ) (a : Addr) (b : Body) → openAt s a ≡ Opened.Is b → (b .«lo_len» ≤ 4096) × (b .«hi_len» ≤ 4096)
+open-short : (s : List ℕ) (a : Addr) (b : Body) → openAt s a ≡ Opened.Is b → (b .«lo_len» ≤ maxKey) × (b .«hi_len» ≤ maxKey)
 unfolding openAt pageAt bodyOf
 open-short s a b e = go (boxAt s a) e
   where
     no : Opened.Bad ≡ Opened.Is b → ⊥
     no z = let x : _≡_ {A = ℕ} 0 1 = cc in omega arith
 
-    by : (h : BoxHeader) (t u v : Bool) → baseOk h (baseFields s (a .0 + boxLen)) ≡ v → openOf a (cond t (cond u (cond v (PageRead.Page h (baseFields s (a .0 + boxLen))) PageRead.Bad) PageRead.Bad) PageRead.Bad) ≡ Opened.Is b → (b .«lo_len» ≤ 4096) × (b .«hi_len» ≤ 4096)
+    by : (h : BoxHeader) (t u v : Bool) → baseOk h (baseFields s (a .0 + boxLen)) ≡ v → openOf a (cond t (cond u (cond v (PageRead.Page h (baseFields s (a .0 + boxLen))) PageRead.Bad) PageRead.Bad) PageRead.Bad) ≡ Opened.Is b → (b .«lo_len» ≤ maxKey) × (b .«hi_len» ≤ maxKey)
     by h true true true k q = let x : bodyOf a h (baseFields s (a .0 + boxLen)) ≡ b = cc in rw (← x) (base-short h (baseFields s (a .0 + boxLen)) k)
     by h true true false k q = absurd (no q)
     by h true false v k q = absurd (no q)
     by h false u v k q = absurd (no q)
 
-    go : (f : FrameRead) → openOf a (pageOf s (a .0) f) ≡ Opened.Is b → (b .«lo_len» ≤ 4096) × (b .«hi_len» ≤ 4096)
-    go (FrameRead.Frame h) q = by h (eqb (h .kind) 1) (leb baseLen (h .«payload_size»)) (baseOk h (baseFields s (a .0 + boxLen))) refl q
+    go : (f : FrameRead) → openOf a (pageOf s (a .0) f) ≡ Opened.Is b → (b .«lo_len» ≤ maxKey) × (b .«hi_len» ≤ maxKey)
+    go (FrameRead.Frame h) q = by h (eqb (h .«box_kind») boxBase) (leb baseLen (h .«payload_size»)) (baseOk h (baseFields s (a .0 + boxLen))) refl q
     go FrameRead.Bad q = absurd (no q)
 
 -- common bytes are bytes of lo
-front-low : (lo hi : List ℕ) → length lo ≤ 4096 → length hi ≤ 4096 → common lo hi ≤ length lo
-front-low lo hi h k =
-    held lo hi [] (edge-of lo) (edge-of hi) (common lo hi) (pageId 0) refl refl refl true (rw (le-leb (length lo) 4096 h, le-leb (length hi) 4096 k) refl) refl .shared
+front-ground : (lo hi : List ℕ) → length lo ≤ maxKey → length hi ≤ maxKey → common lo hi ≤ length lo
+front-ground lo hi h k =
+    held lo hi [] (boundary-of lo) (boundary-of hi) (common lo hi) (pageId 0) refl refl refl true (rw (le-leb (length lo) maxKey h, le-leb (length hi) maxKey k) refl) refl .shared
 
 -- ---- what is gathered
 
 -- what a merge hands to the builder
-pub record Ready (w : List ℕ) (left right : Addr) (c : Cursor) (e : Edges) : Type 0 where
+pub record Ready (w : List ℕ) (left right : Addr) (c : Cursor) (e : Boundaries) : Type 0 where
   pub held : Held [] w e
-  pub inside : edges-specs.Inside [] [] w e
-  pub bounds : edges-specs.boundsOf [] [] w e ≡ boundsIn w left right
+  pub inside : boundaries-specs.BothWithin [] [] w e
+  pub bounds : boundaries-specs.boundsOf [] [] w e ≡ boundsIn w left right
   pub list : entries [] w c ≡ merged w left right
 
 module _ (w : List ℕ) (left right : Addr) (p q : Page) (m : meaning w left ≡ says p) (n : meaning w right ≡ says q) where
@@ -100,10 +101,10 @@ module _ (w : List ℕ) (left right : Addr) (p q : Page) (m : meaning w left ≡
   abbrev front : Cursor
   front = frontOf (firstOf 2) b right
 
-  abbrev held-edges : Edges
-  held-edges = edgesIn w (boundsOf b) (boundsOf d)
+  abbrev held-boundaries : Boundaries
+  held-boundaries = boundariesIn w (boundsOf b) (boundsOf d)
 
-  begun : pageFirst w (firstOf 2) left right ≡ Begun.From front
+  begun : pageFirst w (firstOf 2) left right ≡ Started.From front
   begun = first-is w (firstOf 2) left right b (g .opened) (g .kind)
 
   left-bounds : boundsAt w left ≡ BoundsRead.Is (boundsOf b)
@@ -112,7 +113,7 @@ module _ (w : List ℕ) (left right : Addr) (p q : Page) (m : meaning w left ≡
   right-bounds : boundsAt w right ≡ BoundsRead.Is (boundsOf d)
   right-bounds = bounds-are w (firstOf 2) right left d (h .opened) (h .kind)
 
-  gathered-is : gathered w left right ≡ Gathered.Is front held-edges
+  gathered-is : gathered w left right ≡ Gathered.Is front held-boundaries
   unfolding gathered
   gathered-is = rw (begun, left-bounds, right-bounds)
 
@@ -138,11 +139,11 @@ module _ (w : List ℕ) (left right : Addr) (p q : Page) (m : meaning w left ≡
   hi-part : partIn w (boundsOf d .hi) ≡ part w (boundsOf d .hi .at) (boundsOf d .hi .len)
   hi-part = partOr-in w (boundsOf d .hi .at) (boundsOf d .hi .len) hi-in
 
-  lo-few : boundsOf b .lo .len ≤ 4096
+  lo-few : boundsOf b .lo .len ≤ maxKey
   unfolding boundsOf
   lo-few = open-short w left b (g .opened) .0
 
-  hi-few : boundsOf d .hi .len ≤ 4096
+  hi-few : boundsOf d .hi .len ≤ maxKey
   unfolding boundsOf
   hi-few = open-short w right d (h .opened) .1
 
@@ -153,46 +154,46 @@ module _ (w : List ℕ) (left right : Addr) (p q : Page) (m : meaning w left ≡
   hi-long = ap length hi-part ∙ length-part w (boundsOf d .hi .at) (boundsOf d .hi .len) hi-in
 
   -- the boundaries keep document 01's lengths
-  pub lo-short : length (boundsIn w left right .lo) ≤ 4096
+  pub lo-short : length (boundsIn w left right .lo) ≤ maxKey
   unfolding boundsIn
   lo-short = omega (arith, ap length lo-is, lo-long, lo-few)
 
-  pub hi-short : length (boundsIn w left right .hi) ≤ 4096
+  pub hi-short : length (boundsIn w left right .hi) ≤ maxKey
   unfolding boundsIn
   hi-short = omega (arith, ap length hi-is, hi-long, hi-few)
 
   pub prefix-short : boundsIn w left right .prefix ≤ length (boundsIn w left right .lo)
   unfolding boundsIn
-  prefix-short = front-low (loAt w left) (hiAt w right) lo-short hi-short
+  prefix-short = front-ground (loAt w left) (hiAt w right) lo-short hi-short
 
   shares : common (partIn w (boundsOf b .lo)) (partIn w (boundsOf d .hi)) ≤ boundsOf b .lo .len
-  shares = omega (arith, front-low (partIn w (boundsOf b .lo)) (partIn w (boundsOf d .hi)) (omega (arith, lo-long, lo-few)) (omega (arith, hi-long, hi-few)), lo-long)
+  shares = omega (arith, front-ground (partIn w (boundsOf b .lo)) (partIn w (boundsOf d .hi)) (omega (arith, lo-long, lo-few)) (omega (arith, hi-long, hi-few)), lo-long)
 
-  bounds-is : edges-specs.boundsOf [] [] w held-edges ≡ boundsIn w left right
-  unfolding boundsIn edgeBytes
+  bounds-is : boundaries-specs.boundsOf [] [] w held-boundaries ≡ boundsIn w left right
+  unfolding boundsIn boundaryBytes
   bounds-is = rw (lo-is, hi-is, right-bounds, lo-part, hi-part)
 
   merged-is : merged w left right ≡ entries [] w front
   unfolding merged
   merged-is = ap (entriesFrom w) begun
 
-  ready : Ready w left right front held-edges
+  ready : Ready w left right front held-boundaries
   unfolding Within
   ready =
       record {
-        held = record { within = lo-in; shared = shares; low = lo-few; high = hi-few };
-        inside = record { low = lo-in; high = hi-in };
+        held = record { within = lo-in; shared = shares; ground = lo-few; high = hi-few };
+        inside = record { ground = lo-in; high = hi-in };
         bounds = bounds-is;
         list = sym merged-is;
       }
 
   -- THE LAWS
   pub gathers : gathered w left right ≡ Gathered.Bad → ⊥
-  gathers e = let z : Gathered.Is front held-edges ≡ Gathered.Bad = sym gathered-is ∙ e in let y : _≡_ {A = ℕ} 0 1 = cc in omega arith
+  gathers e = let z : Gathered.Is front held-boundaries ≡ Gathered.Bad = sym gathered-is ∙ e in let y : _≡_ {A = ℕ} 0 1 = cc in omega arith
 
-  pub gathered-ready : (c : Cursor) (e : Edges) → gathered w left right ≡ Gathered.Is c e → Ready w left right c e
+  pub gathered-ready : (c : Cursor) (e : Boundaries) → gathered w left right ≡ Gathered.Is c e → Ready w left right c e
   gathered-ready c e f =
-      let z : Gathered.Is front held-edges ≡ Gathered.Is c e = sym gathered-is ∙ f in
+      let z : Gathered.Is front held-boundaries ≡ Gathered.Is c e = sym gathered-is ∙ f in
       let x : front ≡ c = cc in
-      let y : held-edges ≡ e = cc in
+      let y : held-boundaries ≡ e = cc in
       rw (← x, ← y) ready

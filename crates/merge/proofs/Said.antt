@@ -8,12 +8,12 @@ use native.Mathlib.Omega.{arith}
 use borrow.Author.Tests.{ne-eqb}
 use Rattle.numbers.specs.Number.{Bytes}
 use Rattle.frames.specs.declared.Addr.{Addr}
-use Rattle.pages.specs.Edges.{boundsOf, boundsAt}
+use Rattle.pages.specs.Boundaries.{boundsOf, boundsAt}
 use Rattle.pages.specs.Meaning.{Head, Child, leaf, index, Page, says, pageSays, meaning}
 use Rattle.pages.proofs.Given.{sound-given}
 use Rattle.pages.proofs.Says.{lo-says, hi-says}
 use Rattle.walks.specs.Listed.{entriesOf}
-use Rattle.build_sources.specs.declared.Begun.{Begun}
+use Rattle.build_sources.specs.declared.Started.{Started}
 use Rattle.build_sources.specs.Lists.{firstOf}
 use Rattle.build_sources.specs.Pages.{pageFirst}
 use Rattle.build_sources.specs.Source.{Entry}
@@ -43,7 +43,7 @@ module _ (w : List ℕ) (left right : Addr) (p q : Page) (m : meaning w left ≡
 
 reads-merged : {A : Type 0} (tell : Entry → A) (P : Entry → Type 0) (w : List ℕ) (left right : Addr) (xs : List A) → Reads tell P [] w (pageFirst w (firstOf 2) left right) xs → Merged tell P w (merged w left right) xs
 unfolding merged
-reads-merged tell P w left right xs r = subst (λ (b : Begun). Merged tell P w (entriesFrom w b) xs) (sym (r .begun)) (record { list = r .list; kind = r .kind; marks = r .marks; short = r .short; carried = r .carried })
+reads-merged tell P w left right xs r = subst (λ (b : Started). Merged tell P w (entriesFrom w b) xs) (sym (r .begun)) (record { list = r .list; kind = r .kind; marks = r .marks; short = r .short; carried = r .carried })
 
 module _ (w : List ℕ) (y : Bytes w) (left right : Addr) (p q : Page) (m : meaning w left ≡ says p) (n : meaning w right ≡ says q) where
   pub leaves-said : (hs ks : List Head) → p .rows ≡ leaf hs → q .rows ≡ leaf ks → Merged bare NoPage w (merged w left right) (entriesOf hs ++ entriesOf ks)

@@ -8,46 +8,46 @@ use mathlib.Core.Bool.{true}
 use Rattle.frames.specs.declared.Addr.{Addr}
 use Rattle.pages.specs.declared.Place.{Place}
 use Rattle.pages.specs.declared.BoundsRead.{BoundsRead}
-use Rattle.pages.specs.declared.Bounds as pages-bounds
-use Rattle.pages.specs.Edges.{partIn, boundsAt, loAt, hiAt}
+use Rattle.pages.specs.declared.Bounds.{Bounds}
+use Rattle.pages.specs.Boundaries.{partIn, boundsAt, loAt, hiAt}
 use Rattle.pages.specs.Meaning.{Rows, leaf, index, Page, Said, nothing, says, meaning}
-use Rattle.build_sources.specs.declared.Begun.{Begun}
+use Rattle.build_sources.specs.declared.Started.{Started}
 use Rattle.build_sources.specs.Lists.{firstOf}
 use Rattle.build_sources.specs.Pages.{pageFirst}
 use Rattle.build_sources.specs.Source.{Entry, entries}
 use Rattle.build_sources.specs.Marks.{Each, Marked, Short}
 use Rattle.law_two_pages.specs.Pairs.{Carried}
 use Rattle.build_image.specs.Prefix.{common}
-use Rattle.build_image.specs.Image.{Bounds}
-use Rattle.build_bounds.specs.declared.Edge.{Edge}
-use Rattle.build_bounds.specs.declared.Edges.{Edges}
-use Rattle.merge.specs.declared.Sort.{Sort}
-use Rattle.merge.specs.declared.Sorts.{Sorts}
+use Rattle.build_image.specs.Image.{Borders}
+use Rattle.build_bounds.specs.declared.Boundary.{Boundary}
+use Rattle.build_bounds.specs.declared.Boundaries.{Boundaries}
+use Rattle.merge.specs.declared.Kind.{Kind}
+use Rattle.merge.specs.declared.Kinds.{Kinds}
 use Rattle.merge.specs.declared.Gathered.{Gathered}
 
 -- ---- 4 and 5
 
-abbrev pub sortBy : Rows → Sort
-sortBy (leaf hs) = Sort.Leaf
-sortBy (index cs) = Sort.Index
+abbrev pub kindBy : Rows → Kind
+kindBy (leaf hs) = Kind.Leaf
+kindBy (index cs) = Kind.Index
 
 -- "Merge checks both pages first": a page that says nothing is 4
-abbrev pub sortOf : Said → Sort
-sortOf nothing = Sort.Bad
-sortOf (says p) = sortBy (p .rows)
+abbrev pub saidKind : Said → Kind
+saidKind nothing = Kind.Bad
+saidKind (says p) = kindBy (p .rows)
 
 -- "merging leaf with index" is 5
-abbrev pub sortsBy : Sort → Sort → Sorts
-sortsBy Sort.Bad y = Sorts.Bad
-sortsBy Sort.Leaf Sort.Bad = Sorts.Bad
-sortsBy Sort.Leaf Sort.Leaf = Sorts.Leaves
-sortsBy Sort.Leaf Sort.Index = Sorts.Mixed
-sortsBy Sort.Index Sort.Bad = Sorts.Bad
-sortsBy Sort.Index Sort.Leaf = Sorts.Mixed
-sortsBy Sort.Index Sort.Index = Sorts.Indexes
+abbrev pub kindsBy : Kind → Kind → Kinds
+kindsBy Kind.Bad y = Kinds.Bad
+kindsBy Kind.Leaf Kind.Bad = Kinds.Bad
+kindsBy Kind.Leaf Kind.Leaf = Kinds.Leaves
+kindsBy Kind.Leaf Kind.Index = Kinds.Mixed
+kindsBy Kind.Index Kind.Bad = Kinds.Bad
+kindsBy Kind.Index Kind.Leaf = Kinds.Mixed
+kindsBy Kind.Index Kind.Index = Kinds.Indexes
 
-abbrev pub sortsOf : Said → Said → Sorts
-sortsOf p q = sortsBy (sortOf p) (sortOf q)
+abbrev pub kindsOf : Said → Said → Kinds
+kindsOf p q = kindsBy (saidKind p) (saidKind q)
 
 -- a page that says something
 abbrev pub Sound : List ℕ → Addr → Type 0
@@ -56,9 +56,9 @@ Sound w a = (p : Page) × (meaning w a ≡ says p)
 -- ---- what is merged
 
 -- "Merge takes lo and every record of the left, then of the right": with their marks and the addresses of their remotes
-abbrev pub entriesFrom : List ℕ → Begun → List Entry
-entriesFrom w (Begun.From c) = entries [] w c
-entriesFrom w Begun.Bad = []
+abbrev pub entriesFrom : List ℕ → Started → List Entry
+entriesFrom w (Started.From c) = entries [] w c
+entriesFrom w Started.Bad = []
 
 unfoldable pub merged : List ℕ → Addr → Addr → List Entry
 merged w left right = entriesFrom w (pageFirst w (firstOf 2) left right)
@@ -69,12 +69,12 @@ siblingOf (BoundsRead.Is b) = b .sibling .0
 siblingOf (BoundsRead.Refused r) = 0
 
 -- the new prefix comes from the new boundaries
-unfoldable pub boundsIn : List ℕ → Addr → Addr → Bounds
+unfoldable pub boundsIn : List ℕ → Addr → Addr → Borders
 boundsIn w left right =
     record { lo = loAt w left; hi = hiAt w right; prefix = common (loAt w left) (hiAt w right); sibling = siblingOf (boundsAt w right) }
 
 -- the same in the words of what the pages say
-unfoldable pub boundsBetween : Page → Page → Bounds
+unfoldable pub boundsBetween : Page → Page → Borders
 boundsBetween p q = record { lo = p .lo; hi = q .hi; prefix = common (p .lo) (q .hi); sibling = q .sibling .0 }
 
 -- what is merged says exactly these, in order, each of its kind (P); what is known of it before anything is judged
@@ -87,17 +87,17 @@ pub record Merged {A : Type 0} (tell : Entry → A) (P : Entry → Type 0) (w : 
 
 -- ---- where it lies
 
-abbrev pub edgeIn : Place → Edge
-edgeIn p = record { low = true; at = p .at; len = p .len }
+abbrev pub boundaryIn : Place → Boundary
+boundaryIn p = record { ground = true; at = p .at; len = p .len }
 
-abbrev pub edgesIn : List ℕ → pages-bounds.Bounds → pages-bounds.Bounds → Edges
-edgesIn w p q = record { lo = edgeIn (p .lo); hi = edgeIn (q .hi); prefix = common (partIn w (p .lo)) (partIn w (q .hi)); sibling = q .sibling }
+abbrev pub boundariesIn : List ℕ → Bounds → Bounds → Boundaries
+boundariesIn w p q = record { lo = boundaryIn (p .lo); hi = boundaryIn (q .hi); prefix = common (partIn w (p .lo)) (partIn w (q .hi)); sibling = q .sibling }
 
-abbrev pub gatheredBy : List ℕ → Begun → BoundsRead → BoundsRead → Gathered
-gatheredBy w (Begun.From c) (BoundsRead.Is p) (BoundsRead.Is q) = Gathered.Is c (edgesIn w p q)
-gatheredBy w (Begun.From c) (BoundsRead.Is p) (BoundsRead.Refused r) = Gathered.Bad
-gatheredBy w (Begun.From c) (BoundsRead.Refused r) q = Gathered.Bad
-gatheredBy w Begun.Bad p q = Gathered.Bad
+abbrev pub gatheredBy : List ℕ → Started → BoundsRead → BoundsRead → Gathered
+gatheredBy w (Started.From c) (BoundsRead.Is p) (BoundsRead.Is q) = Gathered.Is c (boundariesIn w p q)
+gatheredBy w (Started.From c) (BoundsRead.Is p) (BoundsRead.Refused r) = Gathered.Bad
+gatheredBy w (Started.From c) (BoundsRead.Refused r) q = Gathered.Bad
+gatheredBy w Started.Bad p q = Gathered.Bad
 
 unfoldable pub gathered : List ℕ → Addr → Addr → Gathered
 gathered w left right = gatheredBy w (pageFirst w (firstOf 2) left right) (boundsAt w left) (boundsAt w right)

@@ -1,11 +1,11 @@
 // Merging: two pages below the next free address become one, built anew from every record of the left, then of the right. Both are
 // checked first; then the builder judges and writes.
-use build_bounds::Edge;
-use build_bounds::Edges;
+use build_bounds::Boundaries;
+use build_bounds::Boundary;
 use build_image::Built;
 use build_image::Call;
-use build_sources::Begun;
 use build_sources::Cursor;
+use build_sources::Started;
 use frames::Addr;
 use frames::Opened;
 use frames::Refusal;
@@ -20,18 +20,18 @@ ghost use Rattle.build_history.specs.Runs.{Sane};
 ghost use Rattle.build_table.specs.Index.{indexAnswer, indexArena};
 ghost use Rattle.build_table.specs.Leaf.{leafAnswer, leafArena};
 ghost use Rattle.build_image.specs.Call.{callOf};
-ghost use Rattle.merge.specs.Merge.{sortOf, sortsBy, sortsOf, gathered, Sound, boundsIn, merged};
-ghost use Rattle.merge.specs.Answer.{sortsAnswer, sortsArena, mergeAnswer, mergeArena};
+ghost use Rattle.merge.specs.Merge.{saidKind, kindsBy, kindsOf, gathered, Sound, boundsIn, merged};
+ghost use Rattle.merge.specs.Answer.{kindsAnswer, kindsArena, mergeAnswer, mergeArena};
 
 // The kind of a sound page.
-pub enum Sort {
+pub enum Kind {
     Leaf,
     Index,
     Bad,
 }
 
 // The kinds of two.
-pub enum Sorts {
+pub enum Kinds {
     Leaves,
     Indexes,
     Mixed,
@@ -40,87 +40,87 @@ pub enum Sorts {
 
 // What a merge takes from its pages: their records, lo of the left, hi and sibling of the right.
 pub enum Gathered {
-    Is(Cursor, Edges),
+    Is(Cursor, Boundaries),
     Bad,
 }
 
 // The kind of the page at an address, where it is sound.
-fn sort_of(low: &[u8], a: Addr) -> Sort
-    ensures { λ r. ⌜ r ≡ sortOf (meaning (now (low .entry)) a) ⌝ }
+fn said_kind(ground: &[u8], a: Addr) -> Kind
+    ensures { λ r. ⌜ r ≡ saidKind (meaning (now (ground .entry)) a) ⌝ }
 {
-    let x = pages::check(low, a);
+    let x = pages::check(ground, a);
     match x {
-        Checked::Refused(_) => Sort::Bad,
+        Checked::Refused(_) => Kind::Bad,
         Checked::Sound => {
-            let Opened::Is(b) = frames::open_at(low, a) else {
-                return Sort::Bad;
+            let Opened::Is(b) = frames::open_at(ground, a) else {
+                return Kind::Bad;
             };
             if b.kind == 1 {
-                return Sort::Index;
+                return Kind::Index;
             }
-            Sort::Leaf
+            Kind::Leaf
         }
     }
 }
 
 // Two kinds.
-fn sorts_by(x: Sort, y: Sort) -> Sorts
-    ensures { λ r. ⌜ r ≡ sortsBy x y ⌝ }
+fn kinds_by(x: Kind, y: Kind) -> Kinds
+    ensures { λ r. ⌜ r ≡ kindsBy x y ⌝ }
 {
     match x {
-        Sort::Bad => Sorts::Bad,
-        Sort::Leaf => match y {
-            Sort::Bad => Sorts::Bad,
-            Sort::Leaf => Sorts::Leaves,
-            Sort::Index => Sorts::Mixed,
+        Kind::Bad => Kinds::Bad,
+        Kind::Leaf => match y {
+            Kind::Bad => Kinds::Bad,
+            Kind::Leaf => Kinds::Leaves,
+            Kind::Index => Kinds::Mixed,
         },
-        Sort::Index => match y {
-            Sort::Bad => Sorts::Bad,
-            Sort::Leaf => Sorts::Mixed,
-            Sort::Index => Sorts::Indexes,
+        Kind::Index => match y {
+            Kind::Bad => Kinds::Bad,
+            Kind::Leaf => Kinds::Mixed,
+            Kind::Index => Kinds::Indexes,
         },
     }
 }
 
 // 4, then 5.
-fn sorts_of(low: &[u8], left: Addr, right: Addr) -> Sorts
-    ensures { λ r. ⌜ r ≡ sortsOf (meaning (now (low .entry)) left) (meaning (now (low .entry)) right) ⌝ }
+fn kinds_of(ground: &[u8], left: Addr, right: Addr) -> Kinds
+    ensures { λ r. ⌜ r ≡ kindsOf (meaning (now (ground .entry)) left) (meaning (now (ground .entry)) right) ⌝ }
 {
-    let x = sort_of(low, left);
-    let y = sort_of(low, right);
-    sorts_by(x, y)
+    let x = said_kind(ground, left);
+    let y = said_kind(ground, right);
+    kinds_by(x, y)
 }
 
 // The places of what is merged.
-fn gather(low: &[u8], left: Addr, right: Addr) -> Gathered
-    ensures { λ r. ⌜ r ≡ gathered (now (low .entry)) left right ⌝ }
+fn gather(ground: &[u8], left: Addr, right: Addr) -> Gathered
+    ensures { λ r. ⌜ r ≡ gathered (now (ground .entry)) left right ⌝ }
 {
-    let Begun::From(c) = build_sources::open_pages(low, left, right) else {
+    let Started::From(c) = build_sources::open_pages(ground, left, right) else {
         return Gathered::Bad;
     };
-    let BoundsRead::Is(p) = pages::bounds_at(low, left) else {
+    let BoundsRead::Is(p) = pages::bounds_at(ground, left) else {
         return Gathered::Bad;
     };
-    let BoundsRead::Is(q) = pages::bounds_at(low, right) else {
+    let BoundsRead::Is(q) = pages::bounds_at(ground, right) else {
         return Gathered::Bad;
     };
     let x = p.lo;
     let y = q.hi;
     let n = base::calc_prefix(
-        spans::part_of(low, x.at, x.len),
-        spans::part_of(low, y.at, y.len),
+        spans::part_of(ground, x.at, x.len),
+        spans::part_of(ground, y.at, y.len),
     );
     let g = q.sibling;
     Gathered::Is(
         c,
-        Edges {
-            lo: Edge {
-                low: true,
+        Boundaries {
+            lo: Boundary {
+                ground: true,
                 at: x.at,
                 len: x.len,
             },
-            hi: Edge {
-                low: true,
+            hi: Boundary {
+                ground: true,
                 at: y.at,
                 len: y.len,
             },
@@ -162,19 +162,19 @@ fn merge_leaves(a: &mut [u8], next: usize, left: Addr, right: Addr, m: Call, non
 }
 
 // Pages that were judged, by their kinds.
-fn merge_sorts(a: &mut [u8], next: usize, left: Addr, right: Addr, m: Call, none: &[u8]) -> Built
+fn merge_kinds(a: &mut [u8], next: usize, left: Addr, right: Addr, m: Call, none: &[u8]) -> Built
     requires { ⌜ next ≤ length (now a) ⌝ }
     requires { ⌜ now none ≡ [] ⌝ }
     requires { ⌜ Sane m ⌝ }
-    ensures { λ r. ⌜ r ≡ sortsAnswer (now (a .entry)) next m left right ⌝ }
-    ensures { λ _. ⌜ now (a .exit) ≡ sortsArena (now (a .entry)) next m left right ⌝ }
+    ensures { λ r. ⌜ r ≡ kindsAnswer (now (a .entry)) next m left right ⌝ }
+    ensures { λ _. ⌜ now (a .exit) ≡ kindsArena (now (a .entry)) next m left right ⌝ }
 {
-    let k = sorts_of(&a[..next], left, right);
+    let k = kinds_of(&a[..next], left, right);
     match k {
-        Sorts::Leaves => merge_leaves(a, next, left, right, m, none),
-        Sorts::Indexes => merge_indexes(a, next, left, right, m, none),
-        Sorts::Mixed => Built::Refused(Refusal::MixedKinds),
-        Sorts::Bad => Built::Refused(Refusal::BadFrame),
+        Kinds::Leaves => merge_leaves(a, next, left, right, m, none),
+        Kinds::Indexes => merge_indexes(a, next, left, right, m, none),
+        Kinds::Mixed => Built::Refused(Refusal::MixedKinds),
+        Kinds::Bad => Built::Refused(Refusal::BadFrame),
     }
 }
 
@@ -202,5 +202,5 @@ pub fn merge(
         return Built::Refused(Refusal::BadArena);
     }
     let m = build_image::call_of(limit, budget, group, txid, lsn, checkpoint);
-    merge_sorts(a, next, left, right, m, b"")
+    merge_kinds(a, next, left, right, m, b"")
 }

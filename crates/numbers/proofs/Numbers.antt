@@ -130,14 +130,6 @@ unfolding ofBe
 ofBe-append xs ys =
     ap ofLe (reverse-append xs ys) ∙ ofLe-append (reverse ys) (reverse xs) ∙ ap (λ (m : ℕ). ofLe (reverse ys) + 256 ^ m * ofLe (reverse xs)) (length-reverse ys)
 
-pub be-append : (j k n : ℕ) → be (j + k) n ≡ be j (n / 256 ^ k) ++ be k n
-unfolding be
-be-append j k n = ap (λ (m : ℕ). reverse (le m n)) (add-comm j k) ∙ ap reverse (le-append k j n) ∙ reverse-append (le k n) (le j (n / 256 ^ k))
-
-pub be-mod : (j n : ℕ) → be j (n % 256 ^ j) ≡ be j n
-unfolding be
-be-mod j n = ap reverse (le-mod j n)
-
 -- every byte below 256, the highest first too
 pub bytes-be : (k n : ℕ) → Bytes (be k n)
 unfolding be
@@ -197,18 +189,9 @@ put-le a i j k n =
     ∙ put-next a i (le j n) (le k (n / 256 ^ j)) (i + j) (ap (λ (m : ℕ). i + m) (sym (length-le j n)))
     ∙ ap (put a i) (sym (le-append j k n))
 
-pub put-be : (a : List ℕ) (i j k n : ℕ) → put (put a i (be j (n / 256 ^ k))) (i + j) (be k (n % 256 ^ k)) ≡ put a i (be (j + k) n)
-put-be a i j k n =
-    ap (λ (x : List ℕ). put (put a i (be j (n / 256 ^ k))) (i + j) x) (be-mod k n)
-    ∙ put-next a i (be j (n / 256 ^ k)) (be k n) (i + j) (ap (λ (m : ℕ). i + m) (sym (length-be j (n / 256 ^ k))))
-    ∙ ap (put a i) (sym (be-append j k n))
-
 -- and as two calls leave it, b after the first and c after the second
 pub both-le : (a b c : List ℕ) (i j k n : ℕ) → b ≡ put a i (le j (n % 256 ^ j)) → c ≡ put b (i + j) (le k (n / 256 ^ j)) → c ≡ put a i (le (j + k) n)
 both-le a b c i j k n e f = f ∙ ap (λ (x : List ℕ). put x (i + j) (le k (n / 256 ^ j))) e ∙ put-le a i j k n
-
-pub both-be : (a b c : List ℕ) (i j k n : ℕ) → b ≡ put a i (be j (n / 256 ^ k)) → c ≡ put b (i + j) (be k (n % 256 ^ k)) → c ≡ put a i (be (j + k) n)
-both-be a b c i j k n e f = f ∙ ap (λ (x : List ℕ). put x (i + j) (be k (n % 256 ^ k))) e ∙ put-be a i j k n
 
 -- what lies at an index is read, at every width
 pub lies-le : (a : List ℕ) (i k n : ℕ) → n < 256 ^ k → Lies a i (le k n) → leAt k a i ≡ n
@@ -222,9 +205,6 @@ lies-be a i k n h e = ap ofBe (lies-part a i k (be k n) (sym (length-be k n)) e)
 -- so what was stored is read back
 pub read-put-le : (a : List ℕ) (i k n : ℕ) → i + k ≤ length a → n < 256 ^ k → leAt k (put a i (le k n)) i ≡ n
 read-put-le a i k n h l = lies-le (put a i (le k n)) i k n l (put-lies a i (le k n) (omega (arith, length-le k n)))
-
-pub read-put-be : (a : List ℕ) (i k n : ℕ) → i + k ≤ length a → n < 256 ^ k → beAt k (put a i (be k n)) i ≡ n
-read-put-be a i k n h l = lies-be (put a i (be k n)) i k n l (put-lies a i (be k n) (omega (arith, length-be k n)))
 
 -- a number at an index depends on its bytes alone
 pub leAt-agree : (a b : List ℕ) (k i m : ℕ) → i + k ≤ m → take m a ≡ take m b → leAt k a i ≡ leAt k b i

@@ -1,9 +1,9 @@
-// Numbers of 1, 2, 4 and 8 bytes in a lent slice, read and stored in place, the lowest byte first or (be) the highest.
+// Numbers of 1, 2, 4 and 8 bytes in a lent slice, read and stored in place, the lowest byte first, and read (be) the highest first.
 ghost use mathlib.Core.Path.{_≡_};
-ghost use Prim.Native.Nat.{_+_, _≤_, _<_};
+ghost use Prim.Native.Nat.{_+_, _≤_};
 ghost use lib.ListN.{length};
 ghost use Rattle.spans.specs.Span.{put};
-ghost use Rattle.numbers.specs.Number.{le, be, leAt, beAt, turned};
+ghost use Rattle.numbers.specs.Number.{le, leAt, beAt, turned};
 
 pub fn read_u16(s: &[u8], at: usize) -> u16
     requires { ⌜ at + 2 ≤ length (now s) ⌝ }
@@ -107,28 +107,4 @@ pub fn read_u64_be(s: &[u8], at: usize) -> u64
     ensures { λ r. ⌜ r ≡ beAt 8 (now (s .entry)) at ⌝ }
 {
     turn_u64(read_u64(s, at))
-}
-
-pub fn put_u16_be(buf: &mut [u8], at: usize, x: u16)
-    requires { ⌜ at + 2 ≤ length (now buf) ⌝ }
-    ensures { λ _. ⌜ now (buf .exit) ≡ put (now (buf .entry)) at (be 2 x) ⌝ }
-{
-    buf[at] = (x / 256) as u8;
-    buf[at + 1] = (x % 256) as u8;
-}
-
-pub fn put_u32_be(buf: &mut [u8], at: usize, x: u32)
-    requires { ⌜ at + 4 ≤ length (now buf) ⌝ }
-    ensures { λ _. ⌜ now (buf .exit) ≡ put (now (buf .entry)) at (be 4 x) ⌝ }
-{
-    put_u16_be(buf, at, (x / 65536) as u16);
-    put_u16_be(buf, at + 2, (x % 65536) as u16);
-}
-
-pub fn put_u64_be(buf: &mut [u8], at: usize, x: u64)
-    requires { ⌜ at + 8 ≤ length (now buf) ⌝ }
-    ensures { λ _. ⌜ now (buf .exit) ≡ put (now (buf .entry)) at (be 8 x) ⌝ }
-{
-    put_u32_be(buf, at, (x / 4294967296) as u32);
-    put_u32_be(buf, at + 4, (x % 4294967296) as u32);
 }

@@ -1,6 +1,6 @@
 // The order of byte strings, compared eight bytes at a time, and the order of versions.
 ghost use mathlib.Core.Path.{_≡_};
-ghost use Prim.Native.Nat.{_+_, _≤_};
+ghost use Prim.Native.Nat.{_≤_};
 ghost use lib.ListN.{length, drop};
 ghost use Rattle.order.specs.Order.{byNumber, cmpBytes, isEqual, startsWith, Lesser};
 ghost use Rattle.order.specs.Version.{verOf, newerThan};

@@ -9,6 +9,6 @@ use Rattle.order.specs.Order.{byNumber, cmpBytes}
 use Rattle.order_pair.specs.declared.Pair.{Pair}
 
 -- the strings stand as the numbers where these differ, and are the same where these are and say all
-pub record Decides (a b : List ℕ) (r : Pair) : Type 0 where
+pub record StandsAs (a b : List ℕ) (r : Pair) : Type 0 where
   pub differ : (r .x ≡ r .y → ⊥) → cmpBytes a b ≡ byNumber (r .x) (r .y) Order.Equal
   pub same : r .x ≡ r .y → r .whole ≡ true → cmpBytes a b ≡ Order.Equal

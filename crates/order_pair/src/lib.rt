@@ -3,7 +3,7 @@ ghost use mathlib.Core.Path.{_≡_};
 ghost use Prim.Native.Nat.{_+_, _≤_};
 ghost use lib.ListN.{length, take};
 ghost use Rattle.order_pair.specs.Word.{wordOf};
-ghost use Rattle.order_pair.specs.Apart.{Decides};
+ghost use Rattle.order_pair.specs.Apart.{StandsAs};
 
 // How far the first n bytes of two strings are the same, sixteen at a time.
 fn pairs(a: &[u8], b: &[u8], n: usize) -> usize
@@ -81,7 +81,7 @@ pub struct Pair {
 
 pub fn pair_of(a: &[u8], b: &[u8]) -> Pair
     requires { ⌜ length (now a) ≡ length (now b) ⌝ }
-    ensures { λ r. ⌜ Decides (now (a .entry)) (now (b .entry)) r ⌝ }
+    ensures { λ r. ⌜ StandsAs (now (a .entry)) (now (b .entry)) r ⌝ }
 {
     let n = b.len();
     if n < 8 {

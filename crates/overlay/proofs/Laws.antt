@@ -16,7 +16,7 @@ use Rattle.frames.specs.declared.Refusal.{Refusal}
 use Rattle.records.specs.declared.RecRead.{RecRead}
 use Rattle.records.specs.Records.{recAt}
 use Rattle.pages.specs.declared.Place.{Place}
-use Rattle.pages.specs.Edges.{place, partIn}
+use Rattle.pages.specs.Boundaries.{place, partIn}
 use Rattle.values.specs.declared.HistRef.{HistRef}
 use Rattle.sst.specs.declared.Found.{Found}
 use Rattle.sst.specs.declared.Halved.{Halved}

@@ -8,7 +8,7 @@ use lib.ListN.{length}
 use lib.Dec.{leb}
 use denote.Ref.{RefT, now}
 use Rattle.pages.specs.declared.Place.{Place}
-use Rattle.pages.specs.Edges.{place, partIn}
+use Rattle.pages.specs.Boundaries.{place, partIn}
 use Rattle.overlay.specs.declared.Laid.{Laid}
 
 -- where the part starts: at its place, or at the start for a place outside

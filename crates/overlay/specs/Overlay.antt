@@ -13,7 +13,7 @@ use Rattle.frames.specs.Refusals.{numberOf}
 use Rattle.records.specs.declared.RecRead.{RecRead}
 use Rattle.records.specs.Records.{recAt}
 use Rattle.pages.specs.declared.Place.{Place}
-use Rattle.pages.specs.Edges.{place, partIn}
+use Rattle.pages.specs.Boundaries.{place, partIn}
 use Rattle.search_head.specs.declared.Head.{Head}
 use Rattle.search_head.specs.Head.{headAt}
 use Rattle.delta.specs.declared.LeafKey.{LeafKey}
@@ -21,7 +21,7 @@ use Rattle.delta.specs.declared.Value.{Value}
 use Rattle.delta.specs.Read.{leafKeyAt, valueAt}
 use Rattle.overlay.specs.declared.Laid.{Laid}
 
--- ---- the page's side: the head that a search of the leaf finds (`found`). "The delta's value and remote are judged only if handed back,
+-- ---- the page's side: the head that a search of the leaf finds (`search_head`). "The delta's value and remote are judged only if handed back,
 -- the page's likewise", so only its key is read
 
 -- "otherwise the page's"

@@ -19,7 +19,7 @@ use Rattle.pages.specs.declared.HintsRead.{HintsRead}
 use Rattle.pages.specs.declared.Hint.{Hint}
 use Rattle.pages.specs.Sound.{historyAt, oldAt, entered}
 use Rattle.pages.specs.Meaning.{meaning, checkOf}
-use Rattle.pages.specs.Edges.{boundsAt, partIn, loAt, hiAt, prefixAt}
+use Rattle.pages.specs.Boundaries.{boundsAt, partIn, loAt, hiAt, prefixAt}
 use Rattle.pages.specs.HintsAt.{historyHintsAt, remoteHintsAt, hintIn}
 use Rattle.pages.proofs.check as check-fn
 use Rattle.pages.proofs.check.Reads as checking

@@ -20,7 +20,8 @@ use Rattle.frames.specs.declared.Opened.{Opened}
 use Rattle.frames.specs.Layout.{openAt}
 use Rattle.records.specs.declared.Rec.{Rec}
 use Rattle.records.specs.declared.RecRead.{RecRead}
-use Rattle.records.specs.Records.{recAt, verIn}
+use Rattle.values.specs.Keys.{verIn}
+use Rattle.records.specs.Records.{recAt}
 use Rattle.pages.specs.declared.OldRead.{OldRead}
 use Rattle.pages.specs.Sound.{isLess, inOrder, slotsOf, slotsFrom, slotsOk, histOk, oldAt, chainOf, chainFrom, entered, headOk, multiOf, chainsOf, chainsFrom, chainsOk, remotesAt, hintsOk, soundBody}
 use Rattle.pages.specs.Meaning.{Page, Said, nothing, says, prefixOf, keyOf, pageSays, meaningOf, meaning}

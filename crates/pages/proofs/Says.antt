@@ -6,7 +6,7 @@ use mathlib.Core.List.{List, []}
 use native.Mathlib.Omega.{arith}
 use borrow.Author.Tests.{ne-eqb}
 use Rattle.spans.specs.Span.{part, partOr}
-use Rattle.records.specs.Parts.{loIn, hiIn, prefixIn}
+use Rattle.records.specs.Parts.{prefixIn}
 use Rattle.records.proofs.Inside.{lo-part, hi-part, prefix-part}
 use Rattle.frames.specs.declared.Addr.{Addr}
 use Rattle.frames.specs.declared.Opened.{Opened}
@@ -14,7 +14,7 @@ use Rattle.frames.specs.Layout.{openAt}
 use Rattle.frames.proofs.Frames.{open-inside}
 use Rattle.pages.specs.declared.Checked.{Checked}
 use Rattle.pages.specs.Meaning.{Page, Said, nothing, says, prefixOf, pageSays, meaning, checkOf}
-use Rattle.pages.specs.Edges.{boundsOf, boundsAt, loAt, hiAt, prefixAt}
+use Rattle.pages.specs.Boundaries.{boundsOf, boundsAt, loAt, hiAt, prefixAt}
 use Rattle.pages.proofs.Given.{Sound, sound-given}
 
 -- the check says sound exactly where the page has a meaning
@@ -28,14 +28,14 @@ says-checked m p e = ap checkOf e
 -- the boundaries and the prefix that are lent on are those of the meaning
 module _ (s : List ℕ) (a : Addr) (p : Page) (m : meaning s a ≡ says p) where
   pub lo-says : loAt s a ≡ p .lo
-  unfolding loAt boundsAt boundsOf pageSays loIn
+  unfolding loAt boundsAt boundsOf pageSays
   lo-says =
       let g = sound-given s a p m in
       let i = open-inside s a (g .body) (g .opened) .0 in
       rw (g .opened, ne-eqb (g .body .kind) 2 (g .kind)) (lo-part s (g .body) i ∙ ap (λ (q : Page). q .lo) (g .said))
 
   pub hi-says : hiAt s a ≡ p .hi
-  unfolding hiAt boundsAt boundsOf pageSays hiIn
+  unfolding hiAt boundsAt boundsOf pageSays
   hi-says =
       let g = sound-given s a p m in
       let i = open-inside s a (g .body) (g .opened) .0 in

@@ -17,7 +17,8 @@ use Rattle.frames.specs.declared.Refusal.{Refusal}
 use Rattle.frames.specs.Layout.{openAt}
 use Rattle.records.specs.declared.Rec.{Rec}
 use Rattle.records.specs.declared.RecRead.{RecRead}
-use Rattle.records.specs.Records.{recAt, verIn}
+use Rattle.values.specs.Keys.{verIn}
+use Rattle.records.specs.Records.{recAt}
 use Rattle.pages.specs.declared.Checked.{Checked}
 use Rattle.pages.specs.declared.OldRead.{OldRead}
 use Rattle.pages.specs.Sound.{inOrder, slotsFrom, slotsOk, soundBody, histOk, oldAt, chainFrom, headOk, multiOf, chainsFrom, chainsOk, remotesAt, hintsOk, entered}

@@ -1,9 +1,8 @@
 -- P7, whole: its page says one key with one older version; damaged in three places, it says nothing.
 -- Assumes nothing.
-use Prim.Native.Nat.{ℕ}
 use mathlib.Core.Path.{_≡_, refl}
-use mathlib.Core.List.{List, [], _∷_}
-use mathlib.Core.Bool.{Bool, true, false}
+use mathlib.Core.List.{[], _∷_}
+use mathlib.Core.Bool.{true}
 use lib.ListN.{set}
 use Rattle.spans.specs.Span.{part}
 use Rattle.numbers.specs.Number.{ofLe, leAt}
@@ -12,13 +11,13 @@ use Rattle.order.specs.Version.{verOf, newerThan}
 use Rattle.lengths.specs.Leb128.{carry, dec, within, readLen}
 use Rattle.frames.specs.Layout.{addr, pageId, boxFields, boxOk, boxAt, baseFields, baseOk, pageAt, kindOf, bodyOf, openAt, remoteAt, deltaAt}
 use Rattle.frames.specs.Cases.{p7}
-use Rattle.values.specs.Keys.{skipOf, keyAt}
+use Rattle.values.specs.Keys.{verIn, skipOf, keyAt}
 use Rattle.values.specs.Vals.{refAt, frontAt, valAt}
-use Rattle.records.specs.Records.{slotAt, verIn, keyIn, valIn, recIn, recAt}
+use Rattle.records.specs.Records.{slotAt, keyIn, valIn, recIn, recAt}
 use Rattle.pages.specs.declared.HintsRead.{HintsRead}
 use Rattle.pages.specs.declared.Hint.{Hint}
 use Rattle.pages.specs.Sound.{inOrder, slotsFrom, slotsOk, historyAt, histOk, oldIn, oldAt, chainFrom, entered, headOk, multiOf, chainsFrom, chainsOk, hintsOk, soundBody}
-use Rattle.pages.specs.Meaning.{Older, Head, Page, Rows, leaf, Said, nothing, says, oldsFrom, prefixOf, headOf, rowsFrom, pageSays, meaning}
+use Rattle.pages.specs.Meaning.{leaf, nothing, says, oldsFrom, prefixOf, headOf, rowsFrom, pageSays, meaning}
 use Rattle.pages.specs.HintsAt.{hintsOf, historyHintsAt, remoteHintsAt, hintIn}
 use Rattle.pages.specs.Frames.{frameOk}
 

@@ -1,7 +1,7 @@
 -- The crate's definitions.
 pub mod Sound
 pub mod Meaning
-pub mod Edges
+pub mod Boundaries
 pub mod HintsAt
 pub mod Frames
 pub mod Refused

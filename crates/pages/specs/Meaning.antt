@@ -2,7 +2,7 @@
 -- Assumes nothing.
 use Prim.Native.Nat.{ℕ, zero, suc, _+_, _*_}
 use mathlib.Core.List.{List, [], _∷_, _++_}
-use mathlib.Core.Bool.{Bool, true, false, cond}
+use mathlib.Core.Bool.{cond}
 use lib.Dec.{eqb}
 use Rattle.spans.specs.Span.{part}
 use Rattle.numbers.specs.Number.{leAt}
@@ -15,7 +15,8 @@ use Rattle.frames.specs.declared.Refusal.{Refusal}
 use Rattle.frames.specs.Layout.{baseLen, pageId, openAt}
 use Rattle.records.specs.declared.Rec.{Rec}
 use Rattle.records.specs.declared.RecRead.{RecRead}
-use Rattle.records.specs.Records.{recAt, verIn}
+use Rattle.values.specs.Keys.{verIn}
+use Rattle.records.specs.Records.{recAt}
 use Rattle.pages.specs.declared.OldRead.{OldRead}
 use Rattle.pages.specs.declared.Checked.{Checked}
 use Rattle.pages.specs.Sound.{oldAt, soundBody}

@@ -17,7 +17,8 @@ use Rattle.frames.specs.declared.Opened.{Opened}
 use Rattle.frames.specs.Layout.{openAt}
 use Rattle.records.specs.declared.Rec.{Rec}
 use Rattle.records.specs.declared.RecRead.{RecRead}
-use Rattle.records.specs.Records.{recAt, verIn}
+use Rattle.values.specs.Keys.{verIn}
+use Rattle.records.specs.Records.{recAt}
 use Rattle.pages.specs.declared.OldRead.{OldRead}
 
 -- ---- "records stand gapless in slot order, keys rise strictly (history pages excepted)"

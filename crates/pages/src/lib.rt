@@ -2,14 +2,15 @@
 ghost use mathlib.Core.Path.{_≡_};
 ghost use Prim.Native.Nat.{_+_, _≤_};
 ghost use lib.ListN.{length};
-ghost use Rattle.frames.specs.Layout.{Inside, openAt};
-ghost use Rattle.pages.specs.Edges.{boundsAt, partIn, loAt, hiAt, prefixAt};
+ghost use Rattle.frames.specs.Layout.{Inside};
+ghost use Rattle.pages.specs.Boundaries.{boundsAt, partIn, loAt, hiAt, prefixAt};
 ghost use Rattle.pages.specs.Sound.{isLess, inOrder, slotsOk, historyAt, histOk, oldIn, oldAt, chainFrom, entered, headOk, multiOf, chainsOk, hintsOk, Known};
 ghost use Rattle.pages.specs.Meaning.{meaning, checkOf};
 ghost use Rattle.pages.specs.HintsAt.{hintsOf, historyHintsAt, remoteHintsAt, hintIn};
 use frames::Addr;
 use frames::BaseHeader;
 use frames::Body;
+use frames::NULL_ADDR;
 use frames::Opened;
 use frames::PageId;
 use frames::Refusal;
@@ -253,7 +254,7 @@ fn chains_ok(s: &[u8], b: Body) -> bool
     }
     let mut k = 0;
     let mut m: u8 = 0;
-    let mut seen = Addr(0);
+    let mut seen = NULL_ADDR;
     while k < b.elems {
         let RecRead::Is(r) = records::rec_at(s, b, k) else {
             return false;

@@ -16,6 +16,7 @@ use Rattle.frames.specs.declared.Addr.{Addr}
 use Rattle.frames.specs.declared.Body.{Body}
 use Rattle.frames.specs.declared.RemoteRead.{RemoteRead}
 use Rattle.frames.specs.Layout.{baseLen, addr, Inside, remoteAt}
+use Rattle.frames.specs.Limits.{maxKey}
 use Rattle.frames.proofs.Frames.{remote-inside}
 use Rattle.values.specs.declared.HistRef.{HistRef}
 use Rattle.values.specs.declared.KeyRead.{KeyRead}
@@ -26,8 +27,8 @@ use Rattle.records.specs.declared.SlotRead.{SlotRead}
 use Rattle.records.specs.declared.ValRead.{ValRead}
 use Rattle.records.specs.declared.Rec.{Rec}
 use Rattle.records.specs.declared.RecRead.{RecRead}
-use Rattle.records.specs.Records.{placeOf, slotAt, keyWhole, keyIn, keySlot, keyAtSlot, farOf, valOf, valIn, recOf, recVal, recKey, recIn, recSlot, recAt, RecInside}
-use Rattle.records.specs.Parts.{loIn, hiIn, prefixIn}
+use Rattle.records.specs.Records.{placeOf, slotAt, keyWhole, keyIn, keySlot, keyAtSlot, remoteOf, valOf, valIn, recOf, recVal, recKey, recIn, recSlot, recAt, RecInside}
+use Rattle.records.specs.Parts.{prefixIn}
 use Rattle.records.proofs.Places.{key-no, KeyPlace, key-place, InlinePlace, inline-place, RemotePlace, remote-place}
 
 slot-no : (p : ℕ) → SlotRead.Bad ≡ SlotRead.At p → ⊥
@@ -68,7 +69,7 @@ key-inside s b at v r n i e = go (keyAt (take (b .end) s) at (b .kind)) refl e
   where
     go : (k : KeyRead) → keyAt (take (b .end) s) at (b .kind) ≡ k → keyWhole b k ≡ KeyRead.Key v r n → KeyInside b v r n
     go (KeyRead.Key v′ r′ n′) q e′ =
-        let a1 = ask (leb (b .«prefix_len» + n′) 4096) _ KeyRead.Bad (KeyRead.Key v r n) (key-no v r n) e′ in
+        let a1 = ask (leb (b .«prefix_len» + n′) maxKey) _ KeyRead.Bad (KeyRead.Key v r n) (key-no v r n) e′ in
         let x : v′ ≡ v = cc in
         let y : r′ ≡ r = cc in
         let z : n′ ≡ n = cc in
@@ -84,13 +85,13 @@ pub val-inside : (s : List ℕ) (b : Body) (at : ℕ) (h : HistRef) (p n : ℕ) 
 unfolding valIn
 val-inside s b at h p n a next i e = go (valAt (take (b .end) s) at (eqb (b .kind) 0)) refl e
   where
-    far : (h′ : HistRef) (a′ : Addr) (n′ next′ : ℕ) → next′ ≤ b .end → (r : RemoteRead) → remoteAt s a′ n′ ≡ r → farOf h′ a′ n′ next′ r ≡ ValRead.Is h p n a next → ValInside s b p n next
-    far h′ a′ n′ next′ l (RemoteRead.At q) w e′ =
+    remote : (h′ : HistRef) (a′ : Addr) (n′ next′ : ℕ) → next′ ≤ b .end → (r : RemoteRead) → remoteAt s a′ n′ ≡ r → remoteOf h′ a′ n′ next′ r ≡ ValRead.Is h p n a next → ValInside s b p n next
+    remote h′ a′ n′ next′ l (RemoteRead.At q) w e′ =
         let x : q ≡ p = cc in
         let y : n′ ≡ n = cc in
         let z : next′ ≡ next = cc in
         record { val = omega (arith, remote-inside s a′ n′ q w); behind = omega arith }
-    far h′ a′ n′ next′ l RemoteRead.Bad w e′ = absurd (val-no h p n a next e′)
+    remote h′ a′ n′ next′ l RemoteRead.Bad w e′ = absurd (val-no h p n a next e′)
 
     go : (v : Val) → valAt (take (b .end) s) at (eqb (b .kind) 0) ≡ v → valOf s v ≡ ValRead.Is h p n a next → ValInside s b p n next
     go (Val.Inline h′ p′ n′ next′) q e′ =
@@ -102,7 +103,7 @@ val-inside s b at h p n a next i e = go (valAt (take (b .end) s) at (eqb (b .kin
         record { val = omega (arith, k .whole, k .inside, i .payload, i .arena); behind = omega (arith, k .inside) }
     go (Val.Remote h′ a′ n′ next′) q e′ =
         let k = remote-place (take (b .end) s) at (eqb (b .kind) 0) h′ a′ n′ next′ q in
-        far h′ a′ n′ next′ (omega (arith, k .inside, ends s b i)) (remoteAt s a′ n′) refl e′
+        remote h′ a′ n′ next′ (omega (arith, k .inside, ends s b i)) (remoteAt s a′ n′) refl e′
     go Val.Bad q e′ = absurd (val-no h p n a next e′)
 
 -- the record at a place
@@ -209,12 +210,10 @@ module _ (s : List ℕ) (b : Body) (i : ℕ) where
 -- ---- parts: on a page that was opened they are all there
 
 module _ (s : List ℕ) (b : Body) (i : Inside s b) where
-  pub lo-part : loIn s b ≡ part s (b .at + baseLen + 4 * b .elems) (b .«lo_len»)
-  unfolding loIn
+  pub lo-part : partOr s (b .at + baseLen + 4 * b .elems) (b .«lo_len») ≡ part s (b .at + baseLen + 4 * b .elems) (b .«lo_len»)
   lo-part = partOr-in s (b .at + baseLen + 4 * b .elems) (b .«lo_len») (omega (arith, i .slots, i .records, i .payload, i .arena))
 
-  pub hi-part : hiIn s b ≡ part s (b .at + baseLen + 4 * b .elems + b .«lo_len») (b .«hi_len»)
-  unfolding hiIn
+  pub hi-part : partOr s (b .at + baseLen + 4 * b .elems + b .«lo_len») (b .«hi_len») ≡ part s (b .at + baseLen + 4 * b .elems + b .«lo_len») (b .«hi_len»)
   hi-part = partOr-in s (b .at + baseLen + 4 * b .elems + b .«lo_len») (b .«hi_len») (omega (arith, i .slots, i .records, i .payload, i .arena))
 
   pub prefix-part : prefixIn s b ≡ part s (b .at + baseLen + 4 * b .elems) (b .«prefix_len»)

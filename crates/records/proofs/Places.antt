@@ -13,6 +13,7 @@ use Rattle.numbers.specs.Number.{leAt}
 use Rattle.lengths.specs.declared.Length.{Length}
 use Rattle.lengths.specs.Leb128.{readLen}
 use Rattle.frames.specs.declared.Addr.{Addr}
+use Rattle.frames.specs.Limits.{maxValue}
 use Rattle.values.specs.declared.HistRef.{HistRef}
 use Rattle.values.specs.declared.KeyRead.{KeyRead}
 use Rattle.values.specs.declared.FrontRead.{FrontRead}
@@ -64,7 +65,7 @@ remote-no h a n x e = let z : _≡_ {A = ℕ} 0 1 = cc in omega arith
 
 pub record InlinePlace (s : List ℕ) (p n next : ℕ) : Type 0 where
   pub whole : p + n ≡ next
-  pub small : n ≤ 65536
+  pub small : n ≤ maxValue
   pub inside : next ≤ length s
 
 pub inline-place : (s : List ℕ) (at : ℕ) (head : Bool) (h : HistRef) (p n next : ℕ) → valAt s at head ≡ Val.Inline h p n next → InlinePlace s p n next
@@ -74,8 +75,8 @@ inline-place s at head h p n next e = of (frontAt s at head) e
     y : Val
     y = Val.Inline h p n next
 
-    by : (h′ : HistRef) (q : ℕ) (far : Bool) → leAt 4 s q ≤ 65536
-        → cond far (cond (leb (q + 12) (length s)) (Val.Remote h′ (addrOf (leAt 8 s (q + 4))) (leAt 4 s q) (q + 12)) Val.Bad)
+    by : (h′ : HistRef) (q : ℕ) (remote : Bool) → leAt 4 s q ≤ maxValue
+        → cond remote (cond (leb (q + 12) (length s)) (Val.Remote h′ (addrOf (leAt 8 s (q + 4))) (leAt 4 s q) (q + 12)) Val.Bad)
         (cond (leb (q + 4 + leAt 4 s q) (length s)) (Val.Inline h′ (q + 4) (leAt 4 s q) (q + 4 + leAt 4 s q)) Val.Bad) ≡ Val.Inline h p n next → InlinePlace s p n next
     by h′ q true l e′ =
         let a1 = ask (leb (q + 12) (length s)) _ Val.Bad (Val.Inline h p n next) (inline-no h p n next) e′ in
@@ -88,22 +89,22 @@ inline-place s at head h p n next e = of (frontAt s at head) e
         record { whole = omega arith; small = omega arith; inside = omega (arith, leb-true (q + 4 + leAt 4 s q) (length s) (a1 .0)) }
 
     of : (f : FrontRead) → valOf s f ≡ Val.Inline h p n next → InlinePlace s p n next
-    of (FrontRead.Front h′ far q) e′ =
+    of (FrontRead.Front h′ remote q) e′ =
         let a1 = ask (leb (q + 4) (length s)) _ Val.Bad (Val.Inline h p n next) (inline-no h p n next) e′ in
-        let a2 = ask (leb (leAt 4 s q) 65536) _ Val.Bad (Val.Inline h p n next) (inline-no h p n next) (a1 .1) in
-        by h′ q far (leb-true (leAt 4 s q) 65536 (a2 .0)) (a2 .1)
+        let a2 = ask (leb (leAt 4 s q) maxValue) _ Val.Bad (Val.Inline h p n next) (inline-no h p n next) (a1 .1) in
+        by h′ q remote (leb-true (leAt 4 s q) maxValue (a2 .0)) (a2 .1)
     of FrontRead.Bad e′ = absurd (inline-no h p n next e′)
 
 pub record RemotePlace (s : List ℕ) (n next : ℕ) : Type 0 where
-  pub small : n ≤ 65536
+  pub small : n ≤ maxValue
   pub inside : next ≤ length s
 
 pub remote-place : (s : List ℕ) (at : ℕ) (head : Bool) (h : HistRef) (a : Addr) (n next : ℕ) → valAt s at head ≡ Val.Remote h a n next → RemotePlace s n next
 unfolding valAt
 remote-place s at head h a n next e = of (frontAt s at head) e
   where
-    by : (h′ : HistRef) (q : ℕ) (far : Bool) → leAt 4 s q ≤ 65536
-        → cond far (cond (leb (q + 12) (length s)) (Val.Remote h′ (addrOf (leAt 8 s (q + 4))) (leAt 4 s q) (q + 12)) Val.Bad)
+    by : (h′ : HistRef) (q : ℕ) (remote : Bool) → leAt 4 s q ≤ maxValue
+        → cond remote (cond (leb (q + 12) (length s)) (Val.Remote h′ (addrOf (leAt 8 s (q + 4))) (leAt 4 s q) (q + 12)) Val.Bad)
         (cond (leb (q + 4 + leAt 4 s q) (length s)) (Val.Inline h′ (q + 4) (leAt 4 s q) (q + 4 + leAt 4 s q)) Val.Bad) ≡ Val.Remote h a n next → RemotePlace s n next
     by h′ q true l e′ =
         let a1 = ask (leb (q + 12) (length s)) _ Val.Bad (Val.Remote h a n next) (remote-no h a n next) e′ in
@@ -115,8 +116,8 @@ remote-place s at head h a n next e = of (frontAt s at head) e
         absurd (let z : _≡_ {A = ℕ} 0 1 = cc in omega arith)
 
     of : (f : FrontRead) → valOf s f ≡ Val.Remote h a n next → RemotePlace s n next
-    of (FrontRead.Front h′ far q) e′ =
+    of (FrontRead.Front h′ remote q) e′ =
         let a1 = ask (leb (q + 4) (length s)) _ Val.Bad (Val.Remote h a n next) (remote-no h a n next) e′ in
-        let a2 = ask (leb (leAt 4 s q) 65536) _ Val.Bad (Val.Remote h a n next) (remote-no h a n next) (a1 .1) in
-        by h′ q far (leb-true (leAt 4 s q) 65536 (a2 .0)) (a2 .1)
+        let a2 = ask (leb (leAt 4 s q) maxValue) _ Val.Bad (Val.Remote h a n next) (remote-no h a n next) (a1 .1) in
+        by h′ q remote (leb-true (leAt 4 s q) maxValue (a2 .0)) (a2 .1)
     of FrontRead.Bad e′ = absurd (remote-no h a n next e′)

@@ -12,6 +12,7 @@ use lib.Dec.{leb, ltb, eqb}
 use Rattle.lengths.proofs.Laws.{read-one}
 use Rattle.frames.specs.declared.Body.{Body}
 use Rattle.frames.specs.Layout.{addr, Inside}
+use Rattle.frames.specs.Limits.{maxKey}
 use Rattle.values.specs.declared.HistRef.{HistRef}
 use Rattle.values.specs.declared.Val.{Val}
 use Rattle.values.specs.declared.KeyRead.{KeyRead}
@@ -41,7 +42,7 @@ unfolding keyAt
 short-at t at kind k e a b h l r = simp (ne-eqb kind 2 h, read-one t at a b, ← e, le-leb _ _ l, le-leb _ _ r)
 
 pub short-in : (s : List ℕ) (b : Body) (at k : ℕ) → Inside s b → k ≡ skipOf (b .kind) → at < b .end → getD (take (b .end) s) at 0 < 128 → (b .kind ≡ 2 → ⊥)
-    → k ≤ getD (take (b .end) s) at 0 → getD (take (b .end) s) at 0 ≤ b .end - at - 1 → b .«prefix_len» + (getD (take (b .end) s) at 0 - k) ≤ 4096
+    → k ≤ getD (take (b .end) s) at 0 → getD (take (b .end) s) at 0 ≤ b .end - at - 1 → b .«prefix_len» + (getD (take (b .end) s) at 0 - k) ≤ maxKey
     → keyIn s b at ≡ KeyRead.Key (at + 1) (at + 1 + k) (getD (take (b .end) s) at 0 - k)
 unfolding keyIn
 short-in s b at k i e a n h l r w =
@@ -49,9 +50,9 @@ short-in s b at k i e a n h l r w =
     ∙ ap (λ (q : Bool). cond q (KeyRead.Key (at + 1) (at + 1 + k) (getD (take (b .end) s) at 0 - k)) KeyRead.Bad) (le-leb _ _ w)
 
 -- a history key is a version alone
-pub old-in : (s : List ℕ) (b : Body) (at : ℕ) → Inside s b → b .kind ≡ 2 → at + 12 ≤ b .end → b .«prefix_len» ≤ 4096 → keyIn s b at ≡ KeyRead.Key at (at + 12) 0
+pub old-in : (s : List ℕ) (b : Body) (at : ℕ) → Inside s b → b .kind ≡ 2 → at + 12 ≤ b .end → b .«prefix_len» ≤ maxKey → keyIn s b at ≡ KeyRead.Key at (at + 12) 0
 unfolding keyIn keyAt
-old-in s b at i e a w = simp (eq-eqb (b .kind) 2 e, ends s b i, le-leb _ _ a, le-leb (b .«prefix_len» + 0) 4096 (omega arith))
+old-in s b at i e a w = simp (eq-eqb (b .kind) 2 e, ends s b i, le-leb _ _ a, le-leb (b .«prefix_len» + 0) maxKey (omega arith))
 
 -- ---- values
 
@@ -89,7 +90,7 @@ pub slot-rec : (s : List ℕ) (b : Body) (i p : ℕ) → slotAt s b i ≡ SlotRe
 unfolding recAt
 slot-rec s b i p e = sym (ap (recSlot s b) e)
 
-pub old-rec : (s : List ℕ) (b : Body) (p : ℕ) (h : HistRef) (va vn next : ℕ) → Inside s b → b .kind ≡ 2 → p + 12 ≤ b .end → b .«prefix_len» ≤ 4096
+pub old-rec : (s : List ℕ) (b : Body) (p : ℕ) (h : HistRef) (va vn next : ℕ) → Inside s b → b .kind ≡ 2 → p + 12 ≤ b .end → b .«prefix_len» ≤ maxKey
     → valAt (take (b .end) s) (p + 12) false ≡ Val.Inline h va vn next → recIn s b p ≡ RecRead.Is (recOf p p (p + 12) 0 h va vn (addr 0) next)
 unfolding recIn valIn
 old-rec s b p h va vn next i e a w q =

@@ -1,4 +1,4 @@
--- The boundaries and the prefix of a page, as parts of the arena.
+-- The prefix of a page, as a part of the arena.
 -- Assumes nothing.
 use Prim.Native.Nat.{ℕ, _+_, _*_}
 use mathlib.Core.List.{List}
@@ -6,14 +6,6 @@ use Rattle.spans.specs.Span.{partOr}
 use Rattle.frames.specs.declared.Body.{Body}
 use Rattle.frames.specs.Layout.{baseLen}
 
--- "base header, elems slots of u32, lo, hi, records"
-unfoldable pub loIn : List ℕ → Body → List ℕ
-loIn s b = partOr s (b .at + baseLen + 4 * b .elems) (b .«lo_len»)
-
--- empty where there is none
-unfoldable pub hiIn : List ℕ → Body → List ℕ
-hiIn s b = partOr s (b .at + baseLen + 4 * b .elems + b .«lo_len») (b .«hi_len»)
-
--- "count of equal leading bytes of lo and hi": the first bytes of lo
+-- "base header, elems slots of u32, lo, hi, records"; "count of equal leading bytes of lo and hi": the first bytes of lo
 unfoldable pub prefixIn : List ℕ → Body → List ℕ
 prefixIn s b = partOr s (b .at + baseLen + 4 * b .elems) (b .«prefix_len»)

@@ -4,16 +4,15 @@ use Prim.Native.Nat.{ℕ, _+_, _*_, _≤_}
 use mathlib.Core.Path.{_≡_}
 use mathlib.Core.List.{List}
 use mathlib.Core.Logic.{_⊎_}
-use mathlib.Core.Bool.{Bool, cond}
+use mathlib.Core.Bool.{cond}
 use lib.ListN.{length, take}
 use lib.Dec.{ltb, leb, eqb}
 use Rattle.numbers.specs.Number.{leAt}
-use Rattle.order.specs.declared.Ver.{Ver}
-use Rattle.order.specs.Version.{verOf}
 use Rattle.frames.specs.declared.Addr.{Addr}
 use Rattle.frames.specs.declared.Body.{Body}
 use Rattle.frames.specs.declared.RemoteRead.{RemoteRead}
-use Rattle.frames.specs.Layout.{baseLen, addr, remoteAt}
+use Rattle.frames.specs.Layout.{baseLen, remoteAt, nullAddr}
+use Rattle.frames.specs.Limits.{maxKey}
 use Rattle.values.specs.declared.HistRef.{HistRef}
 use Rattle.values.specs.declared.KeyRead.{KeyRead}
 use Rattle.values.specs.declared.Val.{Val}
@@ -37,13 +36,9 @@ slotAt s b i =
     SlotRead.Bad)
     SlotRead.Bad
 
--- "Version, 12: txid u64, cmd u32"
-unfoldable pub verIn : List ℕ → ℕ → Ver
-verIn s at = verOf (leAt 8 s at) (leAt 4 s (at + 8))
-
 -- the key at a place of the page, "whole key at most 4,096"
 abbrev pub keyWhole : Body → KeyRead → KeyRead
-keyWhole b (KeyRead.Key v r n) = cond (leb (b .«prefix_len» + n) 4096) (KeyRead.Key v r n) KeyRead.Bad
+keyWhole b (KeyRead.Key v r n) = cond (leb (b .«prefix_len» + n) maxKey) (KeyRead.Key v r n) KeyRead.Bad
 keyWhole b KeyRead.Bad = KeyRead.Bad
 
 unfoldable pub keyIn : List ℕ → Body → ℕ → KeyRead
@@ -58,13 +53,13 @@ unfoldable pub keyAtSlot : List ℕ → Body → ℕ → KeyRead
 keyAtSlot s b i = keySlot s b (slotAt s b i)
 
 -- the value at a place of the page: "history (heads only)", "remotes resolve (.. remote size equal)"
-abbrev pub farOf : HistRef → Addr → ℕ → ℕ → RemoteRead → ValRead
-farOf h a n next (RemoteRead.At p) = ValRead.Is h p n a next
-farOf h a n next RemoteRead.Bad = ValRead.Bad
+abbrev pub remoteOf : HistRef → Addr → ℕ → ℕ → RemoteRead → ValRead
+remoteOf h a n next (RemoteRead.At p) = ValRead.Is h p n a next
+remoteOf h a n next RemoteRead.Bad = ValRead.Bad
 
 abbrev pub valOf : List ℕ → Val → ValRead
-valOf s (Val.Inline h p n next) = ValRead.Is h p n (addr 0) next
-valOf s (Val.Remote h a n next) = farOf h a n next (remoteAt s a n)
+valOf s (Val.Inline h p n next) = ValRead.Is h p n nullAddr next
+valOf s (Val.Remote h a n next) = remoteOf h a n next (remoteAt s a n)
 valOf s Val.Bad = ValRead.Bad
 
 unfoldable pub valIn : List ℕ → Body → ℕ → ValRead
@@ -82,7 +77,7 @@ recVal p v ra rn ValRead.Bad = RecRead.Bad
 abbrev pub recKey : List ℕ → Body → ℕ → KeyRead → RecRead
 recKey s b p (KeyRead.Key v ra rn) =
     cond (eqb (b .kind) 1)
-    (cond (leb (ra + rn + 8) (b .end)) (RecRead.Is (recOf p v ra rn noHist (ra + rn) 8 (addr 0) (ra + rn + 8))) RecRead.Bad)
+    (cond (leb (ra + rn + 8) (b .end)) (RecRead.Is (recOf p v ra rn noHist (ra + rn) 8 nullAddr (ra + rn + 8))) RecRead.Bad)
     (recVal p v ra rn (valIn s b (ra + rn)))
 recKey s b p KeyRead.Bad = RecRead.Bad
 

@@ -1,21 +1,21 @@
-// A page's parts: one decoder of a record at a slot, for leaf, index and history pages; its boundaries, key rests and values, lent on.
+// A page's parts: one decoder of a record at a slot, for leaf, index and history pages; its prefix, lent on.
 ghost use mathlib.Core.Path.{_≡_};
 ghost use Prim.Native.Nat.{_+_, _≤_, _<_};
 ghost use mathlib.Core.Bool.{true, false};
 ghost use lib.ListN.{length};
-ghost use Rattle.spans.specs.Span.{part, partOr};
 ghost use Rattle.frames.specs.Layout.{Inside};
-ghost use Rattle.values.specs.Keys.{skipOf};
+ghost use Rattle.values.specs.Keys.{verIn};
 ghost use Rattle.values.specs.Vals.{noHist, valOf, valAt};
 ghost use Rattle.values.specs.declared.FrontRead.{FrontRead};
 ghost use Rattle.values.specs.declared.Val.{Val};
 ghost use Rattle.records.specs.declared.RecRead.{RecRead};
 ghost use Rattle.records.specs.declared.ValRead.{ValRead};
-ghost use Rattle.records.specs.Records.{slotAt, verIn, keyIn, keyAtSlot, valIn, recIn, recAt, Quickly};
-ghost use Rattle.records.specs.Parts.{loIn, hiIn, prefixIn};
+ghost use Rattle.records.specs.Records.{slotAt, keyIn, keyAtSlot, valIn, recIn, recAt, Quickly};
+ghost use Rattle.records.specs.Parts.{prefixIn};
 use frames::Addr;
 use frames::BaseHeader;
 use frames::Body;
+use frames::NULL_ADDR;
 use frames::RemoteRead;
 use order::Ver;
 use values::HistRef;
@@ -97,7 +97,7 @@ fn key_in(s: &[u8], b: Body, at: usize) -> KeyRead
     else {
         return KeyRead::Bad;
     };
-    if 4096 < b.prefix_len + rest_len {
+    if BaseHeader::MAX_KEY < b.prefix_len + rest_len {
         return KeyRead::Bad;
     }
     KeyRead::Key {
@@ -105,13 +105,6 @@ fn key_in(s: &[u8], b: Body, at: usize) -> KeyRead
         rest_at: rest_at,
         rest_len: rest_len,
     }
-}
-
-// The bytes before a key's rest that are its version: an index key has none.
-pub fn skip_of(kind: u8) -> usize
-    ensures { λ r. ⌜ r ≡ skipOf kind ⌝ }
-{
-    if kind == Body::INDEX { 0 } else { 12 }
 }
 
 // The same. A length of one byte is read here, so that this is small enough to stand in its caller's loop.
@@ -125,10 +118,10 @@ fn short_key(s: &[u8], b: Body, at: usize) -> KeyRead
         let n = t[at] as usize;
         if n < 128 {
             if b.kind != Body::HISTORY {
-                let skip = skip_of(b.kind);
+                let skip = values::skip_of(b.kind);
                 if skip <= n {
                     if n <= e - at - 1 {
-                        if b.prefix_len + (n - skip) <= 4096 {
+                        if b.prefix_len + (n - skip) <= BaseHeader::MAX_KEY {
                             return KeyRead::Key {
                                 ver_at: at + 1,
                                 rest_at: at + 1 + skip,
@@ -171,7 +164,7 @@ fn val_in(s: &[u8], b: Body, at: usize) -> ValRead
             hist: hist,
             val_at: p,
             val_len: size,
-            remote: Addr(0),
+            remote: NULL_ADDR,
             next: next,
         },
         Val::Remote {
@@ -219,13 +212,13 @@ fn rec_in(s: &[u8], b: Body, p: usize) -> RecRead
             rest_at: rest_at,
             rest_len: rest_len,
             hist: HistRef {
-                page: Addr(0),
+                page: NULL_ADDR,
                 slot: 0,
                 count: 0,
             },
             val_at: q,
             val_len: 8,
-            remote: Addr(0),
+            remote: NULL_ADDR,
             next: q + 8,
         });
     }
@@ -272,7 +265,7 @@ fn bytes_at(t: &[u8], at: usize, h: HistRef) -> Val
 {
     if spans::room(t.len(), at, 4) {
         let n = numbers::read_u32(t, at) as usize;
-        if 65536 < n {
+        if BaseHeader::MAX_VALUE < n {
             return Val::Bad;
         }
         let p = at + 4;
@@ -292,7 +285,7 @@ fn no_hist() -> HistRef
     ensures { λ r. ⌜ r ≡ noHist ⌝ }
 {
     HistRef {
-        page: Addr(0),
+        page: NULL_ADDR,
         slot: 0,
         count: 0,
     }
@@ -353,7 +346,7 @@ pub fn quick_value(s: &[u8], b: Body, at: usize) -> ValRead
             hist: hist,
             val_at: p,
             val_len: size,
-            remote: Addr(0),
+            remote: NULL_ADDR,
             next: next,
         },
         _ => ValRead::Bad,
@@ -396,7 +389,7 @@ fn head_in(s: &[u8], b: Body, p: usize) -> RecRead
             hist: hist,
             val_at: at,
             val_len: size,
-            remote: Addr(0),
+            remote: NULL_ADDR,
             next: next,
         }),
         _ => RecRead::Bad,
@@ -411,7 +404,7 @@ fn old_in(s: &[u8], b: Body, p: usize) -> RecRead
 {
     let e = b.end;
     if spans::room(e, p, 12) {
-        if b.prefix_len <= 4096 {
+        if b.prefix_len <= BaseHeader::MAX_KEY {
             match old_val(&s[..e], p + 12) {
                 Val::Inline {
                     hist,
@@ -427,7 +420,7 @@ fn old_in(s: &[u8], b: Body, p: usize) -> RecRead
                         hist: hist,
                         val_at: at,
                         val_len: size,
-                        remote: Addr(0),
+                        remote: NULL_ADDR,
                         next: next,
                     });
                 }
@@ -463,40 +456,6 @@ pub fn quick_old(s: &[u8], b: Body, i: usize) -> RecRead
 }
 
 // ---- parts of the lent arena: the empty part where a place is outside it
-
-// A record's key behind the page's prefix.
-pub fn rest_of(s: &[u8], r: Rec) -> &[u8]
-    ensures { λ x. ⌜ now x ≡ partOr (now (s .entry)) (r .«rest_at») (r .«rest_len») ⌝ }
-{
-    spans::part_of(s, r.rest_at, r.rest_len)
-}
-
-// A record's value.
-pub fn value_of(s: &[u8], r: Rec) -> &[u8]
-    ensures { λ x. ⌜ now x ≡ partOr (now (s .entry)) (r .«val_at») (r .«val_len») ⌝ }
-{
-    spans::part_of(s, r.val_at, r.val_len)
-}
-
-// A page's lower boundary.
-pub fn lo_of(s: &[u8], b: Body) -> &[u8]
-    requires { ⌜ Inside (now s) b ⌝ }
-    ensures { λ x. ⌜ now x ≡ loIn (now (s .entry)) b ⌝ }
-{
-    spans::part_of(s, b.at + BaseHeader::HDR_LEN + 4 * b.elems, b.lo_len)
-}
-
-// A page's upper boundary, empty where it has none.
-pub fn hi_of(s: &[u8], b: Body) -> &[u8]
-    requires { ⌜ Inside (now s) b ⌝ }
-    ensures { λ x. ⌜ now x ≡ hiIn (now (s .entry)) b ⌝ }
-{
-    spans::part_of(
-        s,
-        b.at + BaseHeader::HDR_LEN + 4 * b.elems + b.lo_len,
-        b.hi_len,
-    )
-}
 
 // The prefix that a page's keys drop: the first bytes of lo.
 pub fn prefix_of(s: &[u8], b: Body) -> &[u8]

@@ -4,7 +4,7 @@ use Prim.Native.Nat.{ℕ, _+_, _≤_, _<_}
 use mathlib.Core.List.{List}
 use lib.ListN.{length}
 use Rattle.replay_text.specs.declared.Number.{Number}
-use Rattle.replay_text.specs.declared.Run.{Run}
+use Rattle.replay_text.specs.declared.Repeat.{Repeat}
 
 -- a number ends behind its first digit
 abbrev pub Ends : List ℕ → ℕ → Number → Type 0
@@ -16,7 +16,7 @@ pub record Reaches (s : List ℕ) (at r : ℕ) : Type 0 where
   pub from : at ≤ r
   pub inside : at ≤ length s → r ≤ length s
 
-pub record Behind (s : List ℕ) (at : ℕ) (r : Run) : Type 0 where
+pub record Behind (s : List ℕ) (at : ℕ) (r : Repeat) : Type 0 where
   pub from : at ≤ r .next
   pub inside : r .next ≤ length s
 

@@ -118,34 +118,34 @@ fn digit(b: u8) -> u8
 }
 
 // How often a byte stands, and the place behind what says so.
-pub struct Run {
+pub struct Repeat {
     pub count: u64,
     pub next: usize,
 }
 
 // The run N of a byte that *N. follows, else 1.
-fn run_at(s: &[u8], at: usize) -> Run
+fn run_at(s: &[u8], at: usize) -> Repeat
     requires { ⌜ at ≤ length (now s) ⌝ }
     ensures { λ r. ⌜ Behind (now (s .entry)) at r ⌝ }
 {
     if at < s.len() {
         if s[at] == b'*' {
             let Number::Is(n, next) = number_at(s, at + 1) else {
-                return Run { count: 1, next: at };
+                return Repeat { count: 1, next: at };
             };
             if next < s.len() {
-                return Run {
+                return Repeat {
                     count: n,
                     next: next + 1,
                 };
             }
-            return Run {
+            return Repeat {
                 count: n,
                 next: next,
             };
         }
     }
-    Run { count: 1, next: at }
+    Repeat { count: 1, next: at }
 }
 
 // Stores b from at on so often, as far as there is room; the place behind.

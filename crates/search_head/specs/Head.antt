@@ -7,7 +7,8 @@ use Rattle.frames.specs.declared.Addr.{Addr}
 use Rattle.frames.specs.declared.Body.{Body}
 use Rattle.frames.specs.declared.Refusal.{Refusal}
 use Rattle.values.specs.declared.KeyRead.{KeyRead}
-use Rattle.records.specs.Records.{verIn, keyAtSlot}
+use Rattle.values.specs.Keys.{verIn}
+use Rattle.records.specs.Records.{keyAtSlot}
 use Rattle.sst.specs.declared.Halved.{Halved}
 use Rattle.sst.specs.declared.Outcome.{Outcome}
 use Rattle.sst.specs.Search.{leaves, outcomeAt}

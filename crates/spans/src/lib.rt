@@ -1,6 +1,7 @@
 // Stretches of a byte slice: stored, copied, zeroed, and lent on. The lowest crate: every store of the library is one `put`.
 ghost use mathlib.Core.Path.{_≡_};
-ghost use Prim.Native.Nat.{_+_, _≤_};
+ghost use Prim.Native.Nat.{_+_, _-_, _^_, _≤_, _<_};
+ghost use mathlib.Core.Bool.{cond};
 ghost use lib.Dec.{leb};
 ghost use lib.ListN.{length, replicate};
 ghost use Rattle.spans.specs.Span.{part, partOr, put};
@@ -39,6 +40,27 @@ pub fn zeros(dst: &mut [u8], at: usize, n: usize)
         dst[at + j] = 0;
         j += 1;
     }
+}
+
+// The difference, 0 where it would be less.
+pub fn less(a: usize, b: usize) -> usize
+    ensures { λ r. ⌜ r ≡ a - b ⌝ }
+{
+    if b <= a { a - b } else { 0 }
+}
+
+// The next index of a walk, or, back, the one before, not below 0.
+pub fn onward(back: bool, i: usize) -> usize
+    requires { ⌜ i + 1 < 2 ^ 64 ⌝ }
+    ensures { λ r. ⌜ r ≡ cond back (i - 1) (i + 1) ⌝ }
+{
+    if back {
+        if i == 0 {
+            return 0;
+        }
+        return i - 1;
+    }
+    i + 1
 }
 
 // Whether n bytes from at on lie in len: no sum that could wrap.

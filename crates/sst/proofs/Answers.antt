@@ -23,22 +23,22 @@ use Rattle.frames.specs.Layout.{pageId, openAt, Inside}
 use Rattle.frames.proofs.Frames.{open-inside}
 use Rattle.records.specs.declared.Rec.{Rec}
 use Rattle.records.specs.declared.RecRead.{RecRead}
-use Rattle.records.specs.Records.{verIn, recAt}
+use Rattle.values.specs.Keys.{verIn}
+use Rattle.records.specs.Records.{recAt}
 use Rattle.records.proofs.Inside.{val-part}
 use Rattle.pages.specs.Sound.{slotsOk}
 use Rattle.pages.specs.Meaning.{Head, Child, Rows, leaf, index, Page, says, prefixOf, keyOf, headOf, childOf, headsFrom, childrenFrom, meaning}
-use Rattle.pages.specs.Edges.{place}
+use Rattle.pages.specs.Boundaries.{place}
 use Rattle.pages.proofs.Given.{Sound, sound-given, every-slot}
 use Rattle.sst.specs.declared.Cmp.{Cmp}
 use Rattle.sst.specs.declared.Halved.{Halved}
 use Rattle.sst.specs.declared.Want.{Want}
-use Rattle.sst.specs.declared.Ready.{Ready}
 use Rattle.sst.specs.declared.Outcome.{Outcome}
 use Rattle.sst.specs.declared.Bound.{Bound}
 use Rattle.sst.specs.declared.Floor.{Floor}
 use Rattle.sst.specs.declared.Found.{Found}
 use Rattle.sst.specs.Halve.{asked, lowered}
-use Rattle.sst.specs.Search.{rightKind, fitsPrefix, readyAt, halved, outcomeOf, outcomeAt, bound, boundIn, lowerOf, lowerAt, intl, pageIn, floorIn, floorOf, floorAt, leaves, headIn, foundIn, searchOf, searchAt}
+use Rattle.sst.specs.Search.{Searchable, rightKind, fitsPrefix, readyAt, halved, outcomeOf, outcomeAt, bound, boundIn, lowerOf, lowerAt, indexes, pageIn, floorIn, floorOf, floorAt, leaves, headIn, foundIn, searchOf, searchAt}
 use Rattle.sst.specs.Says.{noHead, noChild, rowCount, rowKey, rowNewer, Lacks, FirstNotLess, BoundSays, FloorSays, IsHead, FoundSays, MeetsAt}
 use Rattle.sst.proofs.Halving.{three, Finds}
 use Rattle.sst.proofs.Rising.{Sorted, asked-equal, asked-greater, lowered-less, lowered-greater, lowered-equal, against, sorted-rises, lower-rises}
@@ -57,11 +57,11 @@ module _ (s : List ℕ) (a : Addr) (probe : List ℕ) (w : Want) (b : Body) (o :
     by-outcome = go (eqb (b .elems) 0) refl
       where
         fits : (b .elems ≡ 0 → ⊥) → (t : Bool) → fitsPrefix s b probe ≡ t → P (outcomeOf s probe w (readyAt s a probe w))
-        fits n true f = subst (λ (r : Ready). P (outcomeOf s probe w r)) (sym (open-fits s a probe w b o k n f)) (has n f)
-        fits n false f = subst (λ (r : Ready). P (outcomeOf s probe w r)) (sym (open-other s a probe w b o k n f)) (lacks n f)
+        fits n true f = subst (λ (r : Searchable). P (outcomeOf s probe w r)) (sym (open-fits s a probe w b o k n f)) (has n f)
+        fits n false f = subst (λ (r : Searchable). P (outcomeOf s probe w r)) (sym (open-other s a probe w b o k n f)) (lacks n f)
 
         go : (t : Bool) → eqb (b .elems) 0 ≡ t → P (outcomeOf s probe w (readyAt s a probe w))
-        go true q = let z = eqb-true (b .elems) 0 q in subst (λ (r : Ready). P (outcomeOf s probe w r)) (sym (open-empty s a probe w b o k z)) (none z)
+        go true q = let z = eqb-true (b .elems) 0 q in subst (λ (r : Searchable). P (outcomeOf s probe w r)) (sym (open-empty s a probe w b o k z)) (none z)
         go false q = fits (eqb-false (b .elems) 0 q) (fitsPrefix s b probe) refl
 
 -- ---- what the meaning says of the page
@@ -102,7 +102,7 @@ leaf-right : (k : ℕ) → k ≡ 0 → rightKind k leaves ≡ true
 unfolding rightKind
 leaf-right k e = rw e
 
-index-right : (k : ℕ) → k ≡ 1 → rightKind k intl ≡ true
+index-right : (k : ℕ) → k ≡ 1 → rightKind k indexes ≡ true
 unfolding rightKind
 index-right k e = rw e
 
@@ -208,13 +208,13 @@ module _ (s : List ℕ) (a : Addr) (p : Page) (m : meaning s a ≡ says p) (prob
   pub floor-says : (cs : List Child) → p .rows ≡ index cs → FloorSays p cs probe (floorAt s a probe)
   unfolding floorAt
   floor-says cs e =
-      by-outcome s a probe intl b (g .opened) (index-right (b .kind) (k .0)) (λ (x : Outcome). FloorSays p cs probe (floorOf s x))
+      by-outcome s a probe indexes b (g .opened) (index-right (b .kind) (k .0)) (λ (x : Outcome). FloorSays p cs probe (floorOf s x))
       (λ z. sym (ap rowCount e) ∙ page-count s a p g ∙ z)
       (λ n f. (refl, lacks-said s a p g probe n f))
       (λ n f.
-      subst (λ (c : List Child). FloorSays p c probe (floorIn s b (halved s b probe intl))) (k .1)
-      (floor-end s b (inside s a p g) (g .slots) (g .kind) p probe n (halved s b probe intl)
-      (halved-finds s b (inside s a p g) (g .slots) probe f true (eq-eqb (b .kind) 1 (k .0)) intl
+      subst (λ (c : List Child). FloorSays p c probe (floorIn s b (halved s b probe indexes))) (k .1)
+      (floor-end s b (inside s a p g) (g .slots) (g .kind) p probe n (halved s b probe indexes)
+      (halved-finds s b (inside s a p g) (g .slots) probe f true (eq-eqb (b .kind) 1 (k .0)) indexes
       (sorted-rises (rowKey (rowsBy true s b)) (b .elems) probe (keys-sorted s b (g .slots) (g .kind) true)))))
     where
       g : Sound s a p
@@ -317,7 +317,7 @@ module _ (s : List ℕ) (a : Addr) (p : Page) (m : meaning s a ≡ says p) (prob
   unfolding floorAt
   floor-seven cs e =
       let g = sound-given s a p m in
-      ap (floorOf s) (lack-seven g intl (index-right (g .body .kind) (index-is s a p g cs e .0)))
+      ap (floorOf s) (lack-seven g indexes (index-right (g .body .kind) (index-is s a p g cs e .0)))
 
   pub search-seven : (hs : List Head) → p .rows ≡ leaf hs → searchAt s a probe ≡ Found.Refused Refusal.WrongPrefix
   unfolding searchAt

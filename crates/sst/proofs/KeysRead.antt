@@ -22,7 +22,7 @@ use Rattle.sst.specs.declared.Want.{Want}
 use Rattle.sst.specs.declared.Outcome.{Outcome}
 use Rattle.sst.specs.declared.Bound.{Bound}
 use Rattle.sst.specs.Halve.{mid, halve, steps}
-use Rattle.sst.specs.Search.{halved, outcomeAt, bound, boundIn, lowerOf, lowerAt, intl, pageRec, pageIn, floorIn, floorOf, floorAt, leaves, foundRec, headIn, foundIn, searchOf, searchAt}
+use Rattle.sst.specs.Search.{halved, outcomeAt, bound, boundIn, lowerOf, lowerAt, indexes, pageRec, pageIn, floorIn, floorOf, floorAt, leaves, foundRec, headIn, foundIn, searchOf, searchAt}
 use Rattle.sst.specs.Says.{boundReads, floorReads, foundReads}
 use Rattle.sst.proofs.Turns.{halve-less, halve-equal, halve-greater, halve-refuse, halve-end}
 use Rattle.sst.proofs.Halving.{readsOf, reads-few}
@@ -83,10 +83,10 @@ module _ (s : List ℕ) (a : Addr) (probe : List ℕ) (k : ℕ) (few : (b : Body
 
   pub floor-few : floorReads (floorAt s a probe) ≤ k
   unfolding floorAt
-  floor-few = go (outcomeAt s a probe intl) refl
+  floor-few = go (outcomeAt s a probe indexes) refl
     where
-      go : (o : Outcome) → outcomeAt s a probe intl ≡ o → floorReads (floorOf s o) ≤ k
-      go (Outcome.Halves b x) q = omega (arith, floor-reads s b x, halves-few intl b x q)
+      go : (o : Outcome) → outcomeAt s a probe indexes ≡ o → floorReads (floorOf s o) ≤ k
+      go (Outcome.Halves b x) q = omega (arith, floor-reads s b x, halves-few indexes b x q)
       go Outcome.Empty q = zero-le
       go (Outcome.Refused r) q = zero-le
 

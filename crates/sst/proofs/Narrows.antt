@@ -13,7 +13,7 @@ use Rattle.spans.specs.Span.{part}
 use Rattle.order.specs.declared.Order.{Order}
 use Rattle.order.specs.Order.{cmpBytes}
 use Rattle.order_pair.specs.declared.Pair.{Pair}
-use Rattle.order_pair.specs.Apart.{Decides}
+use Rattle.order_pair.specs.Apart.{StandsAs}
 use Rattle.frames.specs.declared.Body.{Body}
 use Rattle.frames.specs.Layout.{Inside}
 use Rattle.values.specs.declared.KeyRead.{KeyRead}
@@ -120,7 +120,7 @@ pub none-met : (s : List ℕ) (b : Body) (rest : List ℕ) (i : ℕ) → IsMet s
 none-met s b rest i = record { key = λ p e. absurd (no-at p e); same = λ p e. absurd (no-at p e) }
 
 -- the key as it was lent, and what the two numbers say of it
-module _ (s : List ℕ) (b : Body) (rest : List ℕ) (at : ℕ) (d : Pair) (z : Decides (take (at + length rest - at) (drop at s)) rest d) where
+module _ (s : List ℕ) (b : Body) (rest : List ℕ) (at : ℕ) (d : Pair) (z : StandsAs (take (at + length rest - at) (drop at s)) rest d) where
   order-less : d .x < d .y → cmpBytes (part s at (length rest)) rest ≡ Order.Less
   order-less h = sym (lent s rest at (length rest)) ∙ z .differ (λ e. omega arith) ∙ rw (lt-ltb (d .x) (d .y) h)
 
@@ -134,7 +134,7 @@ module _ (s : List ℕ) (b : Body) (rest : List ℕ) (at : ℕ) (d : Pair) (z : 
     pub narrow-greater : (d .x ≡ d .y → ⊥) → d .y ≤ d .x → (w : Want) → Goes (keyCmp s b rest w) (b .elems) lo₀ hi₀ reads₀ lo (mid lo hi) (reads + 1)
     narrow-greater n l w = goes-greater (keyCmp s b rest w) (b .elems) lo₀ hi₀ reads₀ lo hi reads (g w) h (key-greater s b rest w v at (length rest) (mid lo hi) k (order-greater n l))
 
-pub narrow-met : (s : List ℕ) (b : Body) (rest : List ℕ) (i p skip : ℕ) (d : Pair) → skip ≡ skipOf (b .kind) → Decides (take (p + 1 + skip + length rest - (p + 1 + skip)) (drop (p + 1 + skip) s)) rest d
+pub narrow-met : (s : List ℕ) (b : Body) (rest : List ℕ) (i p skip : ℕ) (d : Pair) → skip ≡ skipOf (b .kind) → StandsAs (take (p + 1 + skip + length rest - (p + 1 + skip)) (drop (p + 1 + skip) s)) rest d
     → d .x ≡ d .y → d .whole ≡ true → keyAtSlot s b i ≡ KeyRead.Key (p + 1) (p + 1 + skip) (length rest) → IsMet s b rest i (SlotRead.At p)
 narrow-met s b rest i p skip d e z x t k =
     record {

@@ -25,11 +25,10 @@ use Rattle.records.specs.Records.{slotAt, keySlot, keyAtSlot}
 use Rattle.records.specs.Parts.{prefixIn}
 use Rattle.records.proofs.Inside.{KeyInside, key-inside, prefix-part}
 use Rattle.sst.specs.declared.Want.{Want}
-use Rattle.sst.specs.declared.Ready.{Ready}
 use Rattle.sst.specs.declared.Halved.{Halved}
 use Rattle.sst.specs.declared.Ended.{Ended}
 use Rattle.sst.specs.declared.Outcome.{Outcome}
-use Rattle.sst.specs.Search.{rightKind, fitsPrefix, readyOf, readyAt, halved, outcomeOf, outcomeAt, endOf, endedIn, intl, leaves}
+use Rattle.sst.specs.Search.{Searchable, ready, empty, refused, rightKind, fitsPrefix, readyOf, readyAt, halved, outcomeOf, outcomeAt, endOf, endedIn, indexes, leaves}
 
 -- ---- laws that belong to lower crates
 
@@ -88,15 +87,15 @@ pub fits-none : (s : List ℕ) (b : Body) (probe : List ℕ) → Inside s b → 
 unfolding fitsPrefix
 fits-none s b probe i e = starts-none (prefixIn s b) probe (prefix-length s b i ∙ e)
 
-pub ready-inside : (s : List ℕ) (a : Addr) (probe : List ℕ) (w : Want) (b : Body) → readyAt s a probe w ≡ Ready.Is b → IsReady s a probe w b
+pub ready-inside : (s : List ℕ) (a : Addr) (probe : List ℕ) (w : Want) (b : Body) → readyAt s a probe w ≡ ready b → IsReady s a probe w b
 unfolding readyAt
 ready-inside s a probe w b e = go (openAt s a) refl e
   where
-    go : (o : Opened) → openAt s a ≡ o → readyOf s probe w o ≡ Ready.Is b → IsReady s a probe w b
+    go : (o : Opened) → openAt s a ≡ o → readyOf s probe w o ≡ ready b → IsReady s a probe w b
     go (Opened.Is d) q e′ =
-        let a1 = ask (rightKind (d .kind) w) _ (Ready.Refused Refusal.BadFrame) (Ready.Is b) (λ n. let z : _≡_ {A = ℕ} 0 1 = cc in omega arith) e′ in
-        let a2 = dont (eqb (d .elems) 0) Ready.Empty _ (Ready.Is b) (λ n. let z : _≡_ {A = ℕ} 0 1 = cc in omega arith) (a1 .1) in
-        let a3 = ask (fitsPrefix s d probe) _ (Ready.Refused Refusal.WrongPrefix) (Ready.Is b) (λ n. let z : _≡_ {A = ℕ} 0 1 = cc in omega arith) (a2 .1) in
+        let a1 = ask (rightKind (d .kind) w) _ (refused Refusal.BadFrame) (ready b) (λ n. let z : _≡_ {A = ℕ} 0 1 = cc in omega arith) e′ in
+        let a2 = dont (eqb (d .elems) 0) empty _ (ready b) (λ n. let z : _≡_ {A = ℕ} 0 1 = cc in omega arith) (a1 .1) in
+        let a3 = ask (fitsPrefix s d probe) _ (refused Refusal.WrongPrefix) (ready b) (λ n. let z : _≡_ {A = ℕ} 0 1 = cc in omega arith) (a2 .1) in
         let x : d ≡ b = cc in
         let i = open-inside s a d q .0 in
         rw (← x) (record { opened = q; inside = i; right = a1 .0; some = eqb-false (d .elems) 0 (a2 .0); fits = a3 .0; long = fits-long s d probe i (a3 .0) })
@@ -104,20 +103,20 @@ ready-inside s a probe w b e = go (openAt s a) refl e
 
 -- opening a page for a search, by what its headers and its prefix say
 module _ (s : List ℕ) (a : Addr) (probe : List ℕ) (w : Want) (b : Body) (o : openAt s a ≡ Opened.Is b) where
-  pub open-wrong : rightKind (b .kind) w ≡ false → readyAt s a probe w ≡ Ready.Refused Refusal.BadFrame
+  pub open-wrong : rightKind (b .kind) w ≡ false → readyAt s a probe w ≡ refused Refusal.BadFrame
   unfolding readyAt
   open-wrong k = rw (o, k)
 
   module _ (k : rightKind (b .kind) w ≡ true) where
-    pub open-empty : b .elems ≡ 0 → readyAt s a probe w ≡ Ready.Empty
+    pub open-empty : b .elems ≡ 0 → readyAt s a probe w ≡ empty
     unfolding readyAt
     open-empty e = rw (o, k, eq-eqb _ _ e)
 
-    pub open-fits : (b .elems ≡ 0 → ⊥) → fitsPrefix s b probe ≡ true → readyAt s a probe w ≡ Ready.Is b
+    pub open-fits : (b .elems ≡ 0 → ⊥) → fitsPrefix s b probe ≡ true → readyAt s a probe w ≡ ready b
     unfolding readyAt
     open-fits e f = rw (o, k, ne-eqb _ _ e, f)
 
-    pub open-other : (b .elems ≡ 0 → ⊥) → fitsPrefix s b probe ≡ false → readyAt s a probe w ≡ Ready.Refused Refusal.WrongPrefix
+    pub open-other : (b .elems ≡ 0 → ⊥) → fitsPrefix s b probe ≡ false → readyAt s a probe w ≡ refused Refusal.WrongPrefix
     unfolding readyAt
     open-other e f = rw (o, k, ne-eqb _ _ e, f)
 
@@ -161,7 +160,7 @@ outcome-ended s a probe w b e o h =
     ∙ ap (backOf b) h
   where
     page : Bool → Bool → Bool → Outcome
-    page k m f = outcomeOf s probe w (cond k (cond m Ready.Empty (cond f (Ready.Is b) (Ready.Refused Refusal.WrongPrefix))) (Ready.Refused Refusal.BadFrame))
+    page k m f = outcomeOf s probe w (cond k (cond m empty (cond f (ready b) (refused Refusal.WrongPrefix))) (refused Refusal.BadFrame))
 
     go : (k m f : Bool) → page k m f ≡ backOf b (endOf (page k m f))
     go false m f = refl
@@ -179,18 +178,18 @@ pub outcome-ready : (s : List ℕ) (a : Addr) (probe : List ℕ) (w : Want) (b :
 unfolding outcomeAt
 outcome-ready s a probe w b h e = go (readyAt s a probe w) refl e
   where
-    go : (r : Ready) → readyAt s a probe w ≡ r → outcomeOf s probe w r ≡ Outcome.Halves b h → IsReady s a probe w b × (halved s b probe w ≡ h)
-    go (Ready.Is d) q e′ =
+    go : (r : Searchable) → readyAt s a probe w ≡ r → outcomeOf s probe w r ≡ Outcome.Halves b h → IsReady s a probe w b × (halved s b probe w ≡ h)
+    go (ready d) q e′ =
         let x : d ≡ b = cc in
         let y : halved s d probe w ≡ h = cc in
         rw (← x) (ready-inside s a probe w d q, y)
-    go Ready.Empty q e′ = absurd (let z : _≡_ {A = ℕ} 0 1 = cc in omega arith)
-    go (Ready.Refused r) q e′ = absurd (let z : _≡_ {A = ℕ} 0 1 = cc in omega arith)
+    go empty q e′ = absurd (let z : _≡_ {A = ℕ} 0 1 = cc in omega arith)
+    go (refused r) q e′ = absurd (let z : _≡_ {A = ℕ} 0 1 = cc in omega arith)
 
 -- the kind that floor takes, and the kind that search takes
-pub intl-kind : (k : ℕ) → rightKind k intl ≡ true → k ≡ 1
+pub index-kind : (k : ℕ) → rightKind k indexes ≡ true → k ≡ 1
 unfolding rightKind
-intl-kind k e = eqb-true k 1 e
+index-kind k e = eqb-true k 1 e
 
 pub leaf-kind : (k : ℕ) → rightKind k leaves ≡ true → k ≡ 0
 unfolding rightKind

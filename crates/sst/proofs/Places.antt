@@ -14,10 +14,11 @@ use Rattle.frames.specs.Layout.{openAt}
 use Rattle.values.specs.declared.HistRef.{HistRef}
 use Rattle.records.specs.declared.Rec.{Rec}
 use Rattle.records.specs.declared.RecRead.{RecRead}
-use Rattle.records.specs.Records.{verIn, recAt}
+use Rattle.values.specs.Keys.{verIn}
+use Rattle.records.specs.Records.{recAt}
 use Rattle.records.proofs.Inside.{at-inside}
 use Rattle.pages.specs.declared.Place.{Place}
-use Rattle.pages.specs.Edges.{place}
+use Rattle.pages.specs.Boundaries.{place}
 use Rattle.sst.specs.declared.Halved.{Halved}
 use Rattle.sst.specs.declared.Outcome.{Outcome}
 use Rattle.sst.specs.declared.Found.{Found}

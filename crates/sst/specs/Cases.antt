@@ -11,11 +11,11 @@ use Rattle.order.specs.Order.{cmpBytes, startsWith}
 use Rattle.order.specs.Version.{verOf, newerThan}
 use Rattle.frames.specs.declared.Refusal.{Refusal}
 use Rattle.frames.specs.Layout.{addr, pageId, boxFields, boxOk, boxAt, baseFields, baseOk, pageAt, kindOf, bodyOf, openAt, remoteAt}
-use Rattle.values.specs.Keys.{skipOf, keyAt}
+use Rattle.values.specs.Keys.{verIn, skipOf, keyAt}
 use Rattle.values.specs.Vals.{noHist, refAt, frontAt, valAt}
-use Rattle.records.specs.Records.{slotAt, verIn, keyIn, keyAtSlot, valIn, recIn, recAt}
+use Rattle.records.specs.Records.{slotAt, keyIn, keyAtSlot, valIn, recIn, recAt}
 use Rattle.records.specs.Parts.{prefixIn}
-use Rattle.pages.specs.Edges.{place, partIn}
+use Rattle.pages.specs.Boundaries.{place, partIn}
 use Rattle.sst.specs.declared.Bound.{Bound}
 use Rattle.sst.specs.declared.Floor.{Floor}
 use Rattle.sst.specs.declared.Found.{Found}

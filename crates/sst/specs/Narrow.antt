@@ -9,6 +9,7 @@ use Rattle.spans.specs.Span.{part}
 use Rattle.order.specs.declared.Order.{Order}
 use Rattle.order.specs.Order.{cmpBytes}
 use Rattle.frames.specs.declared.Body.{Body}
+use Rattle.frames.specs.Limits.{maxKey}
 use Rattle.values.specs.declared.KeyRead.{KeyRead}
 use Rattle.values.specs.Keys.{skipOf}
 use Rattle.records.specs.declared.SlotRead.{SlotRead}
@@ -26,7 +27,7 @@ pub record Marks (b : Body) (n mark : ℕ) : Type 0 where
   pub short : mark < 256 → mark < 128
   pub kind : mark < 256 → b .kind ≡ 2 → ⊥
   pub sum : mark < 256 → mark ≡ skipOf (b .kind) + n
-  pub whole : mark < 256 → b .«prefix_len» + n ≤ 4096
+  pub whole : mark < 256 → b .«prefix_len» + n ≤ maxKey
 
 -- a record's start that was found by the mark is that of slot i, whose key has n bytes
 pub record MarkedAt (s : List ℕ) (b : Body) (i mark : ℕ) (r : SlotRead) : Type 0 where

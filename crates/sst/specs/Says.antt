@@ -15,7 +15,7 @@ use Rattle.frames.specs.Layout.{pageId}
 use Rattle.values.specs.declared.HistRef.{HistRef}
 use Rattle.pages.specs.declared.Place.{Place}
 use Rattle.pages.specs.Meaning.{Head, Child, Rows, leaf, index, Page, oldsFrom}
-use Rattle.pages.specs.Edges.{partIn}
+use Rattle.pages.specs.Boundaries.{partIn}
 use Rattle.sst.specs.declared.Bound.{Bound}
 use Rattle.sst.specs.declared.Floor.{Floor}
 use Rattle.sst.specs.declared.Found.{Found}

@@ -17,13 +17,13 @@ use Rattle.frames.specs.declared.Refusal.{Refusal}
 use Rattle.frames.specs.Layout.{pageId, openAt}
 use Rattle.values.specs.declared.KeyRead.{KeyRead}
 use Rattle.records.specs.declared.RecRead.{RecRead}
-use Rattle.records.specs.Records.{verIn, keyAtSlot, recAt}
+use Rattle.values.specs.Keys.{verIn}
+use Rattle.records.specs.Records.{keyAtSlot, recAt}
 use Rattle.records.specs.Parts.{prefixIn}
-use Rattle.pages.specs.Edges.{place}
+use Rattle.pages.specs.Boundaries.{place}
 use Rattle.sst.specs.declared.Cmp.{Cmp}
 use Rattle.sst.specs.declared.Halved.{Halved}
 use Rattle.sst.specs.declared.Want.{Want}
-use Rattle.sst.specs.declared.Ready.{Ready}
 use Rattle.sst.specs.declared.Ended.{Ended}
 use Rattle.sst.specs.declared.Outcome.{Outcome}
 use Rattle.sst.specs.declared.Bound.{Bound}
@@ -57,26 +57,32 @@ rightKind kind w = (w .leaf && eqb kind 0) || (w .index && eqb kind 1)
 unfoldable pub fitsPrefix : List ℕ → Body → List ℕ → Bool
 fitsPrefix s b probe = startsWith (prefixIn s b) probe
 
+-- a page for a search, with a probe that begins with its prefix
+pub data Searchable : Type 0 where
+  ready : Body → Searchable
+  empty : Searchable
+  refused : Refusal → Searchable
+
 -- "another kind is 4"; "A page without keys answers none .. before the probe is judged"; then "a .. probe does not begin with the
 -- page's prefix" is 7
-abbrev pub readyOf : List ℕ → List ℕ → Want → Opened → Ready
+abbrev pub readyOf : List ℕ → List ℕ → Want → Opened → Searchable
 readyOf s probe w (Opened.Is b) =
     cond (rightKind (b .kind) w)
-    (cond (eqb (b .elems) 0) Ready.Empty (cond (fitsPrefix s b probe) (Ready.Is b) (Ready.Refused Refusal.WrongPrefix)))
-    (Ready.Refused Refusal.BadFrame)
-readyOf s probe w Opened.Bad = Ready.Refused Refusal.BadFrame
+    (cond (eqb (b .elems) 0) empty (cond (fitsPrefix s b probe) (ready b) (refused Refusal.WrongPrefix)))
+    (refused Refusal.BadFrame)
+readyOf s probe w Opened.Bad = refused Refusal.BadFrame
 
-unfoldable pub readyAt : List ℕ → Addr → List ℕ → Want → Ready
+unfoldable pub readyAt : List ℕ → Addr → List ℕ → Want → Searchable
 readyAt s a probe w = readyOf s probe w (openAt s a)
 
 -- the halving of a page for a probe
 unfoldable pub halved : List ℕ → Body → List ℕ → Want → Halved
 halved s b probe w = halve (keyCmp s b (drop (b .«prefix_len») probe) w) (b .elems) 0 (b .elems) 0
 
-abbrev pub outcomeOf : List ℕ → List ℕ → Want → Ready → Outcome
-outcomeOf s probe w (Ready.Is b) = Outcome.Halves b (halved s b probe w)
-outcomeOf s probe w Ready.Empty = Outcome.Empty
-outcomeOf s probe w (Ready.Refused r) = Outcome.Refused r
+abbrev pub outcomeOf : List ℕ → List ℕ → Want → Searchable → Outcome
+outcomeOf s probe w (ready b) = Outcome.Halves b (halved s b probe w)
+outcomeOf s probe w empty = Outcome.Empty
+outcomeOf s probe w (refused r) = Outcome.Refused r
 
 unfoldable pub outcomeAt : List ℕ → Addr → List ℕ → Want → Outcome
 outcomeAt s a probe w = outcomeOf s probe w (readyAt s a probe w)
@@ -110,8 +116,8 @@ lowerAt s a probe v = lowerOf (outcomeAt s a probe (bound v))
 
 -- ---- floor: "the greatest key not above, slot 0 below the first"
 
-abbrev pub intl : Want
-intl = record { leaf = false; index = true; lower = false; ver = verOf 0 0 }
+abbrev pub indexes : Want
+indexes = record { leaf = false; index = true; lower = false; ver = verOf 0 0 }
 
 -- the slot before the first greater key, 0 where that is the first
 abbrev pub floorSlot : ℕ → ℕ
@@ -136,7 +142,7 @@ floorOf s Outcome.Empty = Floor.Nothing 0
 floorOf s (Outcome.Refused r) = Floor.Refused r
 
 unfoldable pub floorAt : List ℕ → Addr → List ℕ → Floor
-floorAt s a probe = floorOf s (outcomeAt s a probe intl)
+floorAt s a probe = floorOf s (outcomeAt s a probe indexes)
 
 -- ---- search: "stops at an equal key"; "judges a history reference's form .. and does not follow it"
 

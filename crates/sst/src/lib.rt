@@ -45,13 +45,6 @@ pub struct Want {
     pub ver: Ver,
 }
 
-// A page for a search, and a probe that begins with its prefix: for the definitions.
-pub enum Ready {
-    Is(Body),
-    Empty,
-    Refused(Refusal),
-}
-
 // Where the search of an opened page ends.
 pub enum Ended {
     Halves(Halved),
@@ -132,10 +125,10 @@ fn mark_of(b: Body, n: usize) -> usize
     if b.kind == Body::HISTORY {
         return 256;
     }
-    if 4096 < b.prefix_len + n {
+    if BaseHeader::MAX_KEY < b.prefix_len + n {
         return 256;
     }
-    let m = records::skip_of(b.kind) + n;
+    let m = values::skip_of(b.kind) + n;
     if 127 < m {
         return 256;
     }
@@ -170,7 +163,7 @@ fn narrow(s: &[u8], b: Body, rest: &[u8], mark: usize, from: Stand) -> Stand
     ensures { λ r. ⌜ Narrowed (now (s .entry)) b (now (rest .entry)) from r ⌝ }
 {
     let n = rest.len();
-    let skip = records::skip_of(b.kind);
+    let skip = values::skip_of(b.kind);
     let mut lo = from.lo;
     let mut hi = from.hi;
     let mut reads = from.reads;

@@ -11,14 +11,11 @@ use Rattle.spans.specs.Only.{Decides, decides}
 use Rattle.spans.proofs.Put.{stored-decided}
 use Rattle.frames.specs.declared.Addr.{Addr}
 use Rattle.order.specs.declared.Ver.{Ver}
-use Rattle.values.specs.declared.VerRead.{VerRead}
 use Rattle.values.specs.declared.KeyRead.{KeyRead}
 use Rattle.values.specs.declared.HistRef.{HistRef}
 use Rattle.values.specs.declared.Val.{Val}
-use Rattle.values.specs.Keys.{verAt, keyAt}
+use Rattle.values.specs.Keys.{keyAt}
 use Rattle.values.specs.Vals.{sizeOf, valAt}
-use Rattle.values.proofs.read_ver as read-ver-fn
-use Rattle.values.proofs.read_ver.Reads as read-ver
 use Rattle.values.proofs.key_at as key-at-fn
 use Rattle.values.proofs.key_at.Reads as key-at
 use Rattle.values.proofs.Val.decode_from as decode-fn
@@ -43,9 +40,6 @@ use Rattle.values.proofs.Val.encode_remote.Reads as remote
 -- ---- readers and sizes
 
 module _ (κs : Lfts 1) (s : RefT (List ℕ)) (at : ℕ) where
-  pub read-ver-decided : (e : AtExit read-ver-fn.ended κs) → Decides (λ (r : VerRead). read-ver.Post κs (s, (at, tt)) r e) (λ (r : VerRead). r)
-  read-ver-decided e = decides (λ (r : VerRead). r) (verAt (now s) at)
-
   pub key-at-decided : (kind : ℕ) (e : AtExit key-at-fn.ended κs) → Decides (λ (r : KeyRead). key-at.Post κs (s, (at, (kind, tt))) r e) (λ (r : KeyRead). r)
   key-at-decided kind e = decides (λ (r : KeyRead). r) (keyAt (now s) at kind)
 
@@ -65,8 +59,8 @@ module _ (buf : RefT (List ℕ)) (at r r′ : ℕ) where
     pub leaf-front-decided : (v : Ver) (n : ℕ) (e e′ : AtExit leaf-front-fn.ended κs) → leaf-front.Post κs (buf, (at, (v, (n, tt)))) r e → leaf-front.Post κs (buf, (at, (v, (n, tt)))) r′ e′ → (r ≡ r′) × (now (e .0) ≡ now (e′ .0))
     leaf-front-decided v n e e′ h k = stored-decided r r′ (now (e .0)) (now (e′ .0)) h k
 
-    pub front-decided : (g : HistRef) (far : Bool) (n : ℕ) (e e′ : AtExit front-fn.ended κs) → front.Post κs (buf, (at, (g, (far, (n, tt))))) r e → front.Post κs (buf, (at, (g, (far, (n, tt))))) r′ e′ → (r ≡ r′) × (now (e .0) ≡ now (e′ .0))
-    front-decided g far n e e′ h k = stored-decided r r′ (now (e .0)) (now (e′ .0)) h k
+    pub front-decided : (g : HistRef) (isRemote : Bool) (n : ℕ) (e e′ : AtExit front-fn.ended κs) → front.Post κs (buf, (at, (g, (isRemote, (n, tt))))) r e → front.Post κs (buf, (at, (g, (isRemote, (n, tt))))) r′ e′ → (r ≡ r′) × (now (e .0) ≡ now (e′ .0))
+    front-decided g isRemote n e e′ h k = stored-decided r r′ (now (e .0)) (now (e′ .0)) h k
 
     pub remote-decided : (g : HistRef) (n : ℕ) (a : Addr) (e e′ : AtExit remote-fn.ended κs) → remote.Post κs (buf, (at, (g, (n, (a, tt))))) r e → remote.Post κs (buf, (at, (g, (n, (a, tt))))) r′ e′ → (r ≡ r′) × (now (e .0) ≡ now (e′ .0))
     remote-decided g n a e e′ h k = stored-decided r r′ (now (e .0)) (now (e′ .0)) h k

@@ -19,9 +19,9 @@ use Rattle.lengths.specs.Leb128.{uleb, readLen}
 use Rattle.lengths.proofs.Laws.{read-lies, lies-read, uleb-some}
 use Rattle.order.specs.declared.Ver.{Ver}
 use Rattle.order.specs.Version.{verOf}
-use Rattle.values.specs.declared.VerRead.{VerRead}
+use Rattle.frames.specs.Limits.{maxKey}
 use Rattle.values.specs.declared.KeyRead.{KeyRead}
-use Rattle.values.specs.Keys.{verBytes, verAt, leafFront, leafKey, indexKey, skipOf, keyOf, keyAt}
+use Rattle.values.specs.Keys.{verBytes, verIn, leafFront, leafKey, indexKey, skipOf, keyOf, keyAt}
 use Rattle.values.proofs.Laws.{length-ver, length-leafFront}
 
 -- a version's numbers fit their fields
@@ -32,32 +32,23 @@ pub record SmallVer (v : Ver) : Type 0 where
 -- ---- versions
 
 module _ (s : List ℕ) (at : ℕ) (v : Ver) where
-  pub ver-back : SmallVer v → Lies s at (verBytes v) → verAt s at ≡ VerRead.Is v
-  unfolding verBytes verAt
+  pub ver-back : SmallVer v → Lies s at (verBytes v) → verIn s at ≡ v
+  unfolding verBytes verIn
   ver-back w h =
       let a = lies-front s at (le 8 (v .txid)) (le 4 (v .cmd)) h in
       let e8 : at + length (le 8 (v .txid)) ≡ at + 8 = ap (λ (k : ℕ). at + k) (length-le 8 (v .txid)) in
       let b = subst (λ (k : ℕ). Lies s k (le 4 (v .cmd))) e8 (lies-back s at (le 8 (v .txid)) (le 4 (v .cmd)) h) in
-      let room : at + 12 ≤ length s = omega (arith, lies-in s at (verBytes v) (omega (arith, length-ver v)) h, length-ver v) in
-      simp (le-leb (at + 12) (length s) room, lies-le s at 8 (v .txid) (w .txid) a, lies-le s (at + 8) 4 (v .cmd) (w .cmd) b)
+      ap₂ verOf (lies-le s at 8 (v .txid) (w .txid) a) (lies-le s (at + 8) 4 (v .cmd) (w .cmd) b)
 
-  never : VerRead.Bad ≡ VerRead.Is v → ⊥
-  never e = let z : _≡_ {A = ℕ} 0 1 = cc in omega arith
-
-  pub ver-read : Bytes s → verAt s at ≡ VerRead.Is v → Lies s at (verBytes v)
-  unfolding verAt verBytes
-  ver-read hb e =
-      let q = ask (leb (at + 12) (length s)) (VerRead.Is (verOf (leAt 8 s at) (leAt 4 s (at + 8)))) VerRead.Bad (VerRead.Is v) never e in
-      let room : at + 12 ≤ length s = leb-true (at + 12) (length s) (q .0) in
-      let t : leAt 8 s at ≡ v .txid = ap (λ (r : Ver). r .txid) (is (verOf (leAt 8 s at) (leAt 4 s (at + 8))) (q .1)) in
-      let d : leAt 4 s (at + 8) ≡ v .cmd = ap (λ (r : Ver). r .cmd) (is (verOf (leAt 8 s at) (leAt 4 s (at + 8))) (q .1)) in
+  pub ver-read : Bytes s → at + 12 ≤ length s → verIn s at ≡ v → Lies s at (verBytes v)
+  unfolding verIn verBytes
+  ver-read hb room e =
+      let t : leAt 8 s at ≡ v .txid = ap (λ (r : Ver). r .txid) e in
+      let d : leAt 4 s (at + 8) ≡ v .cmd = ap (λ (r : Ver). r .cmd) e in
       let e8 : at + 8 ≡ at + length (le 8 (v .txid)) = ap (λ (k : ℕ). at + k) (sym (length-le 8 (v .txid))) in
       lies-append s at (le 8 (v .txid)) (le 4 (v .cmd))
       (subst (λ (n : ℕ). Lies s at (le 8 n)) t (le-lies s at 8 (omega arith) hb))
       (subst (λ (k : ℕ). Lies s k (le 4 (v .cmd))) e8 (subst (λ (n : ℕ). Lies s (at + 8) (le 4 n)) d (le-lies s (at + 8) 4 (omega arith) hb)))
-    where
-      is : (u : Ver) → VerRead.Is u ≡ VerRead.Is v → u ≡ v
-      is u e = cc
 
 -- ---- keys: a length n that counts `skip` bytes and a rest
 
@@ -69,7 +60,7 @@ module _ (s : List ℕ) (at kind : ℕ) (leaf : eqb kind 2 ≡ false) where
       simp (leaf, e, le-leb (skipOf kind) n h, le-leb (next + n) (length s) r)
 
 -- what was written reads back: the places of version and rest
-module _ (s : List ℕ) (at : ℕ) (v : Ver) (rest : List ℕ) (small : length rest ≤ 4096) (w : SmallVer v) (h : Lies s at (leafKey v rest)) where
+module _ (s : List ℕ) (at : ℕ) (v : Ver) (rest : List ℕ) (small : length rest ≤ maxKey) (w : SmallVer v) (h : Lies s at (leafKey v rest)) where
   abbrev n : ℕ
   n = length (uleb (12 + length rest))
 
@@ -90,7 +81,7 @@ module _ (s : List ℕ) (at : ℕ) (v : Ver) (rest : List ℕ) (small : length r
       let e : at + length (leafFront v (length rest)) ≡ at + n + 12 = omega (arith, length-leafFront v (length rest)) in
       subst (λ (k : ℕ). Lies s k rest) e (lies-back s at (leafFront v (length rest)) rest h)
 
-  pub leaf-version : verAt s (at + n) ≡ VerRead.Is v
+  pub leaf-version : verIn s (at + n) ≡ v
   unfolding leafFront
   leaf-version = ver-back s (at + n) v w (lies-back s at (uleb (12 + length rest)) (verBytes v) front)
 
@@ -107,7 +98,7 @@ module _ (s : List ℕ) (at : ℕ) (v : Ver) (rest : List ℕ) (small : length r
       key-is s at 0 refl (12 + length rest) (at + n) (read-lies s at (12 + length rest) (omega arith) lead) (omega arith) room
       ∙ ap (λ (k : ℕ). KeyRead.Key (at + n) (at + n + 12) k) e
 
-module _ (s : List ℕ) (at : ℕ) (rest : List ℕ) (small : length rest ≤ 4096) (h : Lies s at (indexKey rest)) where
+module _ (s : List ℕ) (at : ℕ) (rest : List ℕ) (small : length rest ≤ maxKey) (h : Lies s at (indexKey rest)) where
   abbrev m : ℕ
   m = length (uleb (length rest))
 

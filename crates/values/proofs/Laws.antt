@@ -13,7 +13,7 @@ use Rattle.numbers.proofs.Numbers.{length-le}
 use Rattle.lengths.specs.Leb128.{uleb}
 use Rattle.order.specs.declared.Ver.{Ver}
 use Rattle.values.specs.declared.HistRef.{HistRef}
-use Rattle.values.specs.Keys.{verBytes, leafFront, leafKey, indexKey}
+use Rattle.values.specs.Keys.{verBytes, leafFront, leafKey, indexKey, leafKeySize, indexKeySize}
 use Rattle.values.specs.Vals.{flagOf, histBytes, frontBytes, frontSize, inlineBytes, remoteBytes, histSize, sizeOf}
 
 pub length-ver : (v : Ver) → length (verBytes v) ≡ 12
@@ -32,6 +32,15 @@ pub length-indexKey : (rest : List ℕ) → length (indexKey rest) ≡ length (u
 unfolding indexKey
 length-indexKey rest = length-append (uleb (length rest)) rest
 
+-- the sizes of keys
+pub leafKey-size : (v : Ver) (rest : List ℕ) → length (leafKey v rest) ≡ leafKeySize (length rest)
+unfolding leafKeySize
+leafKey-size v rest = omega (arith, length-leafKey v rest)
+
+pub indexKey-size : (rest : List ℕ) → length (indexKey rest) ≡ indexKeySize (length rest)
+unfolding indexKeySize
+indexKey-size rest = length-indexKey rest
+
 -- a history reference takes 14 bytes where there is one
 pub length-hist : (h : HistRef) → length (histBytes h) ≡ cond (eqb (h .count) 0) 0 14
 unfolding histBytes
@@ -41,11 +50,11 @@ length-hist h = go (eqb (h .count) 0)
     go true = refl
     go false = simp (length-append, length-le) refl
 
-pub length-front : (h : HistRef) (far : Bool) (n : ℕ) → length (frontBytes h far n) ≡ frontSize (h .count)
+pub length-front : (h : HistRef) (remote : Bool) (n : ℕ) → length (frontBytes h remote n) ≡ frontSize (h .count)
 unfolding frontBytes frontSize
-length-front h far n =
-    length-append (le 1 (flagOf (h .count) far)) (histBytes h ++ le 4 n)
-    ∙ ap₂ (λ (x y : ℕ). x + y) (length-le 1 (flagOf (h .count) far))
+length-front h remote n =
+    length-append (le 1 (flagOf (h .count) remote)) (histBytes h ++ le 4 n)
+    ∙ ap₂ (λ (x y : ℕ). x + y) (length-le 1 (flagOf (h .count) remote))
     (length-append (histBytes h) (le 4 n) ∙ ap₂ (λ (x y : ℕ). x + y) (length-hist h) (length-le 4 n))
     ∙ go (eqb (h .count) 0)
   where

@@ -15,6 +15,7 @@ use Rattle.spans.proofs.Lying.{lies-front, lies-back, lies-in, lies-head, lies-
 use Rattle.numbers.specs.Number.{le, leAt, Bytes}
 use Rattle.numbers.proofs.Numbers.{length-le, lies-le, le-lies, leAt-one}
 use Rattle.frames.specs.declared.Addr.{Addr}
+use Rattle.frames.specs.Limits.{maxValue}
 use Rattle.values.specs.declared.HistRef.{HistRef}
 use Rattle.values.specs.declared.FrontRead.{FrontRead}
 use Rattle.values.specs.declared.Val.{Val}
@@ -38,46 +39,46 @@ Allowed h head = eqb (h .count) 0 ≡ false → head ≡ true
 -- ---- the reader's cases
 
 module _ (s : List ℕ) (at : ℕ) (head : Bool) (in-s : at < length s) where
-  pub front-plain : (far : Bool) → getD s at 0 ≡ cond far 2 0 → frontAt s at head ≡ FrontRead.Front noHist far (at + 1)
+  pub front-plain : (remote : Bool) → getD s at 0 ≡ cond remote 2 0 → frontAt s at head ≡ FrontRead.Front noHist remote (at + 1)
   unfolding frontAt
   front-plain true e = rw (lt-ltb at (length s) in-s, e) refl
   front-plain false e = rw (lt-ltb at (length s) in-s, e) refl
 
-  pub front-hist : (far : Bool) → head ≡ true → getD s at 0 ≡ cond far 3 1 → frontAt s at head ≡ refAt s (at + 1) far
+  pub front-hist : (remote : Bool) → head ≡ true → getD s at 0 ≡ cond remote 3 1 → frontAt s at head ≡ refAt s (at + 1) remote
   unfolding frontAt
   front-hist true q e = rw (lt-ltb at (length s) in-s, e, q) refl
   front-hist false q e = rw (lt-ltb at (length s) in-s, e, q) refl
 
-module _ (s : List ℕ) (h : HistRef) (next n : ℕ) (r4 : next + 4 ≤ length s) (size : leAt 4 s next ≡ n) (small : n ≤ 65536) where
+module _ (s : List ℕ) (h : HistRef) (next n : ℕ) (r4 : next + 4 ≤ length s) (size : leAt 4 s next ≡ n) (small : n ≤ maxValue) where
   pub val-inline : next + 4 + n ≤ length s → valOf s (FrontRead.Front h false next) ≡ Val.Inline h (next + 4) n (next + 4 + n)
-  val-inline r = simp (le-leb (next + 4) (length s) r4, size, le-leb n 65536 small, le-leb (next + 4 + n) (length s) r)
+  val-inline r = simp (le-leb (next + 4) (length s) r4, size, le-leb n maxValue small, le-leb (next + 4 + n) (length s) r)
 
   pub val-remote : (a : ℕ) → next + 12 ≤ length s → leAt 8 s (next + 4) ≡ a → valOf s (FrontRead.Front h true next) ≡ Val.Remote h (addrOf a) n (next + 12)
-  val-remote a r e = simp (le-leb (next + 4) (length s) r4, size, le-leb n 65536 small, le-leb (next + 12) (length s) r, e)
+  val-remote a r e = simp (le-leb (next + 4) (length s) r4, size, le-leb n maxValue small, le-leb (next + 12) (length s) r, e)
 
 -- ---- written, then read
 
-flag-none : (c : ℕ) (far : Bool) → eqb c 0 ≡ true → flagOf c far % 256 ≡ cond far 2 0
+flag-none : (c : ℕ) (remote : Bool) → eqb c 0 ≡ true → flagOf c remote % 256 ≡ cond remote 2 0
 unfolding flagOf
 flag-none c true e = rw e refl
 flag-none c false e = rw e refl
 
-flag-some : (c : ℕ) (far : Bool) → eqb c 0 ≡ false → flagOf c far % 256 ≡ cond far 3 1
+flag-some : (c : ℕ) (remote : Bool) → eqb c 0 ≡ false → flagOf c remote % 256 ≡ cond remote 3 1
 unfolding flagOf
 flag-some c true e = rw e refl
 flag-some c false e = rw e refl
 
-module _ (s : List ℕ) (at : ℕ) (h : HistRef) (far : Bool) (n : ℕ) (lies : Lies s at (frontBytes h far n)) where
-  flag-byte : getD s at 0 ≡ flagOf (h .count) far % 256
+module _ (s : List ℕ) (at : ℕ) (h : HistRef) (remote : Bool) (n : ℕ) (lies : Lies s at (frontBytes h remote n)) where
+  flag-byte : getD s at 0 ≡ flagOf (h .count) remote % 256
   unfolding frontBytes le
-  flag-byte = lies-head s at (flagOf (h .count) far % 256) [] (lies-front s at (le 1 (flagOf (h .count) far)) (histBytes h ++ le 4 n) lies)
+  flag-byte = lies-head s at (flagOf (h .count) remote % 256) [] (lies-front s at (le 1 (flagOf (h .count) remote)) (histBytes h ++ le 4 n) lies)
 
   rest : Lies s (at + 1) (histBytes h ++ le 4 n)
   unfolding frontBytes le
-  rest = lies-back s at (le 1 (flagOf (h .count) far)) (histBytes h ++ le 4 n) lies
+  rest = lies-back s at (le 1 (flagOf (h .count) remote)) (histBytes h ++ le 4 n) lies
 
   inside : at + frontSize (h .count) ≤ length s
-  inside = omega (arith, length-front h far n, lies-in s at (frontBytes h far n) (omega (arith, length-front h far n, front-some (h .count))) lies)
+  inside = omega (arith, length-front h remote n, lies-in s at (frontBytes h remote n) (omega (arith, length-front h remote n, front-some (h .count))) lies)
 
   -- where the size stands
   abbrev next : ℕ
@@ -89,7 +90,7 @@ module _ (s : List ℕ) (at : ℕ) (h : HistRef) (far : Bool) (n : ℕ) (lies : 
   pub size-is : n < 256 ^ 4 → leAt 4 s next ≡ n
   size-is l = lies-le s next 4 n l (lies-back s (at + 1) (histBytes h) (le 4 n) rest)
 
-  reference : eqb (h .count) 0 ≡ false → SmallHist h → refAt s (at + 1) far ≡ FrontRead.Front h far (at + 1 + 14)
+  reference : eqb (h .count) 0 ≡ false → SmallHist h → refAt s (at + 1) remote ≡ FrontRead.Front h remote (at + 1 + 14)
   unfolding refAt
   reference e w =
       let p = le 8 (h .page .0) in
@@ -108,25 +109,25 @@ module _ (s : List ℕ) (at : ℕ) (h : HistRef) (far : Bool) (n : ℕ) (lies : 
       rw (le-leb (at + 1 + 14) (length s) room, counts, e, pages, slots) refl
 
   -- what the flag and the history read back as
-  pub front-back : (head : Bool) → Allowed h head → SmallHist h → frontAt s at head ≡ FrontRead.Front (canon h) far next
+  pub front-back : (head : Bool) → Allowed h head → SmallHist h → frontAt s at head ≡ FrontRead.Front (canon h) remote next
   front-back head ok w = go (eqb (h .count) 0) refl
     where
       in-s : at < length s
       in-s = omega (arith, inside, front-some (h .count))
 
-      go : (b : Bool) → eqb (h .count) 0 ≡ b → frontAt s at head ≡ FrontRead.Front (canon h) far next
+      go : (b : Bool) → eqb (h .count) 0 ≡ b → frontAt s at head ≡ FrontRead.Front (canon h) remote next
       go true e =
-          front-plain s at head in-s far (flag-byte ∙ flag-none (h .count) far e)
-          ∙ ap₂ (λ (x : HistRef) (k : ℕ). FrontRead.Front x far k) (sym (ap (λ (b : Bool). cond b noHist h) e))
+          front-plain s at head in-s remote (flag-byte ∙ flag-none (h .count) remote e)
+          ∙ ap₂ (λ (x : HistRef) (k : ℕ). FrontRead.Front x remote k) (sym (ap (λ (b : Bool). cond b noHist h) e))
           (omega (arith, length-hist h ∙ ap (λ (b : Bool). cond b 0 14) e))
       go false e =
-          front-hist s at head in-s far (ok e) (flag-byte ∙ flag-some (h .count) far e)
+          front-hist s at head in-s remote (ok e) (flag-byte ∙ flag-some (h .count) remote e)
           ∙ reference e w
-          ∙ ap₂ (λ (x : HistRef) (k : ℕ). FrontRead.Front x far k) (sym (ap (λ (b : Bool). cond b noHist h) e))
+          ∙ ap₂ (λ (x : HistRef) (k : ℕ). FrontRead.Front x remote k) (sym (ap (λ (b : Bool). cond b noHist h) e))
           (omega (arith, length-hist h ∙ ap (λ (b : Bool). cond b 0 14) e))
 
 -- an inline value: its bytes stand behind the front
-module _ (s : List ℕ) (at : ℕ) (h : HistRef) (v : List ℕ) (head : Bool) (ok : Allowed h head) (w : SmallHist h) (small : length v ≤ 65536) (lies : Lies s at (inlineBytes h v)) where
+module _ (s : List ℕ) (at : ℕ) (h : HistRef) (v : List ℕ) (head : Bool) (ok : Allowed h head) (w : SmallHist h) (small : length v ≤ maxValue) (lies : Lies s at (inlineBytes h v)) where
   lead : Lies s at (frontBytes h false (length v))
   unfolding inlineBytes
   lead = lies-front s at (frontBytes h false (length v)) v lies
@@ -147,7 +148,7 @@ module _ (s : List ℕ) (at : ℕ) (h : HistRef) (v : List ℕ) (head : Bool) (o
       ∙ ap (λ (j : ℕ). Val.Inline (canon h) j (length v) (j + length v)) k
 
 -- a remote value: its address stands there
-module _ (s : List ℕ) (at : ℕ) (h : HistRef) (n a : ℕ) (head : Bool) (ok : Allowed h head) (w : SmallHist h) (small : n ≤ 65536) (far : a < 256 ^ 8) (lies : Lies s at (remoteBytes h n a)) where
+module _ (s : List ℕ) (at : ℕ) (h : HistRef) (n a : ℕ) (head : Bool) (ok : Allowed h head) (w : SmallHist h) (small : n ≤ maxValue) (remote : a < 256 ^ 8) (lies : Lies s at (remoteBytes h n a)) where
   lead′ : Lies s at (frontBytes h true n)
   unfolding remoteBytes
   lead′ = lies-front s at (frontBytes h true n) (le 8 a) lies
@@ -162,13 +163,13 @@ module _ (s : List ℕ) (at : ℕ) (h : HistRef) (n a : ℕ) (head : Bool) (ok :
       let e : at + length (frontBytes h true n) ≡ at + 1 + length (histBytes h) + 4 = omega (arith, k, length-front h true n) in
       ap (valOf s) (front-back s at h true n lead′ head ok w)
       ∙ val-remote s (canon h) _ n (omega (arith, k, whole′)) (size-is s at h true n lead′ (omega arith)) small a (omega (arith, k, whole′))
-      (lies-le s _ 8 a far (subst (λ (j : ℕ). Lies s j (le 8 a)) e (lies-back s at (frontBytes h true n) (le 8 a) lies)))
+      (lies-le s _ 8 a remote (subst (λ (j : ℕ). Lies s j (le 8 a)) e (lies-back s at (frontBytes h true n) (le 8 a) lies)))
       ∙ ap (λ (j : ℕ). Val.Remote (canon h) (addrOf a) n j) (omega (arith, k))
 
 -- ---- read, then written
 
-pub record FrontSays (s : List ℕ) (at : ℕ) (head : Bool) (h : HistRef) (far : Bool) (next : ℕ) : Type 0 where
-  pub flag : Lies s at (le 1 (flagOf (h .count) far))
+pub record FrontSays (s : List ℕ) (at : ℕ) (head : Bool) (h : HistRef) (remote : Bool) (next : ℕ) : Type 0 where
+  pub flag : Lies s at (le 1 (flagOf (h .count) remote))
   pub hist : Lies s (at + 1) (histBytes h)
   pub behind : next ≡ at + 1 + length (histBytes h)
   pub ends : next ≤ length s
@@ -191,23 +192,23 @@ flag-refers c (suc (suc zero)) n m t = absurd (let y : _≡_ {A = ℕ} 0 1 = cc 
 flag-refers c (suc (suc (suc zero))) n m t = rw n refl
 flag-refers c (suc (suc (suc (suc x)))) n m t = absurd (omega arith)
 
-module _ (s : List ℕ) (at : ℕ) (head : Bool) (h : HistRef) (far : Bool) (next : ℕ) (hb : Bytes s) where
-  no-front : FrontRead.Bad ≡ FrontRead.Front h far next → ⊥
+module _ (s : List ℕ) (at : ℕ) (head : Bool) (h : HistRef) (remote : Bool) (next : ℕ) (hb : Bytes s) where
+  no-front : FrontRead.Bad ≡ FrontRead.Front h remote next → ⊥
   no-front e = let z : _≡_ {A = ℕ} 0 1 = cc in omega arith
 
-  fields : (h′ : HistRef) (far′ : Bool) (next′ : ℕ) → FrontRead.Front h′ far′ next′ ≡ FrontRead.Front h far next → (h′ ≡ h) × (far′ ≡ far) × (next′ ≡ next)
-  fields h′ far′ next′ e = (cc, cc, cc)
+  fields : (h′ : HistRef) (remote′ : Bool) (next′ : ℕ) → FrontRead.Front h′ remote′ next′ ≡ FrontRead.Front h remote next → (h′ ≡ h) × (remote′ ≡ remote) × (next′ ≡ next)
+  fields h′ remote′ next′ e = (cc, cc, cc)
 
-  flag-lies : at < length s → flagOf (h .count) far ≡ getD s at 0 → Lies s at (le 1 (flagOf (h .count) far))
+  flag-lies : at < length s → flagOf (h .count) remote ≡ getD s at 0 → Lies s at (le 1 (flagOf (h .count) remote))
   flag-lies l e = subst (λ (k : ℕ). Lies s at (le 1 k)) (leAt-one s at l ∙ sym e) (le-lies s at 1 (omega arith) hb)
 
-  ref-read : refAt s (at + 1) far ≡ FrontRead.Front h far next → (eqb (h .count) 0 ≡ false) × Lies s (at + 1) (histBytes h) × (next ≡ at + 1 + length (histBytes h)) × (next ≤ length s)
+  ref-read : refAt s (at + 1) remote ≡ FrontRead.Front h remote next → (eqb (h .count) 0 ≡ false) × Lies s (at + 1) (histBytes h) × (next ≡ at + 1 + length (histBytes h)) × (next ≤ length s)
   unfolding refAt
   ref-read e =
       let r = histOf (leAt 8 s (at + 1)) (leAt 2 s (at + 1 + 8)) (leAt 4 s (at + 1 + 10)) in
-      let a = ask (leb (at + 1 + 14) (length s)) (cond (eqb (leAt 4 s (at + 1 + 10)) 0) FrontRead.Bad (FrontRead.Front r far (at + 1 + 14))) FrontRead.Bad (FrontRead.Front h far next) no-front e in
-      let b = dont (eqb (leAt 4 s (at + 1 + 10)) 0) FrontRead.Bad (FrontRead.Front r far (at + 1 + 14)) (FrontRead.Front h far next) no-front (a .1) in
-      let f = fields r far (at + 1 + 14) (b .1) in
+      let a = ask (leb (at + 1 + 14) (length s)) (cond (eqb (leAt 4 s (at + 1 + 10)) 0) FrontRead.Bad (FrontRead.Front r remote (at + 1 + 14))) FrontRead.Bad (FrontRead.Front h remote next) no-front e in
+      let b = dont (eqb (leAt 4 s (at + 1 + 10)) 0) FrontRead.Bad (FrontRead.Front r remote (at + 1 + 14)) (FrontRead.Front h remote next) no-front (a .1) in
+      let f = fields r remote (at + 1 + 14) (b .1) in
       let room : at + 1 + 14 ≤ length s = leb-true (at + 1 + 14) (length s) (a .0) in
       let some : eqb (h .count) 0 ≡ false = sym (ap (λ (x : HistRef). eqb (x .count) 0) (f .0)) ∙ b .0 in
       let p = le 8 (r .page .0) in
@@ -229,7 +230,7 @@ module _ (s : List ℕ) (at : ℕ) (head : Bool) (h : HistRef) (far : Bool) (nex
   nothing = refl
 
   plain : at < length s → getD s at 0 ≤ 3 → (eqb (getD s at 0) 0 || eqb (getD s at 0) 2) ≡ true
-      → FrontRead.Front noHist (eqb (getD s at 0) 2) (at + 1) ≡ FrontRead.Front h far next → FrontSays s at head h far next
+      → FrontRead.Front noHist (eqb (getD s at 0) 2) (at + 1) ≡ FrontRead.Front h remote next → FrontSays s at head h remote next
   unfolding histBytes
   plain l m t e =
       let f = fields noHist (eqb (getD s at 0) 2) (at + 1) e in
@@ -244,11 +245,11 @@ module _ (s : List ℕ) (at : ℕ) (head : Bool) (h : HistRef) (far : Bool) (nex
       }
 
   refers : at < length s → getD s at 0 ≤ 3 → (eqb (getD s at 0) 0 || eqb (getD s at 0) 2) ≡ false → head ≡ true
-      → refAt s (at + 1) (eqb (getD s at 0) 3) ≡ FrontRead.Front h far next → FrontSays s at head h far next
+      → refAt s (at + 1) (eqb (getD s at 0) 3) ≡ FrontRead.Front h remote next → FrontSays s at head h remote next
   unfolding refAt
   refers l m t hd e =
-      let fe : eqb (getD s at 0) 3 ≡ far = far-of (eqb (getD s at 0) 3) e in
-      let r = ref-read (subst (λ (b : Bool). refAt s (at + 1) b ≡ FrontRead.Front h far next) fe e) in
+      let fe : eqb (getD s at 0) 3 ≡ remote = remote-of (eqb (getD s at 0) 3) e in
+      let r = ref-read (subst (λ (b : Bool). refAt s (at + 1) b ≡ FrontRead.Front h remote next) fe e) in
       record {
         flag = flag-lies l (ap (flagOf (h .count)) (sym fe) ∙ flag-refers (h .count) (getD s at 0) (r .0) m t);
         hist = r .1;
@@ -257,31 +258,31 @@ module _ (s : List ℕ) (at : ℕ) (head : Bool) (h : HistRef) (far : Bool) (nex
         allowed = λ _. hd;
       }
     where
-      pick : (t u : Bool) (f : Bool) (x : HistRef) (k : ℕ) → cond t (cond u FrontRead.Bad (FrontRead.Front x f k)) FrontRead.Bad ≡ FrontRead.Front h far next → f ≡ far
+      pick : (t u : Bool) (f : Bool) (x : HistRef) (k : ℕ) → cond t (cond u FrontRead.Bad (FrontRead.Front x f k)) FrontRead.Bad ≡ FrontRead.Front h remote next → f ≡ remote
       pick true true f x k q = absurd (no-front q)
       pick true false f x k q = fields x f k q .1
       pick false u f x k q = absurd (no-front q)
 
-      far-of : (f : Bool) → refAt s (at + 1) f ≡ FrontRead.Front h far next → f ≡ far
-      far-of f q = pick (leb (at + 1 + 14) (length s)) (eqb (leAt 4 s (at + 1 + 10)) 0) f (histOf (leAt 8 s (at + 1)) (leAt 2 s (at + 1 + 8)) (leAt 4 s (at + 1 + 10))) (at + 1 + 14) q
+      remote-of : (f : Bool) → refAt s (at + 1) f ≡ FrontRead.Front h remote next → f ≡ remote
+      remote-of f q = pick (leb (at + 1 + 14) (length s)) (eqb (leAt 4 s (at + 1 + 10)) 0) f (histOf (leAt 8 s (at + 1)) (leAt 2 s (at + 1 + 8)) (leAt 4 s (at + 1 + 10))) (at + 1 + 14) q
 
-  pub front-read : frontAt s at head ≡ FrontRead.Front h far next → FrontSays s at head h far next
+  pub front-read : frontAt s at head ≡ FrontRead.Front h remote next → FrontSays s at head h remote next
   unfolding frontAt
   front-read e =
       let x = getD s at 0 in
-      let a = ask (ltb at (length s)) _ FrontRead.Bad (FrontRead.Front h far next) no-front e in
-      let b = ask (leb x 3) _ FrontRead.Bad (FrontRead.Front h far next) no-front (a .1) in
+      let a = ask (ltb at (length s)) _ FrontRead.Bad (FrontRead.Front h remote next) no-front e in
+      let b = ask (leb x 3) _ FrontRead.Bad (FrontRead.Front h remote next) no-front (a .1) in
       let l : at < length s = ltb-true at (length s) (a .0) in
       let m : x ≤ 3 = leb-true x 3 (b .0) in
       go (eqb x 0 || eqb x 2) refl l m (b .1)
     where
       go : (t : Bool) → (eqb (getD s at 0) 0 || eqb (getD s at 0) 2) ≡ t → at < length s → getD s at 0 ≤ 3
-          → cond (eqb (getD s at 0) 0 || eqb (getD s at 0) 2) (FrontRead.Front noHist (eqb (getD s at 0) 2) (at + 1)) (cond head (refAt s (at + 1) (eqb (getD s at 0) 3)) FrontRead.Bad) ≡ FrontRead.Front h far next
-          → FrontSays s at head h far next
+          → cond (eqb (getD s at 0) 0 || eqb (getD s at 0) 2) (FrontRead.Front noHist (eqb (getD s at 0) 2) (at + 1)) (cond head (refAt s (at + 1) (eqb (getD s at 0) 3)) FrontRead.Bad) ≡ FrontRead.Front h remote next
+          → FrontSays s at head h remote next
       go true q l m e = plain l m q (sym (ap (λ (t : Bool). cond t (FrontRead.Front noHist (eqb (getD s at 0) 2) (at + 1)) (cond head (refAt s (at + 1) (eqb (getD s at 0) 3)) FrontRead.Bad)) q) ∙ e)
       go false q l m e =
           let f = sym (ap (λ (t : Bool). cond t (FrontRead.Front noHist (eqb (getD s at 0) 2) (at + 1)) (cond head (refAt s (at + 1) (eqb (getD s at 0) 3)) FrontRead.Bad)) q) ∙ e in
-          let d = ask head (refAt s (at + 1) (eqb (getD s at 0) 3)) FrontRead.Bad (FrontRead.Front h far next) no-front f in
+          let d = ask head (refAt s (at + 1) (eqb (getD s at 0) 3)) FrontRead.Bad (FrontRead.Front h remote next) no-front f in
           refers l m q (d .0) (d .1)
 
 -- the size, and the bytes or the address
@@ -291,30 +292,30 @@ module _ (s : List ℕ) (at : ℕ) (head : Bool) (hb : Bytes s) where
     pub place : p ≡ at + frontSize (h .count)
     pub behind : next ≡ p + n
     pub ends : next ≤ length s
-    pub small : n ≤ 65536
+    pub small : n ≤ maxValue
     pub allowed : Allowed h head
 
   pub record RemoteSays (h : HistRef) (a n next : ℕ) : Type 0 where
     pub lies : Lies s at (remoteBytes h n a)
     pub behind : next ≡ at + (frontSize (h .count) + 8)
     pub ends : next ≤ length s
-    pub small : n ≤ 65536
+    pub small : n ≤ maxValue
     pub allowed : Allowed h head
 
   joined : (h : HistRef) (v : List ℕ) → Lies s at (frontBytes h false (length v)) → Lies s (at + length (frontBytes h false (length v))) v → Lies s at (inlineBytes h v)
   unfolding inlineBytes
   joined h v x y = lies-append s at (frontBytes h false (length v)) v x y
 
-  joined-far : (h : HistRef) (n a : ℕ) → Lies s at (frontBytes h true n) → Lies s (at + length (frontBytes h true n)) (le 8 a) → Lies s at (remoteBytes h n a)
+  joined-remote : (h : HistRef) (n a : ℕ) → Lies s at (frontBytes h true n) → Lies s (at + length (frontBytes h true n)) (le 8 a) → Lies s at (remoteBytes h n a)
   unfolding remoteBytes
-  joined-far h n a x y = lies-append s at (frontBytes h true n) (le 8 a) x y
+  joined-remote h n a x y = lies-append s at (frontBytes h true n) (le 8 a) x y
 
   -- flag, history and size lie there
-  fronted : (h : HistRef) (far : Bool) (next : ℕ) → FrontSays s at head h far next → next + 4 ≤ length s → Lies s at (frontBytes h far (leAt 4 s next))
+  fronted : (h : HistRef) (remote : Bool) (next : ℕ) → FrontSays s at head h remote next → next + 4 ≤ length s → Lies s at (frontBytes h remote (leAt 4 s next))
   unfolding frontBytes
-  fronted h far next w r =
-      let f = le 1 (flagOf (h .count) far) in
-      let e1 : at + 1 ≡ at + length f = ap (λ (k : ℕ). at + k) (sym (length-le 1 (flagOf (h .count) far))) in
+  fronted h remote next w r =
+      let f = le 1 (flagOf (h .count) remote) in
+      let e1 : at + 1 ≡ at + length f = ap (λ (k : ℕ). at + k) (sym (length-le 1 (flagOf (h .count) remote))) in
       let back : Lies s (at + 1) (histBytes h ++ le 4 (leAt 4 s next)) =
       lies-append s (at + 1) (histBytes h) (le 4 (leAt 4 s next)) (w .hist) (subst (λ (k : ℕ). Lies s k (le 4 (leAt 4 s next))) (w .behind) (le-lies s next 4 r hb)) in
       lies-append s at f (histBytes h ++ le 4 (leAt 4 s next)) (w .flag) (subst (λ (k : ℕ). Lies s k (histBytes h ++ le 4 (leAt 4 s next))) e1 back)
@@ -329,21 +330,21 @@ module _ (s : List ℕ) (at : ℕ) (head : Bool) (hb : Bytes s) where
     same : (h′ : HistRef) (p′ n′ next′ : ℕ) → Val.Inline h′ p′ n′ next′ ≡ Val.Inline h p n next → (h′ ≡ h) × (p′ ≡ p) × (n′ ≡ n) × (next′ ≡ next)
     same h′ p′ n′ next′ e = (cc, cc, cc, cc)
 
-    sized : (h′ : HistRef) (far : Bool) (q : ℕ) → FrontSays s at head h′ far q → valOf s (FrontRead.Front h′ far q) ≡ Val.Inline h p n next → InlineSays h p n next
+    sized : (h′ : HistRef) (remote : Bool) (q : ℕ) → FrontSays s at head h′ remote q → valOf s (FrontRead.Front h′ remote q) ≡ Val.Inline h p n next → InlineSays h p n next
     sized h′ true q w e =
         let a = ask (leb (q + 4) (length s)) _ Val.Bad (Val.Inline h p n next) no-inline e in
-        let b = ask (leb (leAt 4 s q) 65536) _ Val.Bad (Val.Inline h p n next) no-inline (a .1) in
+        let b = ask (leb (leAt 4 s q) maxValue) _ Val.Bad (Val.Inline h p n next) no-inline (a .1) in
         let c = ask (leb (q + 12) (length s)) (Val.Remote h′ (addrOf (leAt 8 s (q + 4))) (leAt 4 s q) (q + 12)) Val.Bad (Val.Inline h p n next) no-inline (b .1) in
         absurd (not-remote h′ (addrOf (leAt 8 s (q + 4))) (leAt 4 s q) (q + 12) (c .1))
     sized h′ false q w e =
         let a = ask (leb (q + 4) (length s)) _ Val.Bad (Val.Inline h p n next) no-inline e in
-        let b = ask (leb (leAt 4 s q) 65536) _ Val.Bad (Val.Inline h p n next) no-inline (a .1) in
+        let b = ask (leb (leAt 4 s q) maxValue) _ Val.Bad (Val.Inline h p n next) no-inline (a .1) in
         let c = ask (leb (q + 4 + leAt 4 s q) (length s)) (Val.Inline h′ (q + 4) (leAt 4 s q) (q + 4 + leAt 4 s q)) Val.Bad (Val.Inline h p n next) no-inline (b .1) in
         let f = same h′ (q + 4) (leAt 4 s q) (q + 4 + leAt 4 s q) (c .1) in
         let r : q + 4 + leAt 4 s q ≤ length s = leb-true (q + 4 + leAt 4 s q) (length s) (c .0) in
-        built h′ q (f .0) (f .1) (f .2) (f .3) w r (leb-true (leAt 4 s q) 65536 (b .0))
+        built h′ q (f .0) (f .1) (f .2) (f .3) w r (leb-true (leAt 4 s q) maxValue (b .0))
       where
-        built : (h′ : HistRef) (q : ℕ) → h′ ≡ h → q + 4 ≡ p → leAt 4 s q ≡ n → q + 4 + leAt 4 s q ≡ next → FrontSays s at head h′ false q → q + 4 + leAt 4 s q ≤ length s → leAt 4 s q ≤ 65536 → InlineSays h p n next
+        built : (h′ : HistRef) (q : ℕ) → h′ ≡ h → q + 4 ≡ p → leAt 4 s q ≡ n → q + 4 + leAt 4 s q ≡ next → FrontSays s at head h′ false q → q + 4 + leAt 4 s q ≤ length s → leAt 4 s q ≤ maxValue → InlineSays h p n next
         built h′ q eh ep en ex w r m =
             let w′ : FrontSays s at head h false q = subst (λ (x : HistRef). FrontSays s at head x false q) eh w in
             let place : p ≡ at + frontSize (h .count) = omega (arith, w′ .behind, ep, front-parts h) in
@@ -366,7 +367,7 @@ module _ (s : List ℕ) (at : ℕ) (head : Bool) (hb : Bytes s) where
       where
         go : (f : FrontRead) → frontAt s at head ≡ f → valOf s f ≡ Val.Inline h p n next → InlineSays h p n next
         go FrontRead.Bad q e = absurd (no-inline e)
-        go (FrontRead.Front h′ far k) q e = sized h′ far k (front-read s at head h′ far k hb q) e
+        go (FrontRead.Front h′ remote k) q e = sized h′ remote k (front-read s at head h′ remote k hb q) e
 
   module _ (h : HistRef) (a n next : ℕ) where
     no-remote : Val.Bad ≡ Val.Remote h (addrOf a) n next → ⊥
@@ -375,32 +376,32 @@ module _ (s : List ℕ) (at : ℕ) (head : Bool) (hb : Bytes s) where
     not-inline : (h′ : HistRef) (p′ n′ next′ : ℕ) → Val.Inline h′ p′ n′ next′ ≡ Val.Remote h (addrOf a) n next → ⊥
     not-inline h′ p′ n′ next′ e = let z : _≡_ {A = ℕ} 0 1 = cc in omega arith
 
-    same-far : (h′ : HistRef) (a′ n′ next′ : ℕ) → Val.Remote h′ (addrOf a′) n′ next′ ≡ Val.Remote h (addrOf a) n next → (h′ ≡ h) × (a′ ≡ a) × (n′ ≡ n) × (next′ ≡ next)
-    same-far h′ a′ n′ next′ e =
+    same-remote : (h′ : HistRef) (a′ n′ next′ : ℕ) → Val.Remote h′ (addrOf a′) n′ next′ ≡ Val.Remote h (addrOf a) n next → (h′ ≡ h) × (a′ ≡ a) × (n′ ≡ n) × (next′ ≡ next)
+    same-remote h′ a′ n′ next′ e =
         let d : addrOf a′ ≡ addrOf a = cc in
         (cc, ap (λ (x : Addr). x .0) d, cc, cc)
 
-    sized-far : (h′ : HistRef) (far : Bool) (q : ℕ) → FrontSays s at head h′ far q → valOf s (FrontRead.Front h′ far q) ≡ Val.Remote h (addrOf a) n next → RemoteSays h a n next
-    sized-far h′ false q w e =
+    sized-remote : (h′ : HistRef) (remote : Bool) (q : ℕ) → FrontSays s at head h′ remote q → valOf s (FrontRead.Front h′ remote q) ≡ Val.Remote h (addrOf a) n next → RemoteSays h a n next
+    sized-remote h′ false q w e =
         let x = ask (leb (q + 4) (length s)) _ Val.Bad (Val.Remote h (addrOf a) n next) no-remote e in
-        let y = ask (leb (leAt 4 s q) 65536) _ Val.Bad (Val.Remote h (addrOf a) n next) no-remote (x .1) in
+        let y = ask (leb (leAt 4 s q) maxValue) _ Val.Bad (Val.Remote h (addrOf a) n next) no-remote (x .1) in
         let z = ask (leb (q + 4 + leAt 4 s q) (length s)) (Val.Inline h′ (q + 4) (leAt 4 s q) (q + 4 + leAt 4 s q)) Val.Bad (Val.Remote h (addrOf a) n next) no-remote (y .1) in
         absurd (not-inline h′ (q + 4) (leAt 4 s q) (q + 4 + leAt 4 s q) (z .1))
-    sized-far h′ true q w e =
+    sized-remote h′ true q w e =
         let x = ask (leb (q + 4) (length s)) _ Val.Bad (Val.Remote h (addrOf a) n next) no-remote e in
-        let y = ask (leb (leAt 4 s q) 65536) _ Val.Bad (Val.Remote h (addrOf a) n next) no-remote (x .1) in
+        let y = ask (leb (leAt 4 s q) maxValue) _ Val.Bad (Val.Remote h (addrOf a) n next) no-remote (x .1) in
         let z = ask (leb (q + 12) (length s)) (Val.Remote h′ (addrOf (leAt 8 s (q + 4))) (leAt 4 s q) (q + 12)) Val.Bad (Val.Remote h (addrOf a) n next) no-remote (y .1) in
-        let f = same-far h′ (leAt 8 s (q + 4)) (leAt 4 s q) (q + 12) (z .1) in
-        built h′ q (f .0) (f .1) (f .2) (f .3) w (leb-true (q + 12) (length s) (z .0)) (leb-true (leAt 4 s q) 65536 (y .0))
+        let f = same-remote h′ (leAt 8 s (q + 4)) (leAt 4 s q) (q + 12) (z .1) in
+        built h′ q (f .0) (f .1) (f .2) (f .3) w (leb-true (q + 12) (length s) (z .0)) (leb-true (leAt 4 s q) maxValue (y .0))
       where
-        built : (h′ : HistRef) (q : ℕ) → h′ ≡ h → leAt 8 s (q + 4) ≡ a → leAt 4 s q ≡ n → q + 12 ≡ next → FrontSays s at head h′ true q → q + 12 ≤ length s → leAt 4 s q ≤ 65536 → RemoteSays h a n next
+        built : (h′ : HistRef) (q : ℕ) → h′ ≡ h → leAt 8 s (q + 4) ≡ a → leAt 4 s q ≡ n → q + 12 ≡ next → FrontSays s at head h′ true q → q + 12 ≤ length s → leAt 4 s q ≤ maxValue → RemoteSays h a n next
         built h′ q eh ea en ex w r m =
             let w′ : FrontSays s at head h true q = subst (λ (x : HistRef). FrontSays s at head x true q) eh w in
             let f : Lies s at (frontBytes h true n) = subst (λ (k : ℕ). Lies s at (frontBytes h true k)) en (fronted h true q w′ (omega arith)) in
             let g : Lies s (q + 4) (le 8 a) = subst (λ (k : ℕ). Lies s (q + 4) (le 8 k)) ea (le-lies s (q + 4) 8 (omega arith) hb) in
             let e : q + 4 ≡ at + length (frontBytes h true n) = omega (arith, w′ .behind, front-parts h, length-front h true n) in
             record {
-              lies = joined-far h n a f (subst (λ (k : ℕ). Lies s k (le 8 a)) e g);
+              lies = joined-remote h n a f (subst (λ (k : ℕ). Lies s k (le 8 a)) e g);
               behind = omega (arith, w′ .behind, front-parts h, ex);
               ends = omega (arith, ex);
               small = omega (arith, en);
@@ -413,4 +414,4 @@ module _ (s : List ℕ) (at : ℕ) (head : Bool) (hb : Bytes s) where
       where
         go : (f : FrontRead) → frontAt s at head ≡ f → valOf s f ≡ Val.Remote h (addrOf a) n next → RemoteSays h a n next
         go FrontRead.Bad q e = absurd (no-remote e)
-        go (FrontRead.Front h′ far k) q e = sized-far h′ far k (front-read s at head h′ far k hb q) e
+        go (FrontRead.Front h′ remote k) q e = sized-remote h′ remote k (front-read s at head h′ remote k hb q) e

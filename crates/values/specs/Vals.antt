@@ -1,12 +1,13 @@
 -- Values as a page holds them: flag, history reference, size, and the bytes or a remote's address.
 -- Assumes nothing.
-use Prim.Native.Nat.{ℕ, zero, suc, _+_}
-use mathlib.Core.List.{List, [], _∷_, _++_}
-use mathlib.Core.Bool.{Bool, true, false, cond, _||_, not}
+use Prim.Native.Nat.{ℕ, _+_}
+use mathlib.Core.List.{List, [], _++_}
+use mathlib.Core.Bool.{Bool, true, false, cond, _||_}
 use lib.ListN.{length, getD}
 use lib.Dec.{leb, ltb, eqb}
 use Rattle.numbers.specs.Number.{le, leAt}
 use Rattle.frames.specs.declared.Addr.{Addr}
+use Rattle.frames.specs.Limits.{maxValue}
 use Rattle.values.specs.declared.HistRef.{HistRef}
 use Rattle.values.specs.declared.FrontRead.{FrontRead}
 use Rattle.values.specs.declared.Val.{Val}
@@ -24,7 +25,7 @@ noHist = histOf 0 0 0
 
 -- flag: 1 has history, 2 is remote, 3 both, 0 neither
 unfoldable pub flagOf : ℕ → Bool → ℕ
-flagOf count far = cond (eqb count 0) 0 1 + cond far 2 0
+flagOf count remote = cond (eqb count 0) 0 1 + cond remote 2 0
 
 -- with history: address u64, slot u16, count u32; nothing where there is none
 unfoldable pub histBytes : HistRef → List ℕ
@@ -33,7 +34,7 @@ histBytes h = cond (eqb (h .count) 0) [] (le 8 (h .page .0) ++ (le 2 (h .slot) +
 -- what stands before the bytes or the address: flag, history, size
 unfoldable pub frontBytes : HistRef → Bool → ℕ → List ℕ
 unfolding flagOf histBytes
-frontBytes h far n = le 1 (flagOf (h .count) far) ++ (histBytes h ++ le 4 n)
+frontBytes h remote n = le 1 (flagOf (h .count) remote) ++ (histBytes h ++ le 4 n)
 
 unfoldable pub inlineBytes : HistRef → List ℕ → List ℕ
 unfolding frontBytes
@@ -58,10 +59,10 @@ sizeOf hist limit n = histSize hist + cond (ltb n limit) (5 + n) 13
 
 -- the fourteen bytes behind a flag with history
 unfoldable pub refAt : List ℕ → ℕ → Bool → FrontRead
-refAt s at far =
+refAt s at remote =
     cond (leb (at + 14) (length s))
     (cond (eqb (leAt 4 s (at + 10)) 0) FrontRead.Bad
-    (FrontRead.Front (histOf (leAt 8 s at) (leAt 2 s (at + 8)) (leAt 4 s (at + 10))) far (at + 14)))
+    (FrontRead.Front (histOf (leAt 8 s at) (leAt 2 s (at + 8)) (leAt 4 s (at + 10))) remote (at + 14)))
     FrontRead.Bad
 
 -- flag and history
@@ -77,10 +78,10 @@ frontAt s at head =
 
 -- size, and the bytes or the address
 abbrev pub valOf : List ℕ → FrontRead → Val
-valOf s (FrontRead.Front h far at) =
+valOf s (FrontRead.Front h remote at) =
     cond (leb (at + 4) (length s))
-    (cond (leb (leAt 4 s at) 65536)
-    (cond far
+    (cond (leb (leAt 4 s at) maxValue)
+    (cond remote
     (cond (leb (at + 12) (length s)) (Val.Remote h (addrOf (leAt 8 s (at + 4))) (leAt 4 s at) (at + 12)) Val.Bad)
     (cond (leb (at + 4 + leAt 4 s at) (length s)) (Val.Inline h (at + 4) (leAt 4 s at) (at + 4 + leAt 4 s at)) Val.Bad))
     Val.Bad)

@@ -1,32 +1,21 @@
 // Versions, keys and values as a page holds them: read from arbitrary bytes, and stored where they fit.
 use frames::Addr;
+use frames::BaseHeader;
+use frames::Body;
+use frames::NULL_ADDR;
 use lengths::Length;
 use order::Ver;
 ghost use mathlib.Core.Path.{_≡_};
 ghost use Prim.Native.Nat.{_+_, _≤_};
-ghost use mathlib.Core.Bool.{true, false};
-ghost use lib.Dec.{leb, ltb, eqb};
+ghost use mathlib.Core.Bool.{true};
+ghost use lib.Dec.{leb};
 ghost use lib.ListN.{length};
 ghost use Rattle.spans.specs.Span.{put, Stored};
-ghost use Rattle.values.specs.Keys.{verBytes, verAt, leafFront, leafKey, indexKey, skipOf, keyAt};
+ghost use Rattle.frames.specs.Limits.{maxKey, maxValue};
+ghost use Rattle.values.specs.Keys.{verBytes, leafFront, leafKey, indexKey, leafKeySize, indexKeySize, skipOf, keyAt};
 ghost use Rattle.values.specs.Vals.{flagOf, histBytes, frontBytes, frontSize, inlineBytes, remoteBytes, histSize, sizeOf, refAt, frontAt, valAt};
 
 // ---- versions
-
-pub enum VerRead {
-    Is(Ver),
-    Bad,
-}
-
-// The version at a place.
-pub fn read_ver(s: &[u8], at: usize) -> VerRead
-    ensures { λ r. ⌜ r ≡ verAt (now (s .entry)) at ⌝ }
-{
-    if spans::room(s.len(), at, Ver::LEN) {
-        return VerRead::Is(Ver::new(numbers::read_u64(s, at), numbers::read_u32(s, at + 8)));
-    }
-    VerRead::Bad
-}
 
 fn store_ver(buf: &mut [u8], at: usize, v: Ver)
     requires { ⌜ at + 12 ≤ length (now buf) ⌝ }
@@ -59,10 +48,11 @@ pub enum KeyRead {
     Bad,
 }
 
-fn skip_of(kind: u8) -> usize
+// The bytes before a key's rest that are its version: an index key has none.
+pub fn skip_of(kind: u8) -> usize
     ensures { λ r. ⌜ r ≡ skipOf kind ⌝ }
 {
-    if kind == 1 { 0 } else { 12 }
+    if kind == Body::INDEX { 0 } else { 12 }
 }
 
 // The key at a place of a page that ends where s ends: of a leaf (0), an index page (1) or a history page (2).
@@ -97,9 +87,24 @@ pub fn key_at(s: &[u8], at: usize, kind: u8) -> KeyRead
     KeyRead::Bad
 }
 
+// The size of a leaf key with a rest of n bytes.
+pub fn leaf_key_size(n: u16) -> usize
+    ensures { λ r. ⌜ r ≡ leafKeySize n ⌝ }
+{
+    let whole = 12 + (n as usize);
+    lengths::size(whole as u32) + whole
+}
+
+// The size of an index key of n bytes.
+pub fn index_key_size(n: u16) -> usize
+    ensures { λ r. ⌜ r ≡ indexKeySize n ⌝ }
+{
+    lengths::size(n as u32) + (n as usize)
+}
+
 // The length and version of a leaf key with a rest of n bytes; the index behind them.
 fn store_leaf_front(buf: &mut [u8], at: usize, v: Ver, n: usize) -> usize
-    requires { ⌜ (n ≤ 4096) × (at + length (leafFront v n) ≤ length (now buf)) ⌝ }
+    requires { ⌜ (n ≤ maxKey) × (at + length (leafFront v n) ≤ length (now buf)) ⌝ }
     ensures { λ r. ⌜ (r ≡ at + length (leafFront v n)) × (now (buf .exit) ≡ put (now (buf .entry)) at (leafFront v n)) ⌝ }
 {
     let k = lengths::write(buf, at, (12 + n) as u32);
@@ -111,9 +116,9 @@ fn store_leaf_front(buf: &mut [u8], at: usize, v: Ver, n: usize) -> usize
 // Stores the length and version of a leaf key whose rest has n bytes, at most 4,096, where they fit; the number of bytes stored, or 0.
 // A builder copies the rest behind them.
 pub fn write_leaf_front(buf: &mut [u8], at: usize, v: Ver, n: usize) -> usize
-    ensures { λ r. ⌜ Stored (leb n 4096) (now (buf .entry)) at (leafFront v n) r (now (buf .exit)) ⌝ }
+    ensures { λ r. ⌜ Stored (leb n maxKey) (now (buf .entry)) at (leafFront v n) r (now (buf .exit)) ⌝ }
 {
-    if 4096 < n {
+    if BaseHeader::MAX_KEY < n {
         return 0;
     }
     let k = lengths::size((12 + n) as u32) + 12;
@@ -125,10 +130,10 @@ pub fn write_leaf_front(buf: &mut [u8], at: usize, v: Ver, n: usize) -> usize
 
 // Stores a leaf key, its rest at most 4,096 bytes, where it fits; the number of bytes stored, or 0.
 pub fn write_leaf_key(buf: &mut [u8], at: usize, v: Ver, rest: &[u8]) -> usize
-    ensures { λ r. ⌜ Stored (leb (length (now (rest .entry))) 4096) (now (buf .entry)) at (leafKey v (now (rest .entry))) r (now (buf .exit)) ⌝ }
+    ensures { λ r. ⌜ Stored (leb (length (now (rest .entry))) maxKey) (now (buf .entry)) at (leafKey v (now (rest .entry))) r (now (buf .exit)) ⌝ }
 {
     let n = rest.len();
-    if 4096 < n {
+    if BaseHeader::MAX_KEY < n {
         return 0;
     }
     let k = lengths::size((12 + n) as u32) + 12 + n;
@@ -142,10 +147,10 @@ pub fn write_leaf_key(buf: &mut [u8], at: usize, v: Ver, rest: &[u8]) -> usize
 
 // Stores an index key, at most 4,096 bytes, where it fits; the number of bytes stored, or 0.
 pub fn write_index_key(buf: &mut [u8], at: usize, rest: &[u8]) -> usize
-    ensures { λ r. ⌜ Stored (leb (length (now (rest .entry))) 4096) (now (buf .entry)) at (indexKey (now (rest .entry))) r (now (buf .exit)) ⌝ }
+    ensures { λ r. ⌜ Stored (leb (length (now (rest .entry))) maxKey) (now (buf .entry)) at (indexKey (now (rest .entry))) r (now (buf .exit)) ⌝ }
 {
     let n = rest.len();
-    if 4096 < n {
+    if BaseHeader::MAX_KEY < n {
         return 0;
     }
     let k = lengths::size(n as u32) + n;
@@ -170,7 +175,7 @@ pub struct HistRef {
 pub enum FrontRead {
     Front {
         hist: HistRef,
-        far: bool,
+        remote: bool,
         next: usize,
     },
     Bad,
@@ -193,13 +198,13 @@ pub enum Val {
     Bad,
 }
 
-fn flag_of(count: u32, far: bool) -> u8
-    ensures { λ r. ⌜ r ≡ flagOf count far ⌝ }
+fn flag_of(count: u32, remote: bool) -> u8
+    ensures { λ r. ⌜ r ≡ flagOf count remote ⌝ }
 {
     if count == 0 {
-        if far { 2 } else { 0 }
+        if remote { 2 } else { 0 }
     } else {
-        if far { 3 } else { 1 }
+        if remote { 3 } else { 1 }
     }
 }
 
@@ -231,11 +236,11 @@ fn store_hist(buf: &mut [u8], at: usize, h: HistRef) -> usize
 }
 
 // Flag, history and size; the index behind them.
-fn store_front(buf: &mut [u8], at: usize, h: HistRef, far: bool, n: u32) -> usize
-    requires { ⌜ at + length (frontBytes h far n) ≤ length (now buf) ⌝ }
-    ensures { λ r. ⌜ (r ≡ at + length (frontBytes h far n)) × (now (buf .exit) ≡ put (now (buf .entry)) at (frontBytes h far n)) ⌝ }
+fn store_front(buf: &mut [u8], at: usize, h: HistRef, remote: bool, n: u32) -> usize
+    requires { ⌜ at + length (frontBytes h remote n) ≤ length (now buf) ⌝ }
+    ensures { λ r. ⌜ (r ≡ at + length (frontBytes h remote n)) × (now (buf .exit) ≡ put (now (buf .entry)) at (frontBytes h remote n)) ⌝ }
 {
-    let flag = flag_of(h.count, far);
+    let flag = flag_of(h.count, remote);
     numbers::put_u8(buf, at, flag);
     let p = store_hist(buf, at + 1, h);
     numbers::put_u32(buf, p, n);
@@ -243,8 +248,8 @@ fn store_front(buf: &mut [u8], at: usize, h: HistRef, far: bool, n: u32) -> usiz
 }
 
 // The fourteen bytes of a history reference.
-fn ref_at(s: &[u8], at: usize, far: bool) -> FrontRead
-    ensures { λ r. ⌜ r ≡ refAt (now (s .entry)) at far ⌝ }
+fn ref_at(s: &[u8], at: usize, remote: bool) -> FrontRead
+    ensures { λ r. ⌜ r ≡ refAt (now (s .entry)) at remote ⌝ }
 {
     if spans::room(s.len(), at, 14) {
         let count = numbers::read_u32(s, at + 10);
@@ -257,7 +262,7 @@ fn ref_at(s: &[u8], at: usize, far: bool) -> FrontRead
                 slot: numbers::read_u16(s, at + 8),
                 count: count,
             },
-            far: far,
+            remote: remote,
             next: at + 14,
         };
     }
@@ -278,11 +283,11 @@ fn front_at(s: &[u8], at: usize, head: bool) -> FrontRead
     if (f == 0) | (f == 2) {
         return FrontRead::Front {
             hist: HistRef {
-                page: Addr(0),
+                page: NULL_ADDR,
                 slot: 0,
                 count: 0,
             },
-            far: f == 2,
+            remote: f == 2,
             next: at + 1,
         };
     }
@@ -297,15 +302,15 @@ impl Val {
     pub fn decode_from(s: &[u8], at: usize, head: bool) -> Val
         ensures { λ r. ⌜ r ≡ valAt (now (s .entry)) at head ⌝ }
     {
-        let FrontRead::Front { hist, far, next } = front_at(s, at, head) else {
+        let FrontRead::Front { hist, remote, next } = front_at(s, at, head) else {
             return Val::Bad;
         };
         if spans::room(s.len(), next, 4) {
             let n = numbers::read_u32(s, next) as usize;
-            if 65536 < n {
+            if BaseHeader::MAX_VALUE < n {
                 return Val::Bad;
             }
-            if far {
+            if remote {
                 if spans::room(s.len(), next, 12) {
                     return Val::Remote {
                         hist: hist,
@@ -342,25 +347,25 @@ impl Val {
 
     // Stores flag, history and size of a value of n bytes, at most 65,536, where they fit; the number of bytes stored, or 0.
     // A builder copies the bytes, or stores the address, behind them.
-    pub fn write_front(buf: &mut [u8], at: usize, h: HistRef, far: bool, n: usize) -> usize
-        ensures { λ r. ⌜ Stored (leb n 65536) (now (buf .entry)) at (frontBytes h far n) r (now (buf .exit)) ⌝ }
+    pub fn write_front(buf: &mut [u8], at: usize, h: HistRef, remote: bool, n: usize) -> usize
+        ensures { λ r. ⌜ Stored (leb n maxValue) (now (buf .entry)) at (frontBytes h remote n) r (now (buf .exit)) ⌝ }
     {
-        if 65536 < n {
+        if BaseHeader::MAX_VALUE < n {
             return 0;
         }
         let k = front_size(h.count);
         if spans::room(buf.len(), at, k) {
-            return store_front(buf, at, h, far, n as u32) - at;
+            return store_front(buf, at, h, remote, n as u32) - at;
         }
         0
     }
 
     // Stores a value with its bytes, at most 65,536, where it fits; the number of bytes stored, or 0.
     pub fn encode_inline(buf: &mut [u8], at: usize, h: HistRef, v: &[u8]) -> usize
-        ensures { λ r. ⌜ Stored (leb (length (now (v .entry))) 65536) (now (buf .entry)) at (inlineBytes h (now (v .entry))) r (now (buf .exit)) ⌝ }
+        ensures { λ r. ⌜ Stored (leb (length (now (v .entry))) maxValue) (now (buf .entry)) at (inlineBytes h (now (v .entry))) r (now (buf .exit)) ⌝ }
     {
         let n = v.len();
-        if 65536 < n {
+        if BaseHeader::MAX_VALUE < n {
             return 0;
         }
         let k = front_size(h.count) + n;
@@ -374,9 +379,9 @@ impl Val {
 
     // Stores a value of n bytes, at most 65,536, that stand in a remote frame, where it fits; the number of bytes stored, or 0.
     pub fn encode_remote(buf: &mut [u8], at: usize, h: HistRef, n: usize, a: Addr) -> usize
-        ensures { λ r. ⌜ Stored (leb n 65536) (now (buf .entry)) at (remoteBytes h n (a .0)) r (now (buf .exit)) ⌝ }
+        ensures { λ r. ⌜ Stored (leb n maxValue) (now (buf .entry)) at (remoteBytes h n (a .0)) r (now (buf .exit)) ⌝ }
     {
-        if 65536 < n {
+        if BaseHeader::MAX_VALUE < n {
             return 0;
         }
         let k = front_size(h.count) + 8;

@@ -18,12 +18,12 @@ use Rattle.records.specs.Records.{slotAt, keySlot, keyAtSlot, recAt}
 use Rattle.records.proofs.Inside.{slot-inside, key-inside, skip-twelve, at-inside}
 use Rattle.pages.specs.declared.Place.{Place}
 use Rattle.walks.specs.declared.Sheet.{Sheet}
-use Rattle.walks.specs.declared.Past.{Past}
+use Rattle.walks.specs.declared.OldPlace.{OldPlace}
 use Rattle.walks.specs.declared.Item.{Item}
 use Rattle.walks.specs.declared.OldStep.{OldStep}
 use Rattle.walks.specs.declared.Turned.{Turned}
 use Rattle.walks.specs.declared.Aged.{Aged}
-use Rattle.walks.specs.Walk.{bodyIn, pastOf, fitsIn, readAt, itemOf, nextRec, nextIn, nextOld}
+use Rattle.walks.specs.Walk.{bodyIn, olderOf, fitsIn, readAt, itemOf, nextRec, nextIn, nextOld}
 use Rattle.walks.specs.Turned.{turnedAt}
 use Rattle.walks.specs.Aged.{keyOld, agedKey, agedIn, agedOf, agedAt}
 use Rattle.walks.proofs.Lying.{fits-inside}
@@ -60,7 +60,7 @@ key-read s v i r e =
     rw (a1 .0) (at-inside s (bodyIn v 2) i r (fits-inside s v 2 (a1 .0)) (a1 .1) .1)
 
 -- where the walk's step lists an old version, its key alone tells the same version, and its slot is the one that the step reads
-pub record Ages (s : List ℕ) (key : Place) (p : Past) (x : Item) (rest : Past) : Type 0 where
+pub record Ages (s : List ℕ) (key : Place) (p : OldPlace) (x : Item) (rest : OldPlace) : Type 0 where
   pub slot : ℕ
   pub rec : Rec
   pub named : Addr
@@ -68,14 +68,14 @@ pub record Ages (s : List ℕ) (key : Place) (p : Past) (x : Item) (rest : Past)
   pub read : readAt s (rest .page) 2 slot ≡ RecRead.Is rec
   pub item : itemOf s key rec named ≡ x
 
-pub next-aged : (s : List ℕ) (key : Place) (p rest : Past) (x : Item) → 0 < p .left → nextOld s key p ≡ OldStep.Is x rest → Ages s key p x rest
+pub next-aged : (s : List ℕ) (key : Place) (p rest : OldPlace) (x : Item) → 0 < p .left → nextOld s key p ≡ OldStep.Is x rest → Ages s key p x rest
 unfolding agedAt agedIn nextIn itemOf
 next-aged s key p rest x l e = turned (turnedAt s p) refl (sym (next-from s key p) ∙ e)
   where
-    record-is : (q : Past) (a : Addr) → turnedAt s p ≡ Turned.Is q a → (r : RecRead) → readAt s (q .page) 2 (q .slot) ≡ r → nextRec s key q a r ≡ OldStep.Is x rest → Ages s key p x rest
+    record-is : (q : OldPlace) (a : Addr) → turnedAt s p ≡ Turned.Is q a → (r : RecRead) → readAt s (q .page) 2 (q .slot) ≡ r → nextRec s key q a r ≡ OldStep.Is x rest → Ages s key p x rest
     record-is q a t (RecRead.Is r) f g =
         let e1 : itemOf s key r a ≡ x = cc in
-        let e2 : pastOf (q .page) (q .link) (q .slot + 1) (q .left - 1) ≡ rest = cc in
+        let e2 : olderOf (q .page) (q .link) (q .slot + 1) (q .left - 1) ≡ rest = cc in
         rw (← e1, ← e2) (record { slot = q .slot; rec = r; named = a; aged = rw (ne-eqb (p .left) 0 (λ z. omega arith), t, key-read s (q .page) (q .slot) r f); read = f; item = refl })
     record-is q a t RecRead.Bad f g = absurd (let y : _≡_ {A = ℕ} 0 1 = cc in omega arith)
 
@@ -84,19 +84,19 @@ next-aged s key p rest x l e = turned (turnedAt s p) refl (sym (next-from s key 
     turned Turned.Bad t g = absurd (let y : _≡_ {A = ℕ} 0 1 = cc in omega arith)
 
 -- none where none is left; otherwise one fewer is left behind it
-pub aged-none : (s : List ℕ) (p : Past) → p .left ≡ 0 → agedAt s p ≡ Aged.End
+pub aged-none : (s : List ℕ) (p : OldPlace) → p .left ≡ 0 → agedAt s p ≡ Aged.End
 unfolding agedAt
 aged-none s p e = rw e
 
-pub aged-left : (s : List ℕ) (p rest : Past) (v : Ver) (i : ℕ) → agedAt s p ≡ Aged.Is v i rest → p .left ≡ suc (rest .left)
+pub aged-left : (s : List ℕ) (p rest : OldPlace) (v : Ver) (i : ℕ) → agedAt s p ≡ Aged.Is v i rest → p .left ≡ suc (rest .left)
 unfolding agedAt agedIn
 aged-left s p rest v i e = by (p .left) refl
   where
     no : Aged.Bad ≡ Aged.Is v i rest → ⊥
     no z = let y : _≡_ {A = ℕ} 0 1 = cc in omega arith
 
-    key : (q : Past) (k : KeyRead) → agedKey s q k ≡ Aged.Is v i rest → rest .left ≡ q .left - 1
-    key q (KeyRead.Key w r n) g = let e1 : pastOf (q .page) (q .link) (q .slot + 1) (q .left - 1) ≡ rest = cc in sym (ap (λ (x : Past). x .left) e1)
+    key : (q : OldPlace) (k : KeyRead) → agedKey s q k ≡ Aged.Is v i rest → rest .left ≡ q .left - 1
+    key q (KeyRead.Key w r n) g = let e1 : olderOf (q .page) (q .link) (q .slot + 1) (q .left - 1) ≡ rest = cc in sym (ap (λ (x : OldPlace). x .left) e1)
     key q KeyRead.Bad g = absurd (no g)
 
     turned : (t : Turned) → turnedAt s p ≡ t → agedOf s t ≡ Aged.Is v i rest → rest .left ≡ p .left - 1

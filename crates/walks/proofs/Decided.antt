@@ -13,7 +13,7 @@ use Rattle.frames.specs.declared.Opened.{Opened}
 use Rattle.values.specs.declared.HistRef.{HistRef}
 use Rattle.records.specs.declared.RecRead.{RecRead}
 use Rattle.walks.specs.declared.Sheet.{Sheet}
-use Rattle.walks.specs.declared.Past.{Past}
+use Rattle.walks.specs.declared.OldPlace.{OldPlace}
 use Rattle.walks.specs.declared.Entered.{Entered}
 use Rattle.walks.specs.declared.Walk.{Walk}
 use Rattle.walks.specs.declared.Item.{Item}
@@ -33,8 +33,8 @@ use Rattle.walks.proofs.enter as enter-fn
 use Rattle.walks.proofs.enter.Reads as enter-at
 use Rattle.walks.proofs.read as read-fn
 use Rattle.walks.proofs.read.Reads as read-at
-use Rattle.walks.proofs.Past.aged as aged-fn
-use Rattle.walks.proofs.Past.aged.Reads as aged-at
+use Rattle.walks.proofs.OldPlace.aged as aged-fn
+use Rattle.walks.proofs.OldPlace.aged.Reads as aged-at
 use Rattle.walks.proofs.Walk.step as step-fn
 use Rattle.walks.proofs.Walk.step.Reads as step-at
 use Rattle.walks.proofs.rest_of as rest-fn
@@ -54,7 +54,7 @@ module _ (κs : Lfts 1) (s : RefT (List ℕ)) where
   pub body-decided : (v : Sheet) (kind : ℕ) (x : AtExit body-fn.ended κs) → Decides (λ (r : Opened). body-at.Post κs (s, (v, (kind, tt))) r x) (λ (r : Opened). r)
   body-decided v kind x = decides (λ (r : Opened). r) (bodyOf (now s) v kind)
 
-  pub enter-decided : (h : HistRef) (was : Past) (x : AtExit enter-fn.ended κs) → Decides (λ (r : Entered). enter-at.Post κs (s, (h, (was, tt))) r x) (λ (r : Entered). r)
+  pub enter-decided : (h : HistRef) (was : OldPlace) (x : AtExit enter-fn.ended κs) → Decides (λ (r : Entered). enter-at.Post κs (s, (h, (was, tt))) r x) (λ (r : Entered). r)
   enter-decided h was x = decides (λ (r : Entered). r) (enterAt (now s) h was)
 
   pub step-decided : (w : Walk) (x : AtExit step-fn.ended κs) → Decides (λ (r : Step). step-at.Post κs (w, (s, tt)) r x) (λ (r : Step). r)
@@ -63,7 +63,7 @@ module _ (κs : Lfts 1) (s : RefT (List ℕ)) where
   pub read-decided : (v : Sheet) (kind i : ℕ) (x : AtExit read-fn.ended κs) → Decides (λ (r : RecRead). read-at.Post κs (s, (v, (kind, (i, tt)))) r x) (λ (r : RecRead). r)
   read-decided v kind i x = decides (λ (r : RecRead). r) (readAt (now s) v kind i)
 
-  pub aged-decided : (p : Past) (x : AtExit aged-fn.ended κs) → Decides (λ (r : Aged). aged-at.Post κs (p, (s, tt)) r x) (λ (r : Aged). r)
+  pub aged-decided : (p : OldPlace) (x : AtExit aged-fn.ended κs) → Decides (λ (r : Aged). aged-at.Post κs (p, (s, tt)) r x) (λ (r : Aged). r)
   aged-decided p x = decides (λ (r : Aged). r) (agedAt (now s) p)
 
 -- the bytes of a part are decided

@@ -17,6 +17,7 @@ use Rattle.frames.specs.declared.Addr.{Addr}
 use Rattle.frames.specs.declared.Body.{Body}
 use Rattle.frames.specs.declared.RemoteRead.{RemoteRead}
 use Rattle.frames.specs.Layout.{addr, remoteAt}
+use Rattle.frames.specs.Limits.{maxKey, maxValue}
 use Rattle.values.specs.declared.HistRef.{HistRef}
 use Rattle.values.specs.declared.FrontRead.{FrontRead}
 use Rattle.values.specs.declared.KeyRead.{KeyRead}
@@ -28,14 +29,14 @@ use Rattle.records.specs.declared.ValRead.{ValRead}
 use Rattle.records.specs.declared.Rec.{Rec}
 use Rattle.records.specs.declared.RecRead.{RecRead}
 use Rattle.records.specs.Records as records-specs
-use Rattle.records.specs.Records.{slotAt, keyWhole, keyIn, farOf, valIn, recOf, recVal, recKey, recIn, recSlot, recAt}
+use Rattle.records.specs.Records.{slotAt, keyWhole, keyIn, remoteOf, valIn, recOf, recVal, recKey, recIn, recSlot, recAt}
 use Rattle.records.proofs.Inside.{val-no}
 use Rattle.records.proofs.Places.{key-no, inline-place, remote-place}
 
 -- ---- the numbers of a value
 
 abbrev NarrowFront : FrontRead → Type 0
-NarrowFront (FrontRead.Front h far q) = h .count < 256 ^ 4
+NarrowFront (FrontRead.Front h at-remote q) = h .count < 256 ^ 4
 NarrowFront FrontRead.Bad = Unit {0}
 
 abbrev NarrowVal : Val → Type 0
@@ -44,11 +45,11 @@ NarrowVal (Val.Remote h a n next) = (h .count < 256 ^ 4) × (a .0 < 256 ^ 8)
 NarrowVal Val.Bad = Unit {0}
 
 module _ (s : List ℕ) (y : Bytes s) where
-  ref-narrow : (at : ℕ) (far : Bool) → NarrowFront (refAt s at far)
+  ref-narrow : (at : ℕ) (at-remote : Bool) → NarrowFront (refAt s at at-remote)
   unfolding refAt
-  ref-narrow at far = go (leb (at + 14) (length s)) refl (eqb (leAt 4 s (at + 10)) 0)
+  ref-narrow at at-remote = go (leb (at + 14) (length s)) refl (eqb (leAt 4 s (at + 10)) 0)
     where
-      go : (t : Bool) → leb (at + 14) (length s) ≡ t → (u : Bool) → NarrowFront (cond t (cond u FrontRead.Bad (FrontRead.Front (histOf (leAt 8 s at) (leAt 2 s (at + 8)) (leAt 4 s (at + 10))) far (at + 14))) FrontRead.Bad)
+      go : (t : Bool) → leb (at + 14) (length s) ≡ t → (u : Bool) → NarrowFront (cond t (cond u FrontRead.Bad (FrontRead.Front (histOf (leAt 8 s at) (leAt 2 s (at + 8)) (leAt 4 s (at + 10))) at-remote (at + 14))) FrontRead.Bad)
       go true e true = tt
       go true e false = leAt-lt s (at + 10) 4 (omega (arith, leb-true (at + 14) (length s) e)) y
       go false e u = tt
@@ -65,7 +66,7 @@ module _ (s : List ℕ) (y : Bytes s) where
       go false b c d = tt
 
   of-narrow : (f : FrontRead) → NarrowFront f → NarrowVal (valOf s f)
-  of-narrow (FrontRead.Front h far at) k = go (leb (at + 4) (length s)) (leb (leAt 4 s at) 65536) far (leb (at + 12) (length s)) refl (leb (at + 4 + leAt 4 s at) (length s))
+  of-narrow (FrontRead.Front h at-remote at) k = go (leb (at + 4) (length s)) (leb (leAt 4 s at) maxValue) at-remote (leb (at + 12) (length s)) refl (leb (at + 4 + leAt 4 s at) (length s))
     where
       go : (a b c d : Bool) → leb (at + 12) (length s) ≡ d → (e : Bool) → NarrowVal (cond a (cond b (cond c (cond d (Val.Remote h (addrOf (leAt 8 s (at + 4))) (leAt 4 s at) (at + 12)) Val.Bad) (cond e (Val.Inline h (at + 4) (leAt 4 s at) (at + 4 + leAt 4 s at)) Val.Bad)) Val.Bad) Val.Bad)
       go true true true true q e = (k, leAt-lt s (at + 4) 8 (omega (arith, leb-true (at + 12) (length s) q)) y)
@@ -87,7 +88,7 @@ bytes-front s n y = bytes-part s 0 n y
 -- ---- a value of a page
 
 record ValHeld (s : List ℕ) (h : HistRef) (p n : ℕ) (a : Addr) : Type 0 where
-  small : n ≤ 65536
+  small : n ≤ maxValue
   held : (a .0 ≡ 0 → ⊥) → remoteAt s a n ≡ RemoteRead.At p
   word : a .0 < 256 ^ 8
   count : h .count < 256 ^ 4
@@ -99,14 +100,14 @@ val-held s y b at h p n a next e = go (valAt (take (b .end) s) at (eqb (b .kind)
     y′ : Bytes (take (b .end) s)
     y′ = bytes-front s (b .end) y
 
-    far : (h′ : HistRef) (a′ : Addr) (n′ next′ : ℕ) → n′ ≤ 65536 → (h′ .count < 256 ^ 4) × (a′ .0 < 256 ^ 8) → (r : RemoteRead) → remoteAt s a′ n′ ≡ r → farOf h′ a′ n′ next′ r ≡ ValRead.Is h p n a next → ValHeld s h p n a
-    far h′ a′ n′ next′ l k (RemoteRead.At q) w e′ =
+    at-remote : (h′ : HistRef) (a′ : Addr) (n′ next′ : ℕ) → n′ ≤ maxValue → (h′ .count < 256 ^ 4) × (a′ .0 < 256 ^ 8) → (r : RemoteRead) → remoteAt s a′ n′ ≡ r → remoteOf h′ a′ n′ next′ r ≡ ValRead.Is h p n a next → ValHeld s h p n a
+    at-remote h′ a′ n′ next′ l k (RemoteRead.At q) w e′ =
         let x1 : h′ ≡ h = cc in
         let x2 : q ≡ p = cc in
         let x3 : n′ ≡ n = cc in
         let x4 : a′ ≡ a = cc in
         rw (← x1, ← x2, ← x3, ← x4) (record { small = l; held = λ z. w; word = k .1; count = k .0 })
-    far h′ a′ n′ next′ l k RemoteRead.Bad w e′ = absurd (val-no h p n a next e′)
+    at-remote h′ a′ n′ next′ l k RemoteRead.Bad w e′ = absurd (val-no h p n a next e′)
 
     go : (v : Val) → valAt (take (b .end) s) at (eqb (b .kind) 0) ≡ v → records-specs.valOf s v ≡ ValRead.Is h p n a next → ValHeld s h p n a
     go (Val.Inline h′ p′ n′ next′) q e′ =
@@ -118,26 +119,26 @@ val-held s y b at h p n a next e = go (valAt (take (b .end) s) at (eqb (b .kind)
         rw (← x1, ← x3, ← x4) (record { small = k .small; held = λ g. absurd (g refl); word = omega arith; count = z })
     go (Val.Remote h′ a′ n′ next′) q e′ =
         let k = remote-place (take (b .end) s) at (eqb (b .kind) 0) h′ a′ n′ next′ q in
-        far h′ a′ n′ next′ (k .small) (val-narrow (take (b .end) s) y′ at (eqb (b .kind) 0) (Val.Remote h′ a′ n′ next′) q) (remoteAt s a′ n′) refl e′
+        at-remote h′ a′ n′ next′ (k .small) (val-narrow (take (b .end) s) y′ at (eqb (b .kind) 0) (Val.Remote h′ a′ n′ next′) q) (remoteAt s a′ n′) refl e′
     go Val.Bad q e′ = absurd (val-no h p n a next e′)
 
 -- ---- a record of a page
 
 -- "whole key at most 4,096"
-key-whole : (s : List ℕ) (b : Body) (at v r n : ℕ) → keyIn s b at ≡ KeyRead.Key v r n → b .«prefix_len» + n ≤ 4096
+key-whole : (s : List ℕ) (b : Body) (at v r n : ℕ) → keyIn s b at ≡ KeyRead.Key v r n → b .«prefix_len» + n ≤ maxKey
 unfolding keyIn
 key-whole s b at v r n e = go (keyAt (take (b .end) s) at (b .kind)) e
   where
-    go : (k : KeyRead) → keyWhole b k ≡ KeyRead.Key v r n → b .«prefix_len» + n ≤ 4096
+    go : (k : KeyRead) → keyWhole b k ≡ KeyRead.Key v r n → b .«prefix_len» + n ≤ maxKey
     go (KeyRead.Key v′ r′ n′) e′ =
-        let a1 = ask (leb (b .«prefix_len» + n′) 4096) _ KeyRead.Bad (KeyRead.Key v r n) (key-no v r n) e′ in
+        let a1 = ask (leb (b .«prefix_len» + n′) maxKey) _ KeyRead.Bad (KeyRead.Key v r n) (key-no v r n) e′ in
         let z : n′ ≡ n = cc in
-        omega (arith, leb-true (b .«prefix_len» + n′) 4096 (a1 .0))
+        omega (arith, leb-true (b .«prefix_len» + n′) maxKey (a1 .0))
     go KeyRead.Bad e′ = absurd (key-no v r n e′)
 
 pub record RecHeld (s : List ℕ) (b : Body) (r : Rec) : Type 0 where
-  pub whole : b .«prefix_len» + r .«rest_len» ≤ 4096
-  pub small : r .«val_len» ≤ 65536
+  pub whole : b .«prefix_len» + r .«rest_len» ≤ maxKey
+  pub small : r .«val_len» ≤ maxValue
   pub held : (r .remote .0 ≡ 0 → ⊥) → remoteAt s (r .remote) (r .«val_len») ≡ RemoteRead.At (r .«val_at»)
   pub word : r .remote .0 < 256 ^ 8
   pub count : r .hist .count < 256 ^ 4
@@ -149,14 +150,14 @@ rec-in-held s y b at r e = go (keyIn s b at) refl e
     no : RecRead.Bad ≡ RecRead.Is r → ⊥
     no z = let x : _≡_ {A = ℕ} 0 1 = cc in omega arith
 
-    val : (v ra rn : ℕ) → b .«prefix_len» + rn ≤ 4096 → (w : ValRead) → valIn s b (ra + rn) ≡ w → recVal at v ra rn w ≡ RecRead.Is r → RecHeld s b r
+    val : (v ra rn : ℕ) → b .«prefix_len» + rn ≤ maxKey → (w : ValRead) → valIn s b (ra + rn) ≡ w → recVal at v ra rn w ≡ RecRead.Is r → RecHeld s b r
     val v ra rn k (ValRead.Is h va vn rem next) q e′ =
         let x : recOf at v ra rn h va vn rem next ≡ r = cc in
         let z = val-held s y b (ra + rn) h va vn rem next q in
         rw (← x) (record { whole = k; small = z .small; held = z .held; word = z .word; count = z .count })
     val v ra rn k ValRead.Bad q e′ = absurd (no e′)
 
-    kind : (v ra rn : ℕ) → b .«prefix_len» + rn ≤ 4096 → (t : Bool) → cond t (cond (leb (ra + rn + 8) (b .end)) (RecRead.Is (recOf at v ra rn noHist (ra + rn) 8 (addr 0) (ra + rn + 8))) RecRead.Bad) (recVal at v ra rn (valIn s b (ra + rn))) ≡ RecRead.Is r → RecHeld s b r
+    kind : (v ra rn : ℕ) → b .«prefix_len» + rn ≤ maxKey → (t : Bool) → cond t (cond (leb (ra + rn + 8) (b .end)) (RecRead.Is (recOf at v ra rn noHist (ra + rn) 8 (addr 0) (ra + rn + 8))) RecRead.Bad) (recVal at v ra rn (valIn s b (ra + rn))) ≡ RecRead.Is r → RecHeld s b r
     kind v ra rn k true q =
         let a1 = ask (leb (ra + rn + 8) (b .end)) _ RecRead.Bad (RecRead.Is r) no q in
         let x : recOf at v ra rn noHist (ra + rn) 8 (addr 0) (ra + rn + 8) ≡ r = cc in

@@ -16,18 +16,19 @@ use Rattle.frames.specs.declared.Opened.{Opened}
 use Rattle.frames.specs.Layout.{pageId, Inside}
 use Rattle.records.specs.declared.Rec.{Rec}
 use Rattle.records.specs.declared.RecRead.{RecRead}
-use Rattle.records.specs.Records.{recAt, verIn}
+use Rattle.values.specs.Keys.{verIn}
+use Rattle.records.specs.Records.{recAt}
 use Rattle.records.proofs.Inside.{rest-part, val-part}
 use Rattle.pages.specs.declared.Place.{Place}
-use Rattle.pages.specs.Edges.{partIn}
+use Rattle.pages.specs.Boundaries.{partIn}
 use Rattle.pages.specs.Sound.{historyAt, chainFrom, entered, headOk}
 use Rattle.pages.specs.Meaning.{oldsFrom, prefixOf, keyOf, headOf, childOf, rowsOf, rowsFrom}
 use Rattle.pages.proofs.Olds.{history-inside}
 use Rattle.pages.proofs.Given.{head-given, link-given}
 use Rattle.pages.proofs.Rows.{Good}
-use Rattle.walks.specs.declared.Past.{Past}
+use Rattle.walks.specs.declared.OldPlace.{OldPlace}
 use Rattle.walks.specs.declared.Entered.{Entered}
-use Rattle.walks.specs.Walk.{sheetOf, pastOver, walkOf, kindOfWay, movedOf, behindOf, itemOf, restOf, enterAt}
+use Rattle.walks.specs.Walk.{sheetOf, olderOn, walkOf, kindOfWay, movedOf, behindOf, itemOf, restOf, enterAt}
 use Rattle.walks.specs.Listed.{Entry, entryOf, olderEntries, entriesOf, WalksTo, leadOf, LeadsTo}
 use Rattle.walks.proofs.Steps.{step-end, step-old, next-old, enter-none, enter-in, step-head, step-branch}
 
@@ -44,10 +45,10 @@ module _ (s : List ℕ) (pre : List ℕ) (b : Body) (i : Inside s b) (j : ℕ) (
 
 -- ---- the old versions of a head, and then what follows
 
-module _ (s : List ℕ) (pre : List ℕ) (b : Body) (way : ℕ) (at n : ℕ) (key : Place) (es : List Entry) (f : (p : Past) → p .left ≡ 0 → WalksTo s pre (walkOf (sheetOf b) way at n key p) es) where
-  olds-walk : (k : ℕ) (h : Addr) (d : Body) (i : ℕ) (t : Ver) → historyAt s h ≡ Opened.Is d → chainFrom s k h i t ≡ true → WalksTo s pre (walkOf (sheetOf b) way at n key (pastOver d i k)) (olderEntries (pre ++ partIn s key) (oldsFrom s k h i) ++ es)
+module _ (s : List ℕ) (pre : List ℕ) (b : Body) (way : ℕ) (at n : ℕ) (key : Place) (es : List Entry) (f : (p : OldPlace) → p .left ≡ 0 → WalksTo s pre (walkOf (sheetOf b) way at n key p) es) where
+  olds-walk : (k : ℕ) (h : Addr) (d : Body) (i : ℕ) (t : Ver) → historyAt s h ≡ Opened.Is d → chainFrom s k h i t ≡ true → WalksTo s pre (walkOf (sheetOf b) way at n key (olderOn d i k)) (olderEntries (pre ++ partIn s key) (oldsFrom s k h i) ++ es)
   unfolding oldsFrom olderEntries WalksTo behindOf
-  olds-walk zero h d i t o c = f (pastOver d i 0) refl
+  olds-walk zero h d i t o c = f (olderOn d i 0) refl
   olds-walk (suc k) h d i t o c =
       let g = link-given s k h i t c in
       let x = next-old s key h d o i k (g .page) (g .slot) (g .rec) (g .read) in
@@ -55,8 +56,8 @@ module _ (s : List ℕ) (pre : List ℕ) (b : Body) (way : ℕ) (at n : ℕ) (ke
       let ih = olds-walk k (g .page) (x .body) (g .slot + 1) (verIn s (g .rec .«ver_at»)) (x .opened) (g .more) in
       rw (g .read) (
         itemOf s key (g .rec) (x .names),
-        walkOf (sheetOf b) way at n key (pastOver (x .body) (g .slot + 1) k),
-        step-old s (walkOf (sheetOf b) way at n key (pastOver d i (suc k))) (itemOf s key (g .rec) (x .names)) (pastOver (x .body) (g .slot + 1) k) (omega arith) (x .next),
+        walkOf (sheetOf b) way at n key (olderOn (x .body) (g .slot + 1) k),
+        step-old s (walkOf (sheetOf b) way at n key (olderOn d i (suc k))) (itemOf s key (g .rec) (x .names)) (olderOn (x .body) (g .slot + 1) k) (omega arith) (x .next),
         old-entry s pre (x .body) (v .inside) (g .slot) (g .rec) (x .read) key (x .names),
         ih,
       )
@@ -64,12 +65,12 @@ module _ (s : List ℕ) (pre : List ℕ) (b : Body) (way : ℕ) (at n : ℕ) (ke
 -- ---- heads, either way
 
 -- one head, and then what follows
-module _ (s : List ℕ) (b : Body) (i : Inside s b) (way p n : ℕ) (k : kindOfWay way ≡ b .kind) (t2 : way ≡ 2 → ⊥) (key : Place) (was : Past) (z : was .left ≡ 0) (r : Rec) (e : recAt s b p ≡ RecRead.Is r) (es : List Entry) (f : (q : Past) → q .left ≡ 0 → WalksTo s (prefixOf s b) (walkOf (sheetOf b) way (movedOf way p) n (restOf r) q) es) where
+module _ (s : List ℕ) (b : Body) (i : Inside s b) (way p n : ℕ) (k : kindOfWay way ≡ b .kind) (t2 : way ≡ 2 → ⊥) (key : Place) (was : OldPlace) (z : was .left ≡ 0) (r : Rec) (e : recAt s b p ≡ RecRead.Is r) (es : List Entry) (f : (q : OldPlace) → q .left ≡ 0 → WalksTo s (prefixOf s b) (walkOf (sheetOf b) way (movedOf way p) n (restOf r) q) es) where
   abbrev headFirst : List Entry → List Entry
   headFirst rest = (record { key = keyOf s b r; ver = verIn s (r .«ver_at»); value = part s (r .«val_at») (r .«val_len») }) ∷ rest
 
   -- the head's own step
-  first : (q : Past) → enterAt s (r .hist) was ≡ Entered.Is q → (rest : List Entry) → WalksTo s (prefixOf s b) (walkOf (sheetOf b) way (movedOf way p) n (restOf r) q) rest → WalksTo s (prefixOf s b) (walkOf (sheetOf b) way p (suc n) key was) (headFirst rest)
+  first : (q : OldPlace) → enterAt s (r .hist) was ≡ Entered.Is q → (rest : List Entry) → WalksTo s (prefixOf s b) (walkOf (sheetOf b) way (movedOf way p) n (restOf r) q) rest → WalksTo s (prefixOf s b) (walkOf (sheetOf b) way p (suc n) key was) (headFirst rest)
   unfolding WalksTo
   first q o rest w = (
     itemOf s (restOf r) r (r .hist .page),
@@ -93,7 +94,7 @@ module _ (s : List ℕ) (b : Body) (i : Inside s b) (way p n : ℕ) (k : kindOfW
       by false t d =
           let x = enter-in s (r .hist) was (eqb-false (r .hist .count) 0 t) (rw t at (d .0)) in
           let w = olds-walk s (prefixOf s b) b way (movedOf way p) n (restOf r) es f (r .hist .count) (r .hist .page) (x .0) (r .hist .slot) (verIn s (r .«ver_at»)) (x .1) (d .1) in
-          first (pastOver (x .0) (r .hist .slot) (r .hist .count)) (x .2) _ (rw (rest-part s b i p r e) at w)
+          first (olderOn (x .0) (r .hist .slot) (r .hist .count)) (x .2) _ (rw (rest-part s b i p r e) at w)
 
 -- the rows along a way: n of them from position p on
 unfoldable pub rowsWay : {A : Type 0} → (Rec → A) → List ℕ → Body → ℕ → ℕ → ℕ → List A
@@ -106,14 +107,14 @@ Within e way zero p = Unit {0}
 Within e way (suc n) p = (p < e) × Within e way n (movedOf way p)
 
 module _ (s : List ℕ) (b : Body) (i : Inside s b) (good : (j : ℕ) → j < b .elems → Good s b j) (way : ℕ) (k : kindOfWay way ≡ b .kind) where
-  pub heads-walk : (way ≡ 2 → ⊥) → (n p : ℕ) → Within (b .elems) way n p → (key : Place) (was : Past) → was .left ≡ 0 → WalksTo s (prefixOf s b) (walkOf (sheetOf b) way p n key was) (entriesOf (rowsWay (headOf s b) s b way n p))
+  pub heads-walk : (way ≡ 2 → ⊥) → (n p : ℕ) → Within (b .elems) way n p → (key : Place) (was : OldPlace) → was .left ≡ 0 → WalksTo s (prefixOf s b) (walkOf (sheetOf b) way p n key was) (entriesOf (rowsWay (headOf s b) s b way n p))
   unfolding rowsWay entriesOf WalksTo headOf
   heads-walk t zero p l key was z = step-end s (walkOf (sheetOf b) way p 0 key was) z refl
   heads-walk t (suc n) p l key was z =
       let g = good p (l .0) in
       rw (g .read) (head-walk s b i way p n k t key was z (g .rec) (g .read) (entriesOf (rowsWay (headOf s b) s b way n (movedOf way p))) (λ q z′. heads-walk t n (movedOf way p) (l .1) (restOf (g .rec)) q z′) (g .ok))
 
-  pub branches-walk : way ≡ 2 → (n p : ℕ) → Within (b .elems) way n p → (key : Place) (was : Past) → was .left ≡ 0 → LeadsTo s (prefixOf s b) (walkOf (sheetOf b) way p n key was) (rowsWay (childOf s b) s b way n p)
+  pub branches-walk : way ≡ 2 → (n p : ℕ) → Within (b .elems) way n p → (key : Place) (was : OldPlace) → was .left ≡ 0 → LeadsTo s (prefixOf s b) (walkOf (sheetOf b) way p n key was) (rowsWay (childOf s b) s b way n p)
   unfolding rowsWay LeadsTo childOf leadOf
   branches-walk t zero p l key was z = step-end s (walkOf (sheetOf b) way p 0 key was) z refl
   branches-walk t (suc n) p l key was z =

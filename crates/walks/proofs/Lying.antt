@@ -29,8 +29,8 @@ abbrev pub Rising : ℕ → Sheet → Bool
 Rising len v = leb (v .at) (v .end) && leb (v .end) len && leb (v .«prefix_len») (v .front)
 
 -- what the differences say is what the sum says
-pub sum-is : (at el front end : ℕ) → at ≤ end → el ≤ (end - at) / 4 → 40 ≤ end - at - 4 * el → leb front (end - at - 4 * el - 40) ≡ leb (at + 40 + 4 * el + front) end
-sum-is at el front end h1 h2 h3 = leb-same front (end - at - 4 * el - 40) (at + 40 + 4 * el + front) end (λ e. omega arith) (λ e. omega arith)
+pub sum-is : (at el front end : ℕ) → at ≤ end → el ≤ (end - at) / 4 → baseLen ≤ end - at - 4 * el → leb front (end - at - 4 * el - baseLen) ≡ leb (at + baseLen + 4 * el + front) end
+sum-is at el front end h1 h2 h3 = leb-same front (end - at - 4 * el - baseLen) (at + baseLen + 4 * el + front) end (λ e. omega arith) (λ e. omega arith)
 
 module _ (len : ℕ) (v : Sheet) where
   pub fits-off : Rising len v ≡ false → fitsIn len v ≡ false

@@ -20,13 +20,13 @@ use Rattle.frames.proofs.Frames.{open-inside}
 use Rattle.records.specs.declared.Rec.{Rec}
 use Rattle.records.specs.declared.RecRead.{RecRead}
 use Rattle.records.specs.Records.{recAt}
-use Rattle.pages.specs.Edges.{place}
+use Rattle.pages.specs.Boundaries.{place}
 use Rattle.pages.specs.Meaning.{Head, Child, leaf, index, Page, says, prefixOf, headOf, childOf, rowsFrom, headsFrom, childrenFrom, pageSays, meaning}
 use Rattle.pages.proofs.Given.{Sound, sound-given, every-slot}
 use Rattle.pages.proofs.Rows.{Good, slot-good, rows-many, rows-drop, rows-take}
 use Rattle.walks.specs.declared.Walk.{Walk}
 use Rattle.walks.specs.declared.Begun.{Begun}
-use Rattle.walks.specs.Walk.{sheetOf, pastOver, walkOf, upWay, kindOfWay, upRange, downRange, forwardAt, backwardAt}
+use Rattle.walks.specs.Walk.{sheetOf, olderOn, walkOf, upWay, kindOfWay, upRange, downRange, forwardAt, backwardAt}
 use Rattle.walks.specs.Listed.{Entry, entriesOf, WalksTo, LeadsTo, Lists, Leads}
 use Rattle.walks.proofs.Steps.{step-end}
 use Rattle.walks.proofs.Listing.{rowsWay, heads-walk, branches-walk, up-within, up-rows, down-within, down-rows}
@@ -110,7 +110,7 @@ unfolding upWay
 up-index k e = rw e
 
 begins : Body → ℕ → ℕ → ℕ → Walk
-begins b way at n = walkOf (sheetOf b) way at n (place 0 0) (pastOver b 0 0)
+begins b way at n = walkOf (sheetOf b) way at n (place 0 0) (olderOn b 0 0)
 
 module _ (s : List ℕ) (a : Addr) (b : Body) (o : openAt s a ≡ Opened.Is b) where
   up-begins : (b .kind ≡ 2 → ⊥) → (i j : ℕ) → j ≤ b .elems → forwardAt s a i j ≡ Begun.Is (begins b (upWay (b .kind)) i (j - i))
@@ -185,11 +185,11 @@ module _ (s : List ℕ) (a : Addr) (p : Page) (g : Sound s a p) where
 
   heads-up : g .body .kind ≡ 0 → (i n : ℕ) → i + n ≤ g .body .elems → WalksTo s (p .prefix) (begins (g .body) 0 i n) (entriesOf (take n (drop i (headsFrom s (g .body) (g .body .elems) 0))))
   unfolding begins
-  heads-up k i n l = rw (stretch (headOf s (g .body)) s (g .body) every i n l, ← prefix-is, ← up-rows 0 (λ q. omega arith) (headOf s (g .body)) s (g .body) n i) (heads-walk s (g .body) inside good 0 (zero-kind k) (λ q. omega arith) n i (up-within 0 (λ q. omega arith) (g .body .elems) n i l) (place 0 0) (pastOver (g .body) 0 0) refl)
+  heads-up k i n l = rw (stretch (headOf s (g .body)) s (g .body) every i n l, ← prefix-is, ← up-rows 0 (λ q. omega arith) (headOf s (g .body)) s (g .body) n i) (heads-walk s (g .body) inside good 0 (zero-kind k) (λ q. omega arith) n i (up-within 0 (λ q. omega arith) (g .body .elems) n i l) (place 0 0) (olderOn (g .body) 0 0) refl)
 
   children-up : g .body .kind ≡ 1 → (i n : ℕ) → i + n ≤ g .body .elems → LeadsTo s (p .prefix) (begins (g .body) 2 i n) (take n (drop i (childrenFrom s (g .body) (g .body .elems) 0)))
   unfolding begins
-  children-up k i n l = rw (stretch (childOf s (g .body)) s (g .body) every i n l, ← prefix-is, ← up-rows 2 (λ q. omega arith) (childOf s (g .body)) s (g .body) n i) (branches-walk s (g .body) inside good 2 (one-kind k) refl n i (up-within 2 (λ q. omega arith) (g .body .elems) n i l) (place 0 0) (pastOver (g .body) 0 0) refl)
+  children-up k i n l = rw (stretch (childOf s (g .body)) s (g .body) every i n l, ← prefix-is, ← up-rows 2 (λ q. omega arith) (childOf s (g .body)) s (g .body) n i) (branches-walk s (g .body) inside good 2 (one-kind k) refl n i (up-within 2 (λ q. omega arith) (g .body .elems) n i l) (place 0 0) (olderOn (g .body) 0 0) refl)
 
   heads-down : g .body .kind ≡ 0 → (i j : ℕ) → j ≤ i → i < g .body .elems → WalksTo s (p .prefix) (begins (g .body) 1 i (i - j + 1)) (entriesOf (reverse (take (i - j + 1) (drop j (headsFrom s (g .body) (g .body .elems) 0)))))
   unfolding begins
@@ -197,16 +197,16 @@ module _ (s : List ℕ) (a : Addr) (p : Page) (g : Sound s a p) where
       let n = i - j + 1 in
       let e : i + 1 - n ≡ j = omega arith in
       let d : rowsWay (headOf s (g .body)) s (g .body) 1 n i ≡ reverse (rowsFrom (headOf s (g .body)) s (g .body) n j) = rw e at (down-rows (headOf s (g .body)) s (g .body) every n i (omega arith) h) in
-      rw (stretch (headOf s (g .body)) s (g .body) every j n (omega arith), ← prefix-is, ← d) (heads-walk s (g .body) inside good 1 (one-zero-kind k) (λ q. omega arith) n i (down-within (g .body .elems) n i (omega arith) h) (place 0 0) (pastOver (g .body) 0 0) refl)
+      rw (stretch (headOf s (g .body)) s (g .body) every j n (omega arith), ← prefix-is, ← d) (heads-walk s (g .body) inside good 1 (one-zero-kind k) (λ q. omega arith) n i (down-within (g .body .elems) n i (omega arith) h) (place 0 0) (olderOn (g .body) 0 0) refl)
 
   -- a walk with no heads lists nothing
   none-listed : (way i n : ℕ) → n ≡ 0 → WalksTo s (p .prefix) (begins (g .body) way i n) []
   unfolding begins WalksTo
-  none-listed way i n e = step-end s (walkOf (sheetOf (g .body)) way i n (place 0 0) (pastOver (g .body) 0 0)) refl e
+  none-listed way i n e = step-end s (walkOf (sheetOf (g .body)) way i n (place 0 0) (olderOn (g .body) 0 0)) refl e
 
   none-led : (way i n : ℕ) → n ≡ 0 → LeadsTo s (p .prefix) (begins (g .body) way i n) []
   unfolding begins LeadsTo
-  none-led way i n e = step-end s (walkOf (sheetOf (g .body)) way i n (place 0 0) (pastOver (g .body) 0 0)) refl e
+  none-led way i n e = step-end s (walkOf (sheetOf (g .body)) way i n (place 0 0) (olderOn (g .body) 0 0)) refl e
 
 -- ---- THE LAWS: what the page at an address says, a walk lists
 

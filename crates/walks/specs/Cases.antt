@@ -12,9 +12,9 @@ use Rattle.lengths.specs.Leb128.{carry, dec, within, readLen}
 use Rattle.frames.specs.declared.Addr.{Addr}
 use Rattle.frames.specs.Layout.{addr, boxFields, boxOk, boxAt, baseFields, baseOk, pageAt, kindOf, bodyOf, openAt, remoteAt}
 use Rattle.frames.specs.Cases.{p7}
-use Rattle.values.specs.Keys.{skipOf, keyAt}
+use Rattle.values.specs.Keys.{verIn, skipOf, keyAt}
 use Rattle.values.specs.Vals.{refAt, frontAt, valAt}
-use Rattle.records.specs.Records.{slotAt, verIn, keyIn, valIn, recIn, recAt}
+use Rattle.records.specs.Records.{slotAt, keyIn, valIn, recIn, recAt}
 use Rattle.pages.specs.Sound.{historyAt}
 use Rattle.walks.specs.declared.Begun.{Begun}
 use Rattle.walks.specs.declared.Step.{Step}
@@ -27,23 +27,23 @@ pub record Told : Type 0 where
   pub entry : Entry
   pub names : Addr
 
-pub data Run : Type 0 where
-  ended : Run
-  open-still : Run
-  refused : ℕ → Run
-  then : Told → Run → Run
+pub data StepsTold : Type 0 where
+  ended : StepsTold
+  open-still : StepsTold
+  refused : ℕ → StepsTold
+  then : Told → StepsTold → StepsTold
 
-abbrev runOf : List ℕ → (Step → Run) → Step → Run
+abbrev runOf : List ℕ → (Step → StepsTold) → Step → StepsTold
 runOf s go (Step.Found x w) = then (record { entry = entryOf s [] x; names = x .named }) (go (stepAt s w))
 runOf s go (Step.Leads x w) = open-still
 runOf s go Step.End = ended
 runOf s go (Step.Refused r) = refused (stepNumber (Step.Refused r))
 
-unfoldable pub runFrom : ℕ → List ℕ → Step → Run
+unfoldable pub runFrom : ℕ → List ℕ → Step → StepsTold
 runFrom zero s x = open-still
 runFrom (suc n) s x = runOf s (runFrom n s) x
 
-abbrev pub begunRun : List ℕ → Begun → Run
+abbrev pub begunRun : List ℕ → Begun → StepsTold
 begunRun s (Begun.Is w) = runFrom 4 s (stepAt s w)
 begunRun s (Begun.Refused r) = refused (begunNumber (Begun.Refused r))
 

@@ -4,12 +4,15 @@ ghost use mathlib.Core.Path.{_≡_};
 ghost use Prim.Native.Nat.{_+_, _*_, _-_, _≤_, _<_, _^_};
 ghost use lib.ListN.{length};
 ghost use Rattle.spans.specs.Span.{partOr};
+ghost use Rattle.frames.specs.Layout.{baseLen};
 ghost use Rattle.walks.specs.Turned.{turnedAt};
 ghost use Rattle.walks.specs.Aged.{keyOld, agedIn, agedAt};
-ghost use Rattle.walks.specs.Walk.{sheetOf, pastOf, pastOver, upWay, fitsIn, bodyIn, bodyOf, readAt, kindOfWay, upRange, downRange, begunOf, forwardAt, backwardAt, movedOf, onOf, behindOf, itemOf, nextIn, nextOld, enterAt, headStep, stepAt};
+ghost use Rattle.walks.specs.Walk.{sheetOf, olderOf, olderOn, noOlder, upWay, fitsIn, bodyIn, bodyOf, readAt, kindOfWay, upRange, downRange, begunOf, forwardAt, backwardAt, onOf, behindOf, itemOf, nextIn, nextOld, enterAt, headStep, stepAt};
 use frames::Addr;
 use frames::BaseHeader;
 use frames::Body;
+use frames::NULL_ADDR;
+use frames::NULL_PID;
 use frames::Opened;
 use frames::PageId;
 use frames::Refusal;
@@ -30,7 +33,7 @@ pub struct Sheet {
 }
 
 // What is left of a head's history: the page that it stands in, the page linked to, the next slot, how many are left.
-pub struct Past {
+pub struct OldPlace {
     pub page: Sheet,
     pub link: Addr,
     pub slot: usize,
@@ -44,7 +47,7 @@ pub struct Walk {
     pub pos: usize,
     pub heads: usize,
     pub key: Place,
-    pub past: Past,
+    pub older: OldPlace,
 }
 
 // A record of a leaf: its places in the arena, its version, its remote frame and the history page that the step entered, or 0.
@@ -83,12 +86,6 @@ enum Range {
     Outside,
 }
 
-fn less(a: usize, b: usize) -> usize
-    ensures { λ r. ⌜ r ≡ a - b ⌝ }
-{
-    if b <= a { a - b } else { 0 }
-}
-
 // The positions from begin to end, end not included.
 fn up(begin: usize, end: usize, elems: usize) -> Range
     ensures { λ r. ⌜ r ≡ upRange begin end elems ⌝ }
@@ -96,7 +93,7 @@ fn up(begin: usize, end: usize, elems: usize) -> Range
     if elems < end {
         return Range::Outside;
     }
-    Range::Heads(begin, less(end, begin))
+    Range::Heads(begin, spans::less(end, begin))
 }
 
 // The positions from start down to end, both included.
@@ -113,7 +110,7 @@ fn down(start: i64, end: i64, elems: usize) -> Range
     if elems <= from {
         return Range::Outside;
     }
-    Range::Heads(from, less(from, end as usize) + 1)
+    Range::Heads(from, spans::less(from, end as usize) + 1)
 }
 
 fn sheet_of(b: Body) -> Sheet
@@ -129,16 +126,34 @@ fn sheet_of(b: Body) -> Sheet
     }
 }
 
-fn past_over(b: Body, slot: usize, left: usize) -> Past
+fn older_on(b: Body, slot: usize, left: usize) -> OldPlace
     requires { ⌜ b .«lo_len» + b .«hi_len» < 2 ^ 64 ⌝ }
-    ensures { λ r. ⌜ r ≡ pastOver b slot left ⌝ }
+    ensures { λ r. ⌜ r ≡ olderOn b slot left ⌝ }
 {
     let link = b.link;
-    Past {
+    OldPlace {
         page: sheet_of(b),
         link: link,
         slot: slot,
         left: left,
+    }
+}
+
+// No history, in no page.
+pub fn no_older() -> OldPlace
+    ensures { λ r. ⌜ r ≡ noOlder ⌝ }
+{
+    OldPlace {
+        page: Sheet {
+            at: 0,
+            elems: 0,
+            front: 0,
+            end: 0,
+            prefix_len: 0,
+        },
+        link: Addr(0),
+        slot: 0,
+        left: 0,
     }
 }
 
@@ -155,7 +170,7 @@ fn walk_over(b: Body, way: usize, r: Range) -> Begun
         pos: pos,
         heads: heads,
         key: Place { at: 0, len: 0 },
-        past: past_over(b, 0, 0),
+        older: older_on(b, 0, 0),
     })
 }
 
@@ -218,7 +233,7 @@ fn fits(len: usize, v: Sheet) -> bool
 }
 
 fn body_in(v: Sheet, kind: u8) -> Body
-    requires { ⌜ v .at + 40 + 4 * v .elems + v .front < 2 ^ 64 ⌝ }
+    requires { ⌜ v .at + baseLen + 4 * v .elems + v .front < 2 ^ 64 ⌝ }
     ensures { λ r. ⌜ r ≡ bodyIn v kind ⌝ }
 {
     Body {
@@ -231,9 +246,9 @@ fn body_in(v: Sheet, kind: u8) -> Body
         prefix_len: v.prefix_len,
         lo_len: v.front,
         hi_len: 0,
-        sibling: PageId(0),
+        sibling: NULL_PID,
         multi: 0,
-        link: Addr(0),
+        link: NULL_ADDR,
     }
 }
 
@@ -255,17 +270,6 @@ pub fn read(s: &[u8], v: Sheet, kind: u8, i: usize) -> RecRead
         return records::rec_at(s, body_in(v, kind), i);
     }
     RecRead::Bad
-}
-
-fn moved(way: usize, pos: usize) -> usize
-    requires { ⌜ pos + 1 < 2 ^ 64 ⌝ }
-    ensures { λ r. ⌜ r ≡ movedOf way pos ⌝ }
-{
-    if way == Walk::DOWN {
-        less(pos, 1)
-    } else {
-        pos + 1
-    }
 }
 
 fn kind_of(way: usize) -> u8
@@ -298,18 +302,18 @@ fn item_of(s: &[u8], key: Place, r: Rec, named: Addr) -> Item
 
 // The next old version, with what is left behind it.
 enum OldStep {
-    Is(Item, Past),
+    Is(Item, OldPlace),
     Bad,
 }
 
 // What a head's history leaves to walk: its page is entered.
 pub enum Entered {
-    Is(Past),
+    Is(OldPlace),
     Bad,
 }
 
 // Without history the walk's past stays; its page is judged otherwise.
-pub fn enter(s: &[u8], h: HistRef, was: Past) -> Entered
+pub fn enter(s: &[u8], h: HistRef, was: OldPlace) -> Entered
     ensures { λ r. ⌜ r ≡ enterAt (now (s .entry)) h was ⌝ }
 {
     if h.count == 0 {
@@ -321,27 +325,27 @@ pub fn enter(s: &[u8], h: HistRef, was: Past) -> Entered
     };
     let slot = h.slot as usize;
     if slot < b.elems {
-        return Entered::Is(past_over(b, slot, h.count as usize));
+        return Entered::Is(older_on(b, slot, h.count as usize));
     }
     Entered::Bad
 }
 
 // Where the next old version stands, and the history page entered, or 0.
 enum Turned {
-    Is(Past, Addr),
+    Is(OldPlace, Addr),
     Bad,
 }
 
-impl Past {
+impl OldPlace {
     // Behind the old version at the slot.
-    fn after(self) -> Past
+    fn after(self) -> OldPlace
         requires { ⌜ self .slot + 1 < 2 ^ 64 ⌝ }
         requires { ⌜ 0 < self .left ⌝ }
-        ensures { λ r. ⌜ r ≡ pastOf (self .page) (self .link) (self .slot + 1) (self .left - 1) ⌝ }
+        ensures { λ r. ⌜ r ≡ olderOf (self .page) (self .link) (self .slot + 1) (self .left - 1) ⌝ }
     {
         let page = self.page;
         let link = self.link;
-        Past {
+        OldPlace {
             page: page,
             link: link,
             slot: self.slot + 1,
@@ -367,13 +371,13 @@ impl Past {
     {
         let page = self.page;
         if self.slot != page.elems {
-            return Turned::Is(self, Addr(0));
+            return Turned::Is(self, NULL_ADDR);
         }
         let link = self.link;
         let Opened::Is(d) = pages::history_at(s, link) else {
             return Turned::Bad;
         };
-        Turned::Is(past_over(d, 0, self.left), link)
+        Turned::Is(older_on(d, 0, self.left), link)
     }
 
     // The old version there.
@@ -381,10 +385,10 @@ impl Past {
         requires { ⌜ 0 < self .left ⌝ }
         ensures { λ r. ⌜ r ≡ nextOld (now (s .entry)) key self ⌝ }
     {
-        let Turned::Is(past, named) = self.turned(s) else {
+        let Turned::Is(older, named) = self.turned(s) else {
             return OldStep::Bad;
         };
-        past.here(s, key, named)
+        older.here(s, key, named)
     }
 }
 
@@ -396,25 +400,25 @@ impl Walk {
     pub const INDEX: usize = 2;
 
     // The walk behind a head: the next position, the head's key and history.
-    fn on(self, key: Place, past: Past) -> Walk
+    fn on(self, key: Place, older: OldPlace) -> Walk
         requires { ⌜ self .pos + 1 < 2 ^ 64 ⌝ }
         requires { ⌜ 0 < self .heads ⌝ }
-        ensures { λ r. ⌜ r ≡ onOf self key past ⌝ }
+        ensures { λ r. ⌜ r ≡ onOf self key older ⌝ }
     {
         let page = self.page;
         Walk {
             page: page,
             way: self.way,
-            pos: moved(self.way, self.pos),
+            pos: spans::onward(self.way == Walk::DOWN, self.pos),
             heads: self.heads - 1,
             key: key,
-            past: past,
+            older: older,
         }
     }
 
     // The walk behind an old version.
-    fn behind(self, past: Past) -> Walk
-        ensures { λ r. ⌜ r ≡ behindOf self past ⌝ }
+    fn behind(self, older: OldPlace) -> Walk
+        ensures { λ r. ⌜ r ≡ behindOf self older ⌝ }
     {
         let page = self.page;
         let key = self.key;
@@ -424,7 +428,7 @@ impl Walk {
             pos: self.pos,
             heads: self.heads,
             key: key,
-            past: past,
+            older: older,
         }
     }
 
@@ -434,7 +438,7 @@ impl Walk {
         ensures { λ r. ⌜ r ≡ headStep (now (s .entry)) self ⌝ }
     {
         let page = self.page;
-        let was = self.past;
+        let was = self.older;
         let RecRead::Is(r) = read(s, page, kind_of(self.way), self.pos) else {
             return Step::Refused(Refusal::BadFrame);
         };
@@ -453,21 +457,21 @@ impl Walk {
             );
         }
         let h = r.hist;
-        let Entered::Is(past) = enter(s, h, was) else {
+        let Entered::Is(older) = enter(s, h, was) else {
             return Step::Refused(Refusal::BadFrame);
         };
         let named = h.page;
-        Step::Found(item_of(s, key, r, named), self.on(key, past))
+        Step::Found(item_of(s, key, r, named), self.on(key, older))
     }
 
     // The record at the walk, with the walk moved on.
     pub fn step(self, s: &[u8]) -> Step
         ensures { λ r. ⌜ r ≡ stepAt (now (s .entry)) self ⌝ }
     {
-        let past = self.past;
-        if 0 < past.left {
+        let older = self.older;
+        if 0 < older.left {
             let key = self.key;
-            let OldStep::Is(item, rest) = past.next(s, key) else {
+            let OldStep::Is(item, rest) = older.next(s, key) else {
                 return Step::Refused(Refusal::BadFrame);
             };
             return Step::Found(item, self.behind(rest));
@@ -483,7 +487,11 @@ impl Walk {
 
 // The next old version by its key alone: its version and slot, and what is left behind it, on the same page.
 pub enum Aged {
-    Is { ver: Ver, slot: usize, rest: Past },
+    Is {
+        ver: Ver,
+        slot: usize,
+        rest: OldPlace,
+    },
     End,
     Bad,
 }
@@ -498,7 +506,7 @@ fn key_old(s: &[u8], v: Sheet, i: usize) -> KeyRead
     KeyRead::Bad
 }
 
-impl Past {
+impl OldPlace {
     fn aged_here(self, s: &[u8]) -> Aged
         requires { ⌜ 0 < self .left ⌝ }
         ensures { λ r. ⌜ r ≡ agedIn (now (s .entry)) self ⌝ }
@@ -526,10 +534,10 @@ impl Past {
         if self.left == 0 {
             return Aged::End;
         }
-        let Turned::Is(past, _) = self.turned(s) else {
+        let Turned::Is(older, _) = self.turned(s) else {
             return Aged::Bad;
         };
-        past.aged_here(s)
+        older.aged_here(s)
     }
 }
 

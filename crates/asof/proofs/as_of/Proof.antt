@@ -23,14 +23,14 @@ enum-known-page c = search needs
 newer-requires : tie.Need-newer-requires
 newer-requires c κs = search needs
 
-past-as-of-requires : tie.Need-past-as-of-requires
-past-as-of-requires c κs = head-inside (now (c .before .before .before .before .before .before .before .before .args .s)) (c .before .before .before .before .before .before .before .before .args .a) (now (c .before .before .before .before .before .before .before .before .args .probe)) _ _ _ _ _ (sym (c .before .before .before .before .before .head-at .ensures) ∙ c .before .before .before .page .given .1)
+older-as-of-requires : tie.Need-older-as-of-requires
+older-as-of-requires c κs = head-inside (now (c .before .before .before .before .before .before .before .before .args .s)) (c .before .before .before .before .before .before .before .before .args .a) (now (c .before .before .before .before .before .before .before .before .args .probe)) _ _ _ _ _ (sym (c .before .before .before .before .before .head-at .ensures) ∙ c .before .before .before .page .given .1)
 
 returns : tie.Need-returns
 unfolding asOfAt
 returns c =
     let n = sym (c .before .before .newer .ensures) ∙ c .before .if1 .taken in
-    c .past-as-of .ensures ∙ ap (headPick (now (c .before .before .before .before .before .before .before .before .before .args .s)) (c .before .before .before .before .before .before .before .before .before .args .v) _ _ _ _ _) (sym n) ∙ ap (asOfHead (now (c .before .before .before .before .before .before .before .before .before .args .s)) (c .before .before .before .before .before .before .before .before .before .args .v)) (sym (sym (c .before .before .before .before .before .before .head-at .ensures) ∙ c .before .before .before .before .page .given .1))
+    c .older-as-of .ensures ∙ ap (headPick (now (c .before .before .before .before .before .before .before .before .before .args .s)) (c .before .before .before .before .before .before .before .before .before .args .v) _ _ _ _ _) (sym n) ∙ ap (asOfHead (now (c .before .before .before .before .before .before .before .before .before .args .s)) (c .before .before .before .before .before .before .before .before .before .args .v)) (sym (sym (c .before .before .before .before .before .before .head-at .ensures) ∙ c .before .before .before .before .page .given .1))
 
 rec-at-requires : tie.Need-rec-at-requires
 rec-at-requires c κs = head-inside (now (c .before .before .before .before .before .before .before .before .args .s)) (c .before .before .before .before .before .before .before .before .args .a) (now (c .before .before .before .before .before .before .before .before .args .probe)) _ _ _ _ _ (sym (c .before .before .before .before .before .head-at .ensures) ∙ c .before .before .before .page .given .1)
@@ -61,7 +61,7 @@ as-of-spec =
     enum-known-reads
     enum-known-page
     newer-requires
-    past-as-of-requires
+    older-as-of-requires
     returns
     rec-at-requires
     handed-requires

@@ -11,10 +11,10 @@ use Rattle.asof.proofs.old_as_of.Statement.{statement}
 use Rattle.asof.proofs.old_as_of.Tie as tie
 
 abbrev Inv-loop : tie.InvT-loop
-Inv-loop s v slot reads past₀ past = oldAsOf s v slot reads (past .left) past ≡ oldAsOf s v slot reads (past₀ .left) past₀
+Inv-loop s v slot reads older₀ older = oldAsOf s v slot reads (older .left) older ≡ oldAsOf s v slot reads (older₀ .left) older₀
 
 abbrev μ-loop : tie.MeasureT-loop
-μ-loop s v slot reads past₀ past = past .left
+μ-loop s v slot reads older₀ older = older .left
 
 loop-holds : tie.Need-loop-holds Inv-loop μ-loop
 loop-holds c = refl
@@ -31,13 +31,13 @@ newer-requires c κs = search needs
 loop-less : tie.Need-loop-less Inv-loop μ-loop
 loop-less c =
     let e = sym (c .before .before .before .before .before .aged .ensures) ∙ c .before .before .before .ver .given .1 in
-    omega (arith, aged-left (now (c .before .before .before .before .before .before .before .before .args .s)) (c .before .before .before .before .before .before .loop .past) _ _ _ e)
+    omega (arith, aged-left (now (c .before .before .before .before .before .before .before .before .args .s)) (c .before .before .before .before .before .before .loop .older) _ _ _ e)
 
 loop-again : tie.Need-loop-again Inv-loop μ-loop
 loop-again c =
     let e = sym (c .before .before .before .before .before .aged .ensures) ∙ c .before .before .before .ver .given .1 in
     let n = sym (c .before .newer .ensures) ∙ c .if1 .taken in
-    sym (old-newer (now (c .before .before .before .before .before .before .before .before .args .s)) (c .before .before .before .before .before .before .before .before .args .v) (c .before .before .before .before .before .before .before .before .args .slot) (c .before .before .before .before .before .before .before .before .args .reads) (c .before .before .before .before .before .before .loop .past) _ _ _ e n) ∙ c .before .before .before .before .before .before .loop .inv
+    sym (old-newer (now (c .before .before .before .before .before .before .before .before .args .s)) (c .before .before .before .before .before .before .before .before .args .v) (c .before .before .before .before .before .before .before .before .args .slot) (c .before .before .before .before .before .before .before .before .args .reads) (c .before .before .before .before .before .before .loop .older) _ _ _ e n) ∙ c .before .before .before .before .before .before .loop .inv
 
 read-requires : tie.Need-read-requires Inv-loop μ-loop
 read-requires c κs = search needs
@@ -49,19 +49,19 @@ returns : tie.Need-returns Inv-loop μ-loop
 returns c =
     let e = sym (c .before .before .before .before .before .before .before .before .aged .ensures) ∙ c .before .before .before .before .before .before .ver .given .1 in
     let n = sym (c .before .before .before .before .newer .ensures) ∙ c .before .before .before .if1 .left in
-    c .handed .ensures ∙ ap (handedOf (c .before .before .before .before .before .before .before .before .before .before .before .args .slot) (c .before .before .before .before .before .before .ver .given .0 .0) (c .before .before .before .before .before .before .before .before .before .before .before .args .reads)) (c .before .read .ensures) ∙ sym (old-found (now (c .before .before .before .before .before .before .before .before .before .before .before .args .s)) (c .before .before .before .before .before .before .before .before .before .before .before .args .v) (c .before .before .before .before .before .before .before .before .before .before .before .args .slot) (c .before .before .before .before .before .before .before .before .before .before .before .args .reads) (c .before .before .before .before .before .before .before .before .before .loop .past) _ _ _ e n) ∙ c .before .before .before .before .before .before .before .before .before .loop .inv
+    c .handed .ensures ∙ ap (handedOf (c .before .before .before .before .before .before .before .before .before .before .before .args .slot) (c .before .before .before .before .before .before .ver .given .0 .0) (c .before .before .before .before .before .before .before .before .before .before .before .args .reads)) (c .before .read .ensures) ∙ sym (old-found (now (c .before .before .before .before .before .before .before .before .before .before .before .args .s)) (c .before .before .before .before .before .before .before .before .before .before .before .args .v) (c .before .before .before .before .before .before .before .before .before .before .before .args .slot) (c .before .before .before .before .before .before .before .before .before .before .before .args .reads) (c .before .before .before .before .before .before .before .before .before .loop .older) _ _ _ e n) ∙ c .before .before .before .before .before .before .before .before .before .loop .inv
 
 enum-told : tie.Need-enum-told Inv-loop μ-loop
 enum-told c = search needs
 
 returns-2 : tie.Need-returns-2 Inv-loop μ-loop
-returns-2 c = sym (old-end (now (c .before .before .before .before .before .args .s)) (c .before .before .before .before .before .args .v) (c .before .before .before .before .before .args .slot) (c .before .before .before .before .before .args .reads) (c .before .before .before .loop .past) (sym (c .before .before .aged .ensures) ∙ c .enum-told .given .1)) ∙ c .before .before .before .loop .inv
+returns-2 c = sym (old-end (now (c .before .before .before .before .before .args .s)) (c .before .before .before .before .before .args .v) (c .before .before .before .before .before .args .slot) (c .before .before .before .before .before .args .reads) (c .before .before .before .loop .older) (sym (c .before .before .aged .ensures) ∙ c .enum-told .given .1)) ∙ c .before .before .before .loop .inv
 
 enum-told-2 : tie.Need-enum-told-2 Inv-loop μ-loop
 enum-told-2 c = search needs
 
 returns-3 : tie.Need-returns-3 Inv-loop μ-loop
-returns-3 c = sym (old-bad (now (c .before .before .before .before .before .args .s)) (c .before .before .before .before .before .args .v) (c .before .before .before .before .before .args .slot) (c .before .before .before .before .before .args .reads) (c .before .before .before .loop .past) (sym (c .before .before .aged .ensures) ∙ c .enum-told2 .given .1)) ∙ c .before .before .before .loop .inv
+returns-3 c = sym (old-bad (now (c .before .before .before .before .before .args .s)) (c .before .before .before .before .before .args .v) (c .before .before .before .before .before .args .slot) (c .before .before .before .before .before .args .reads) (c .before .before .before .loop .older) (sym (c .before .before .aged .ensures) ∙ c .enum-told2 .given .1)) ∙ c .before .before .before .loop .inv
 
 pub old-as-of-spec : {M : Type 1} → statement M
 old-as-of-spec =

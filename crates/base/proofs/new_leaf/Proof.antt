@@ -6,7 +6,7 @@ use denote.Ref.{now}
 use lib.Seq.{length-take-le}
 use Rattle.build_image.specs.Call.{callOf}
 use Rattle.base.specs.Calls.{boundsFrom}
-use Rattle.base.proofs.Calls.{next-low, held, inside, bounds-are, list-bad, at-first, list-is, bounds-ok, sane, new-one, new-two, new-three, new-on}
+use Rattle.base.proofs.Calls.{next-ground, held, inside, bounds-are, list-bad, at-first, list-is, bounds-ok, sane, new-one, new-two, new-three, new-on}
 use borrow.Author.Needs.{needs}
 use Rattle.base.proofs.new_leaf.Statement.{statement}
 use Rattle.base.proofs.new_leaf.Tie as tie
@@ -17,7 +17,7 @@ use Rattle.build_image.proofs.call_of.Reads as call-of-reads
 use Rattle.build_table.proofs.build_leaf.Reads as build-leaf-reads
 use Rattle.build_table.proofs.limits_ok.Reads as limits-ok-reads
 use Rattle.build_image.proofs.next_ok.Reads as next-ok-reads
-use Rattle.build_bounds.proofs.edge_of.Reads as edge-of-reads
+use Rattle.build_bounds.proofs.boundary_of.Reads as boundary-of-reads
 use Rattle.build_sources.proofs.open_records.Reads as open-records-reads
 use Rattle.build_sources.proofs.well.Reads as well-reads
 
@@ -46,10 +46,10 @@ returns-3 : tie.Need-returns-3
 returns-3 c = new-three _ _ _ (callOf (c .before .before .before .before .before .before .before .before .before .before .before .args .limit) (c .before .before .before .before .before .before .before .before .before .before .before .args .budget) (c .before .before .before .before .before .before .before .before .before .before .before .args .group) (c .before .before .before .before .before .before .before .before .before .before .before .args .txid) (c .before .before .before .before .before .before .before .before .before .before .before .args .lsn) (c .before .before .before .before .before .before .before .before .before .before .before .args .checkpoint)) (boundsFrom (now (c .before .before .before .before .before .before .before .before .before .before .before .args .lo)) (now (c .before .before .before .before .before .before .before .before .before .before .before .args .hi)) (c .before .before .before .before .before .before .before .before .before .before .before .args .sibling .0)) _ (c .before .before .before .before .before .before .limits-ok .ensures) (not-false _ (c .before .before .before .before .before .if1 .left)) _ (c .before .before .before .before .next-ok .ensures) (not-false _ (c .before .before .before .if2 .left)) (list-bad _ _ _ _ (c .before .before .open-records .ensures) (c .enum-told .given .1))
 
 slice-reshare-prefix-well : tie.Need-slice-reshare-prefix-well
-slice-reshare-prefix-well c = next-low _ _ _ (c .before .before .before .before .before .next-ok .ensures) (not-false _ (c .before .before .before .before .if2 .left))
+slice-reshare-prefix-well c = next-ground _ _ _ (c .before .before .before .before .before .next-ok .ensures) (not-false _ (c .before .before .before .before .if2 .left))
 
 slice-aggregate-well : tie.Need-slice-aggregate-well
-slice-aggregate-well c = sym (length-take-le _ _ (next-low _ _ _ (c .before .before .before .before .before .before .next-ok .ensures) (not-false _ (c .before .before .before .before .before .if2 .left))))
+slice-aggregate-well c = sym (length-take-le _ _ (next-ground _ _ _ (c .before .before .before .before .before .before .next-ok .ensures) (not-false _ (c .before .before .before .before .before .if2 .left))))
 
 well-requires : tie.Need-well-requires
 well-requires c κs = search needs
@@ -63,23 +63,23 @@ returns-4 c = new-three _ _ _ (callOf (c .before .before .before .before .before
 call-of-requires : tie.Need-call-of-requires
 call-of-requires c κs = search needs
 
-edge-of-requires : tie.Need-edge-of-requires
-edge-of-requires c κs = search needs
+boundary-of-requires : tie.Need-boundary-of-requires
+boundary-of-requires c κs = search needs
 
-edge-of-requires-2 : tie.Need-edge-of-requires-2
-edge-of-requires-2 c κs = search needs
+boundary-of-requires-2 : tie.Need-boundary-of-requires-2
+boundary-of-requires-2 c κs = search needs
 
 calc-prefix-requires : tie.Need-calc-prefix-requires
 calc-prefix-requires c κs = search needs
 
 build-leaf-requires : tie.Need-build-leaf-requires
-build-leaf-requires c κs = (next-low _ _ _ (c .before .before .before .before .before .before .before .before .before .before .before .before .before .next-ok .ensures) (not-false _ (c .before .before .before .before .before .before .before .before .before .before .before .before .if2 .left)), (held (now (c .before .before .before .before .before .before .before .before .before .before .before .before .before .before .before .before .before .before .before .before .args .lo)) (now (c .before .before .before .before .before .before .before .before .before .before .before .before .before .before .before .before .before .before .before .before .args .hi)) _ _ _ _ _ (c .before .before .before .edge-of .ensures) (c .before .before .edge-of2 .ensures) (c .before .calc-prefix .ensures) _ (bounds-ok (c .before .before .before .before .before .before .before .before .before .before .before .before .before .before .before .before .before .before .before .before .args .limit) (c .before .before .before .before .before .before .before .before .before .before .before .before .before .before .before .before .before .before .before .before .args .budget) (now (c .before .before .before .before .before .before .before .before .before .before .before .before .before .before .before .before .before .before .before .before .args .lo)) (now (c .before .before .before .before .before .before .before .before .before .before .before .before .before .before .before .before .before .before .before .before .args .hi)) _ (c .before .before .before .before .before .before .before .before .before .before .before .before .before .before .before .limits-ok .ensures) (not-false _ (c .before .before .before .before .before .before .before .before .before .before .before .before .before .before .if1 .left))) refl, (inside (now (c .before .before .before .before .before .before .before .before .before .before .before .before .before .before .before .before .before .before .before .before .args .lo)) (now (c .before .before .before .before .before .before .before .before .before .before .before .before .before .before .before .before .before .before .before .before .args .hi)) _ _ _ _ _ (c .before .before .before .edge-of .ensures) (c .before .before .edge-of2 .ensures) (c .before .calc-prefix .ensures), rw (c .before .before .before .before .call-of .ensures) (sane (c .before .before .before .before .before .before .before .before .before .before .before .before .before .before .before .before .before .before .before .before .args .limit) (c .before .before .before .before .before .before .before .before .before .before .before .before .before .before .before .before .before .before .before .before .args .budget) (now (c .before .before .before .before .before .before .before .before .before .before .before .before .before .before .before .before .before .before .before .before .args .lo)) (now (c .before .before .before .before .before .before .before .before .before .before .before .before .before .before .before .before .before .before .before .before .args .hi)) _ (c .before .before .before .before .before .before .before .before .before .before .before .before .before .before .before .limits-ok .ensures) (not-false _ (c .before .before .before .before .before .before .before .before .before .before .before .before .before .before .if1 .left)) _ _ _))))
+build-leaf-requires c κs = (next-ground _ _ _ (c .before .before .before .before .before .before .before .before .before .before .before .before .before .next-ok .ensures) (not-false _ (c .before .before .before .before .before .before .before .before .before .before .before .before .if2 .left)), (held (now (c .before .before .before .before .before .before .before .before .before .before .before .before .before .before .before .before .before .before .before .before .args .lo)) (now (c .before .before .before .before .before .before .before .before .before .before .before .before .before .before .before .before .before .before .before .before .args .hi)) _ _ _ _ _ (c .before .before .before .boundary-of .ensures) (c .before .before .boundary-of2 .ensures) (c .before .calc-prefix .ensures) _ (bounds-ok (c .before .before .before .before .before .before .before .before .before .before .before .before .before .before .before .before .before .before .before .before .args .limit) (c .before .before .before .before .before .before .before .before .before .before .before .before .before .before .before .before .before .before .before .before .args .budget) (now (c .before .before .before .before .before .before .before .before .before .before .before .before .before .before .before .before .before .before .before .before .args .lo)) (now (c .before .before .before .before .before .before .before .before .before .before .before .before .before .before .before .before .before .before .before .before .args .hi)) _ (c .before .before .before .before .before .before .before .before .before .before .before .before .before .before .before .limits-ok .ensures) (not-false _ (c .before .before .before .before .before .before .before .before .before .before .before .before .before .before .if1 .left))) refl, (inside (now (c .before .before .before .before .before .before .before .before .before .before .before .before .before .before .before .before .before .before .before .before .args .lo)) (now (c .before .before .before .before .before .before .before .before .before .before .before .before .before .before .before .before .before .before .before .before .args .hi)) _ _ _ _ _ (c .before .before .before .boundary-of .ensures) (c .before .before .boundary-of2 .ensures) (c .before .calc-prefix .ensures), rw (c .before .before .before .before .call-of .ensures) (sane (c .before .before .before .before .before .before .before .before .before .before .before .before .before .before .before .before .before .before .before .before .args .limit) (c .before .before .before .before .before .before .before .before .before .before .before .before .before .before .before .before .before .before .before .before .args .budget) (now (c .before .before .before .before .before .before .before .before .before .before .before .before .before .before .before .before .before .before .before .before .args .lo)) (now (c .before .before .before .before .before .before .before .before .before .before .before .before .before .before .before .before .before .before .before .before .args .hi)) _ (c .before .before .before .before .before .before .before .before .before .before .before .before .before .before .before .limits-ok .ensures) (not-false _ (c .before .before .before .before .before .before .before .before .before .before .before .before .before .before .if1 .left)) _ _ _))))
 
 same-length-2 : tie.Need-same-length-2
 same-length-2 c = search needs
 
 returns-5 : tie.Need-returns-5
-returns-5 c = new-on _ _ _ (callOf (c .before .before .before .before .before .before .before .before .before .before .before .before .before .before .before .before .before .before .before .before .before .before .before .args .limit) (c .before .before .before .before .before .before .before .before .before .before .before .before .before .before .before .before .before .before .before .before .before .before .before .args .budget) (c .before .before .before .before .before .before .before .before .before .before .before .before .before .before .before .before .before .before .before .before .before .before .before .args .group) (c .before .before .before .before .before .before .before .before .before .before .before .before .before .before .before .before .before .before .before .before .before .before .before .args .txid) (c .before .before .before .before .before .before .before .before .before .before .before .before .before .before .before .before .before .before .before .before .before .before .before .args .lsn) (c .before .before .before .before .before .before .before .before .before .before .before .before .before .before .before .before .before .before .before .before .before .before .before .args .checkpoint)) (boundsFrom (now (c .before .before .before .before .before .before .before .before .before .before .before .before .before .before .before .before .before .before .before .before .before .before .before .args .lo)) (now (c .before .before .before .before .before .before .before .before .before .before .before .before .before .before .before .before .before .before .before .before .before .before .before .args .hi)) (c .before .before .before .before .before .before .before .before .before .before .before .before .before .before .before .before .before .before .before .before .before .before .before .args .sibling .0)) _ (c .before .before .before .before .before .before .before .before .before .before .before .before .before .before .before .before .before .before .limits-ok .ensures) (not-false _ (c .before .before .before .before .before .before .before .before .before .before .before .before .before .before .before .before .before .if1 .left)) _ (c .before .before .before .before .before .before .before .before .before .before .before .before .before .before .before .before .next-ok .ensures) (not-false _ (c .before .before .before .before .before .before .before .before .before .before .before .before .before .before .before .if2 .left)) (list-is _ _ _ _ (c .before .before .before .before .before .before .before .before .before .before .before .before .before .before .open-records .ensures) _ (c .before .before .before .before .before .before .before .before .before .before .before .before .b .given .1) _ (c .before .before .before .before .before .before .before .before .before .well .ensures) ∙ not-false _ (c .before .before .before .before .before .before .before .before .if3 .left)) _ _ _ _ _ (c .before .before .before .before .before .before .before .call-of .ensures) (bounds-are (now (c .before .before .before .before .before .before .before .before .before .before .before .before .before .before .before .before .before .before .before .before .before .before .before .args .lo)) (now (c .before .before .before .before .before .before .before .before .before .before .before .before .before .before .before .before .before .before .before .before .before .before .before .args .hi)) _ _ _ _ _ (c .before .before .before .before .before .before .edge-of .ensures) (c .before .before .before .before .before .edge-of2 .ensures) (c .before .before .before .before .calc-prefix .ensures)) (at-first _ (now (c .before .before .before .before .before .before .before .before .before .before .before .before .before .before .before .before .before .before .before .before .before .before .before .args .list)) _ _ (c .before .before .before .before .before .before .before .before .before .before .before .before .before .before .open-records .ensures) _ (c .before .before .before .before .before .before .before .before .before .before .before .before .b .given .1)) (c .before .before .build-leaf .ensures .0) (c .before .before .build-leaf .ensures .1)
+returns-5 c = new-on _ _ _ (callOf (c .before .before .before .before .before .before .before .before .before .before .before .before .before .before .before .before .before .before .before .before .before .before .before .args .limit) (c .before .before .before .before .before .before .before .before .before .before .before .before .before .before .before .before .before .before .before .before .before .before .before .args .budget) (c .before .before .before .before .before .before .before .before .before .before .before .before .before .before .before .before .before .before .before .before .before .before .before .args .group) (c .before .before .before .before .before .before .before .before .before .before .before .before .before .before .before .before .before .before .before .before .before .before .before .args .txid) (c .before .before .before .before .before .before .before .before .before .before .before .before .before .before .before .before .before .before .before .before .before .before .before .args .lsn) (c .before .before .before .before .before .before .before .before .before .before .before .before .before .before .before .before .before .before .before .before .before .before .before .args .checkpoint)) (boundsFrom (now (c .before .before .before .before .before .before .before .before .before .before .before .before .before .before .before .before .before .before .before .before .before .before .before .args .lo)) (now (c .before .before .before .before .before .before .before .before .before .before .before .before .before .before .before .before .before .before .before .before .before .before .before .args .hi)) (c .before .before .before .before .before .before .before .before .before .before .before .before .before .before .before .before .before .before .before .before .before .before .before .args .sibling .0)) _ (c .before .before .before .before .before .before .before .before .before .before .before .before .before .before .before .before .before .before .limits-ok .ensures) (not-false _ (c .before .before .before .before .before .before .before .before .before .before .before .before .before .before .before .before .before .if1 .left)) _ (c .before .before .before .before .before .before .before .before .before .before .before .before .before .before .before .before .next-ok .ensures) (not-false _ (c .before .before .before .before .before .before .before .before .before .before .before .before .before .before .before .if2 .left)) (list-is _ _ _ _ (c .before .before .before .before .before .before .before .before .before .before .before .before .before .before .open-records .ensures) _ (c .before .before .before .before .before .before .before .before .before .before .before .before .b .given .1) _ (c .before .before .before .before .before .before .before .before .before .well .ensures) ∙ not-false _ (c .before .before .before .before .before .before .before .before .if3 .left)) _ _ _ _ _ (c .before .before .before .before .before .before .before .call-of .ensures) (bounds-are (now (c .before .before .before .before .before .before .before .before .before .before .before .before .before .before .before .before .before .before .before .before .before .before .before .args .lo)) (now (c .before .before .before .before .before .before .before .before .before .before .before .before .before .before .before .before .before .before .before .before .before .before .before .args .hi)) _ _ _ _ _ (c .before .before .before .before .before .before .boundary-of .ensures) (c .before .before .before .before .before .boundary-of2 .ensures) (c .before .before .before .before .calc-prefix .ensures)) (at-first _ (now (c .before .before .before .before .before .before .before .before .before .before .before .before .before .before .before .before .before .before .before .before .before .before .before .args .list)) _ _ (c .before .before .before .before .before .before .before .before .before .before .before .before .before .before .open-records .ensures) _ (c .before .before .before .before .before .before .before .before .before .before .before .before .b .given .1)) (c .before .before .build-leaf .ensures .0) (c .before .before .build-leaf .ensures .1)
 
 pub new-leaf-spec : {M : Type 1} → statement M
 new-leaf-spec =
@@ -99,8 +99,8 @@ new-leaf-spec =
     same-length
     returns-4
     call-of-requires
-    edge-of-requires
-    edge-of-requires-2
+    boundary-of-requires
+    boundary-of-requires-2
     calc-prefix-requires
     build-leaf-requires
     same-length-2

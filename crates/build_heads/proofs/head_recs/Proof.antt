@@ -13,7 +13,7 @@ use Rattle.build_heads.proofs.head_recs.Statement.{statement}
 use Rattle.build_heads.proofs.head_recs.Tie as tie
 use Rattle.build_heads.proofs.head_recs.Reads as reads
 use Rattle.build_heads.proofs.head_recs.Lts as lts
-use Rattle.build_heads.proofs.far_step.Reads as far-step-reads
+use Rattle.build_heads.proofs.remote_step.Reads as remote-step-reads
 use Rattle.build_heads.proofs.names.Reads as names-reads
 use Rattle.build_heads.proofs.onward.Reads as onward-reads
 use Rattle.build_heads.proofs.put_head.Reads as put-head-reads
@@ -22,10 +22,10 @@ use Rattle.build_heads.proofs.settle.Reads as settle-reads
 use Rattle.build_sources.proofs.next.Reads as next-reads
 
 abbrev Inv-loop : tie.InvT-loop
-Inv-loop a₀ low list at p m first far c₀ to₀ next₀ loc₀ a c to next loc = Recording a₀ list low (put a₀ at (headRecs (m .limit) p far (places (m .limit) first (cutsOf m (entries list (take low a₀) c₀)) (olds (entries list (take low a₀) c₀))) (entries list (take low a₀) c₀))) p m (at + length (headRecs (m .limit) p far (places (m .limit) first (cutsOf m (entries list (take low a₀) c₀)) (olds (entries list (take low a₀) c₀))) (entries list (take low a₀) c₀))) a c to next loc
+Inv-loop a₀ ground list at p m first remote c₀ to₀ next₀ loc₀ a c to next loc = Recording a₀ list ground (put a₀ at (headRecs (m .limit) p remote (places (m .limit) first (cutsOf m (entries list (take ground a₀) c₀)) (olds (entries list (take ground a₀) c₀))) (entries list (take ground a₀) c₀))) p m (at + length (headRecs (m .limit) p remote (places (m .limit) first (cutsOf m (entries list (take ground a₀) c₀)) (olds (entries list (take ground a₀) c₀))) (entries list (take ground a₀) c₀))) a c to next loc
 
 abbrev μ-loop : tie.MeasureT-loop
-μ-loop a₀ low list at p m first far c₀ to₀ next₀ loc₀ a c to next loc = leftOf list (take low a₀) c
+μ-loop a₀ ground list at p m first remote c₀ to₀ next₀ loc₀ a c to next loc = leftOf list (take ground a₀) c
 
 loop-holds : tie.Need-loop-holds Inv-loop μ-loop
 loop-holds c = recs-begin _ _ _ _ _ _ _ _ _ (c .before .before .pre .0) (c .before .before .pre .1 .1 .0) (c .before .before .pre .1 .1 .1 .0) (c .before .before .pre .1 .1 .1 .1 .0) (c .before .before .pre .1 .1 .1 .1 .1 .0) (c .before .before .pre .1 .1 .1 .1 .1 .1)
@@ -69,11 +69,11 @@ cast-t31 c = let z = q-slots _ _ _ _ _ _ _ _ _ _ _ _ (c .before .before .before 
 cast-t32 : tie.Need-cast-t32 Inv-loop μ-loop
 cast-t32 c = let z = k-few _ _ _ _ _ _ _ _ _ _ _ _ (c .before .before .before .before .before .before .before .before .before .before .before .loop .inv) _ _ (got _ _ _ _ _ (c .before .before .before .before .before .before .before .before .before .before .before .loop .inv .writing .same) (c .before .before .before .before .before .before .before .before .before .next .ensures) _ _ (c .before .before .before .before .before .before .before .st .given .1)) _ (c .before .before .before .before .run-of .ensures) in omega (arith, z)
 
-far-step-requires : tie.Need-far-step-requires Inv-loop μ-loop
-far-step-requires c κs = got _ _ _ _ _ (c .before .before .before .before .before .before .before .before .before .before .before .loop .inv .writing .same) (c .before .before .before .before .before .before .before .before .before .next .ensures) _ _ (c .before .before .before .before .before .before .before .st .given .1) .placed .vsmall
+remote-step-requires : tie.Need-remote-step-requires Inv-loop μ-loop
+remote-step-requires c κs = got _ _ _ _ _ (c .before .before .before .before .before .before .before .before .before .before .before .loop .inv .writing .same) (c .before .before .before .before .before .before .before .before .before .next .ensures) _ _ (c .before .before .before .before .before .before .before .st .given .1) .placed .vsmall
 
 add-beyond : tie.Need-add-beyond Inv-loop μ-loop
-add-beyond c = let z = beyond-fits _ _ _ _ _ _ _ _ _ _ _ _ (c .before .before .before .before .before .before .before .before .before .before .before .before .loop .inv) _ _ (got _ _ _ _ _ (c .before .before .before .before .before .before .before .before .before .before .before .before .loop .inv .writing .same) (c .before .before .before .before .before .before .before .before .before .before .next .ensures) _ _ (c .before .before .before .before .before .before .before .before .st .given .1)) in omega (arith, z, c .far-step .ensures, c .before .before .before .before .before .before .before .before .before .before .before .before .before .before .before .good .0)
+add-beyond c = let z = beyond-fits _ _ _ _ _ _ _ _ _ _ _ _ (c .before .before .before .before .before .before .before .before .before .before .before .before .loop .inv) _ _ (got _ _ _ _ _ (c .before .before .before .before .before .before .before .before .before .before .before .before .loop .inv .writing .same) (c .before .before .before .before .before .before .before .before .before .before .next .ensures) _ _ (c .before .before .before .before .before .before .before .before .st .given .1)) in omega (arith, z, c .remote-step .ensures, c .before .before .before .before .before .before .before .before .before .before .before .before .before .before .before .good .0)
 
 put-head-requires : tie.Need-put-head-requires Inv-loop μ-loop
 put-head-requires c κs = head-asks _ _ _ _ _ _ _ _ _ _ _ _ (c .before .before .before .before .before .before .before .before .before .before .before .before .before .loop .inv) _ _ (got _ _ _ _ _ (c .before .before .before .before .before .before .before .before .before .before .before .before .before .loop .inv .writing .same) (c .before .before .before .before .before .before .before .before .before .before .before .next .ensures) _ _ (c .before .before .before .before .before .before .before .before .before .st .given .1)) _ (c .before .before .before .before .before .before .run-of .ensures) _ (c .before .before .before .before .before .names .ensures) _ (c .before .before .before .settle .ensures)
@@ -85,7 +85,7 @@ loop-less : tie.Need-loop-less Inv-loop μ-loop
 loop-less c = got _ _ _ _ _ (c .before .before .before .before .before .before .before .before .before .before .before .before .before .before .before .before .before .loop .inv .writing .same) (c .before .before .before .before .before .before .before .before .before .before .before .before .before .before .before .next .ensures) _ _ (c .before .before .before .before .before .before .before .before .before .before .before .before .before .st .given .1) .falls
 
 loop-again : tie.Need-loop-again Inv-loop μ-loop
-loop-again c = recs-turn _ _ _ _ _ _ _ _ _ _ _ _ (c .before .before .before .before .before .before .before .before .before .before .before .before .before .before .before .before .before .loop .inv) _ _ (got _ _ _ _ _ (c .before .before .before .before .before .before .before .before .before .before .before .before .before .before .before .before .before .loop .inv .writing .same) (c .before .before .before .before .before .before .before .before .before .before .before .before .before .before .before .next .ensures) _ _ (c .before .before .before .before .before .before .before .before .before .before .before .before .before .st .given .1)) _ (c .before .before .before .before .before .before .before .before .before .before .run-of .ensures) _ (c .before .before .before .before .before .before .before .before .before .names .ensures) _ (c .before .before .before .before .before .before .before .settle .ensures) _ (c .before .before .before .before .before .far-step .ensures) _ (c .onward .ensures) _ _ (c .before .before .before .put-head .ensures .0) (c .before .before .before .put-head .ensures .1)
+loop-again c = recs-turn _ _ _ _ _ _ _ _ _ _ _ _ (c .before .before .before .before .before .before .before .before .before .before .before .before .before .before .before .before .before .loop .inv) _ _ (got _ _ _ _ _ (c .before .before .before .before .before .before .before .before .before .before .before .before .before .before .before .before .before .loop .inv .writing .same) (c .before .before .before .before .before .before .before .before .before .before .before .before .before .before .before .next .ensures) _ _ (c .before .before .before .before .before .before .before .before .before .before .before .before .before .st .given .1)) _ (c .before .before .before .before .before .before .before .before .before .before .run-of .ensures) _ (c .before .before .before .before .before .before .before .before .before .names .ensures) _ (c .before .before .before .before .before .before .before .settle .ensures) _ (c .before .before .before .before .before .remote-step .ensures) _ (c .onward .ensures) _ _ (c .before .before .before .put-head .ensures .0) (c .before .before .before .put-head .ensures .1)
 
 enum-told : tie.Need-enum-told Inv-loop μ-loop
 enum-told c = search needs
@@ -125,7 +125,7 @@ head-recs-spec =
     settle-requires
     cast-t31
     cast-t32
-    far-step-requires
+    remote-step-requires
     add-beyond
     put-head-requires
     onward-requires

@@ -18,10 +18,10 @@ use Rattle.build_heads.proofs.slot_step.Reads as slot-step-reads
 use Rattle.build_sources.proofs.next.Reads as next-reads
 
 abbrev Inv-loop : tie.InvT-loop
-Inv-loop a₀ low list at first p limit c₀ to₀ off₀ a c to off = Slotting a₀ list low (put a₀ at (headSlots limit p first (entries list (take low a₀) c₀))) p limit a c to off
+Inv-loop a₀ ground list at first p limit c₀ to₀ off₀ a c to off = Slotting a₀ list ground (put a₀ at (headSlots limit p first (entries list (take ground a₀) c₀))) p limit a c to off
 
 abbrev μ-loop : tie.MeasureT-loop
-μ-loop a₀ low list at first p limit c₀ to₀ off₀ a c to off = leftOf list (take low a₀) c
+μ-loop a₀ ground list at first p limit c₀ to₀ off₀ a c to off = leftOf list (take ground a₀) c
 
 loop-holds : tie.Need-loop-holds Inv-loop μ-loop
 loop-holds c = record { writing = begin _ _ _ _ (c .before .before .pre .0) (c .before .before .pre .1 .1 .0); long = c .before .before .pre .1 .0; small = c .before .before .pre .1 .1 .1 }

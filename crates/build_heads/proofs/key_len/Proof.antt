@@ -1,37 +1,21 @@
-use native.Mathlib.Omega.{arith}
-use mathlib.Core.Path.{_≡_, refl, ap}
-use Prim.Native.Nat.{ℕ, _+_, _-_}
+-- `build_heads::key_len` meets its contract. Assumes nothing.
 use Rattle.build_image.specs.Sizes.{keyLen}
-use Rattle.build_heads.proofs.Slots.{uleb-most}
 use borrow.Author.Needs.{needs}
 use Rattle.build_heads.proofs.key_len.Statement.{statement}
 use Rattle.build_heads.proofs.key_len.Tie as tie
-use Rattle.build_heads.proofs.key_len.Reads as reads
-use Rattle.build_heads.proofs.key_len.Lts as lts
-use Rattle.lengths.proofs.size.Reads as size-reads
 
-sub-rest : tie.Need-sub-rest
-sub-rest c = search needs
+sub-leaf-key-size : tie.Need-sub-leaf-key-size
+sub-leaf-key-size c = search needs
 
-add-size : tie.Need-add-size
-add-size c = search needs
+cast-leaf-key-size : tie.Need-cast-leaf-key-size
+cast-leaf-key-size c = search needs
 
-cast-size : tie.Need-cast-size
-cast-size c = search needs
-
-size-requires : tie.Need-size-requires
-size-requires c κs = search needs
-
-add-result : tie.Need-add-result
-add-result c = search needs
-
-add-result-2 : tie.Need-add-result-2
-add-result-2 c = omega (arith, c .size .ensures, uleb-most (12 + (c .before .args .n - c .before .args .p)))
+leaf-key-size-requires : tie.Need-leaf-key-size-requires
+leaf-key-size-requires c κs = search needs
 
 returns : tie.Need-returns
 unfolding keyLen
-returns c = ap (λ (k : ℕ). k + (12 + (c .before .args .n - c .before .args .p))) (c .size .ensures)
+returns c = c .leaf-key-size .ensures
 
 pub key-len-spec : {M : Type 1} → statement M
-key-len-spec =
-    tie.close (tie.spec sub-rest add-size cast-size size-requires add-result add-result-2 returns)
+key-len-spec = tie.close (tie.spec sub-leaf-key-size cast-leaf-key-size leaf-key-size-requires returns)

@@ -13,10 +13,10 @@ use Rattle.build_heads.proofs.old_run.Lts as lts
 use Rattle.build_sources.proofs.next.Reads as next-reads
 
 abbrev Inv-loop : tie.InvT-loop
-Inv-loop list low c₀ n₀ c n = Running list low c₀ c n
+Inv-loop list ground c₀ n₀ c n = Running list ground c₀ c n
 
 abbrev μ-loop : tie.MeasureT-loop
-μ-loop list low c₀ n₀ c n = leftOf list low c
+μ-loop list ground c₀ n₀ c n = leftOf list ground c
 
 loop-holds : tie.Need-loop-holds Inv-loop μ-loop
 loop-holds c = record { goes = omega arith; left = omega arith }
@@ -31,7 +31,7 @@ returns : tie.Need-returns Inv-loop μ-loop
 returns c = run-stop _ _ _ _ _ (c .before .before .before .before .before .loop .inv) _ _ (got _ _ _ _ _ refl (c .before .before .before .before .next .ensures) _ _ (c .before .before .st .given .1)) (not-true _ (c .if1 .taken))
 
 add-n : tie.Need-add-n Inv-loop μ-loop
-add-n c = omega (arith, c .before .before .before .before .before .before .before .before .good .0, c .before .before .before .before .before .before .before .before .good .1 .0, c .before .before .before .before .before .loop .inv .left, left-long (c .before .before .before .before .before .before .before .before .args .list .now) (c .before .before .before .before .before .before .before .before .args .low .now) (c .before .before .before .before .before .before .before .before .args .from), got _ _ _ _ _ refl (c .before .before .before .before .next .ensures) _ _ (c .before .before .st .given .1) .falls)
+add-n c = omega (arith, c .before .before .before .before .before .before .before .before .good .0, c .before .before .before .before .before .before .before .before .good .1 .0, c .before .before .before .before .before .loop .inv .left, left-long (c .before .before .before .before .before .before .before .before .args .list .now) (c .before .before .before .before .before .before .before .before .args .ground .now) (c .before .before .before .before .before .before .before .before .args .from), got _ _ _ _ _ refl (c .before .before .before .before .next .ensures) _ _ (c .before .before .st .given .1) .falls)
 
 loop-less : tie.Need-loop-less Inv-loop μ-loop
 loop-less c = got _ _ _ _ _ refl (c .before .before .before .before .next .ensures) _ _ (c .before .before .st .given .1) .falls

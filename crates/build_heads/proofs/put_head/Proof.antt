@@ -32,16 +32,16 @@ add-n : tie.Need-add-n
 add-n c = omega (arith, c .before .before .before .before .before .before .before .before .pre .1 .0 .ksmall, c .before .before .before .key-len .ensures, key-most (c .before .before .before .before .before .before .before .before .args .p) (c .before .before .before .before .before .before .before .before .args .i .key .plen + c .before .before .before .before .before .before .before .before .args .i .key .klen), c .calc-size .ensures, size-most (ltb 0 (c .before .before .before .before .before .before .before .before .args .h .count)) (c .before .before .before .before .before .before .before .before .args .limit) (c .before .before .before .before .before .before .before .before .args .i .vlen) (c .before .before .before .before .before .before .before .before .pre .1 .0 .vsmall))
 
 head-rec-requires : tie.Need-head-rec-requires
-head-rec-requires c κs = (c .before .before .before .before .before .before .before .before .before .pre .0, (c .before .before .before .before .before .before .before .before .before .pre .1 .0, (c .before .before .before .before .before .before .before .before .before .pre .1 .1 .0, rec-room (c .before .before .before .before .before .before .before .before .before .args .a .now) (c .before .before .before .before .before .before .before .before .before .args .at) (c .before .before .before .before .before .before .before .before .before .args .limit) (c .before .before .before .before .before .before .before .before .before .args .p) (c .before .before .before .before .before .before .before .before .before .args .far) (c .before .before .before .before .before .before .before .before .before .args .h) _ (old-of _ _ _ ∙ c .before .before .before .before .before .before .if1 .left) (c .before .before .before .before .before .before .before .before .before .pre .1 .1 .1))))
+head-rec-requires c κs = (c .before .before .before .before .before .before .before .before .before .pre .0, (c .before .before .before .before .before .before .before .before .before .pre .1 .0, (c .before .before .before .before .before .before .before .before .before .pre .1 .1 .0, rec-room (c .before .before .before .before .before .before .before .before .before .args .a .now) (c .before .before .before .before .before .before .before .before .before .args .at) (c .before .before .before .before .before .before .before .before .before .args .limit) (c .before .before .before .before .before .before .before .before .before .args .p) (c .before .before .before .before .before .before .before .before .before .args .remote) (c .before .before .before .before .before .before .before .before .before .args .h) _ (old-of _ _ _ ∙ c .before .before .before .before .before .before .if1 .left) (c .before .before .before .before .before .before .before .before .before .pre .1 .1 .1))))
 
 add-result : tie.Need-add-result
-add-result c = let z = rec-long _ _ _ (c .before .before .before .before .before .before .before .before .before .before .before .before .pre .1 .0) (c .before .before .before .before .before .before .before .before .before .before .before .before .args .limit) (c .before .before .before .before .before .before .before .before .before .before .before .before .args .p) (c .before .before .before .before .before .before .before .before .before .before .before .before .args .far) (c .before .before .before .before .before .before .before .before .before .before .before .before .args .h) _ _ _ (c .before .before .before .before .before .before .before .key-len .ensures) (c .before .before .before .before .calc-size .ensures) (some-any (c .before .before .before .before .before .before .before .before .before .before .before .before .args .h .count)) in let y = rec-room (c .before .before .before .before .before .before .before .before .before .before .before .before .args .a .now) (c .before .before .before .before .before .before .before .before .before .before .before .before .args .at) (c .before .before .before .before .before .before .before .before .before .before .before .before .args .limit) (c .before .before .before .before .before .before .before .before .before .before .before .before .args .p) (c .before .before .before .before .before .before .before .before .before .before .before .before .args .far) (c .before .before .before .before .before .before .before .before .before .before .before .before .args .h) _ (old-of _ _ _ ∙ c .before .before .before .before .before .before .before .before .before .if1 .left) (c .before .before .before .before .before .before .before .before .before .before .before .before .pre .1 .1 .1) in omega (arith, z, y, c .before .before .before .before .before .before .before .before .before .before .before .before .good .0)
+add-result c = let z = rec-long _ _ _ (c .before .before .before .before .before .before .before .before .before .before .before .before .pre .1 .0) (c .before .before .before .before .before .before .before .before .before .before .before .before .args .limit) (c .before .before .before .before .before .before .before .before .before .before .before .before .args .p) (c .before .before .before .before .before .before .before .before .before .before .before .before .args .remote) (c .before .before .before .before .before .before .before .before .before .before .before .before .args .h) _ _ _ (c .before .before .before .before .before .before .before .key-len .ensures) (c .before .before .before .before .calc-size .ensures) (some-any (c .before .before .before .before .before .before .before .before .before .before .before .before .args .h .count)) in let y = rec-room (c .before .before .before .before .before .before .before .before .before .before .before .before .args .a .now) (c .before .before .before .before .before .before .before .before .before .before .before .before .args .at) (c .before .before .before .before .before .before .before .before .before .before .before .before .args .limit) (c .before .before .before .before .before .before .before .before .before .before .before .before .args .p) (c .before .before .before .before .before .before .before .before .before .before .before .before .args .remote) (c .before .before .before .before .before .before .before .before .before .before .before .before .args .h) _ (old-of _ _ _ ∙ c .before .before .before .before .before .before .before .before .before .if1 .left) (c .before .before .before .before .before .before .before .before .before .before .before .before .pre .1 .1 .1) in omega (arith, z, y, c .before .before .before .before .before .before .before .before .before .before .before .before .good .0)
 
 same-length : tie.Need-same-length
 same-length c = search needs
 
 returns-2 : tie.Need-returns-2
-returns-2 c = rec-one _ _ _ _ _ _ _ (old-of _ _ _ ∙ c .before .before .before .before .before .before .before .before .before .if1 .left) _ _ (rec-long _ _ _ (c .before .before .before .before .before .before .before .before .before .before .before .before .pre .1 .0) (c .before .before .before .before .before .before .before .before .before .before .before .before .args .limit) (c .before .before .before .before .before .before .before .before .before .before .before .before .args .p) (c .before .before .before .before .before .before .before .before .before .before .before .before .args .far) (c .before .before .before .before .before .before .before .before .before .before .before .before .args .h) _ _ _ (c .before .before .before .before .before .before .before .key-len .ensures) (c .before .before .before .before .calc-size .ensures) (some-any (c .before .before .before .before .before .before .before .before .before .before .before .before .args .h .count))) (c .before .before .head-rec .ensures)
+returns-2 c = rec-one _ _ _ _ _ _ _ (old-of _ _ _ ∙ c .before .before .before .before .before .before .before .before .before .if1 .left) _ _ (rec-long _ _ _ (c .before .before .before .before .before .before .before .before .before .before .before .before .pre .1 .0) (c .before .before .before .before .before .before .before .before .before .before .before .before .args .limit) (c .before .before .before .before .before .before .before .before .before .before .before .before .args .p) (c .before .before .before .before .before .before .before .before .before .before .before .before .args .remote) (c .before .before .before .before .before .before .before .before .before .before .before .before .args .h) _ _ _ (c .before .before .before .before .before .before .before .key-len .ensures) (c .before .before .before .before .calc-size .ensures) (some-any (c .before .before .before .before .before .before .before .before .before .before .before .before .args .h .count))) (c .before .before .head-rec .ensures)
 
 pub put-head-spec : {M : Type 1} → statement M
 put-head-spec =

@@ -1,6 +1,6 @@
 use native.Mathlib.Omega.{arith}
 use mathlib.Core.Path.{_≡_, refl, sym, ap, _∙_}
-use Rattle.build_heads.proofs.Rests.{low-short, back-asks, back-end, front-asks, rest-asks, rest-fits, both-end}
+use Rattle.build_heads.proofs.Rests.{ground-short, back-asks, back-end, front-asks, rest-asks, rest-fits, both-end}
 use borrow.Author.Needs.{needs}
 use Rattle.build_heads.proofs.put_rest.Statement.{statement}
 use Rattle.build_heads.proofs.put_rest.Tie as tie
@@ -15,7 +15,7 @@ sub-j : tie.Need-sub-j
 sub-j c = search needs
 
 add-copy-part : tie.Need-add-copy-part
-add-copy-part c = let z = back-asks _ _ _ _ _ _ (c .before .before .before .before .before .before .before .pre .0) (c .before .before .before .before .before .before .before .pre .1 .0) (c .before .before .before .before .before .before .before .pre .1 .1 .0) (c .before .before .before .before .before .before .before .pre .1 .1 .1) (c .before .before .before .if1 .taken) in let r = c .before .before .before .before .before .before .before .pre .1 .0 .rest in omega (arith, c .before .before .before .before .before .before .before .good .0, c .before .before .before .before .before .before .before .good .1 .1 .0, low-short (c .before .before .before .before .before .before .before .args .list .now) (c .before .before .before .before .before .before .before .args .a .now) (c .before .before .before .before .before .before .before .args .low) (c .before .before .before .before .before .before .before .args .i .low))
+add-copy-part c = let z = back-asks _ _ _ _ _ _ (c .before .before .before .before .before .before .before .pre .0) (c .before .before .before .before .before .before .before .pre .1 .0) (c .before .before .before .before .before .before .before .pre .1 .1 .0) (c .before .before .before .before .before .before .before .pre .1 .1 .1) (c .before .before .before .if1 .taken) in let r = c .before .before .before .before .before .before .before .pre .1 .0 .rest in omega (arith, c .before .before .before .before .before .before .before .good .0, c .before .before .before .before .before .before .before .good .1 .1 .0, ground-short (c .before .before .before .before .before .before .before .args .list .now) (c .before .before .before .before .before .before .before .args .a .now) (c .before .before .before .before .before .before .before .args .ground) (c .before .before .before .before .before .before .before .args .i .ground))
 
 copy-part-requires : tie.Need-copy-part-requires
 copy-part-requires c κs = back-asks _ _ _ _ _ _ (c .before .before .before .before .before .before .before .pre .0) (c .before .before .before .before .before .before .before .pre .1 .0) (c .before .before .before .before .before .before .before .pre .1 .1 .0) (c .before .before .before .before .before .before .before .pre .1 .1 .1) (c .before .before .before .if1 .taken)
@@ -30,7 +30,7 @@ returns : tie.Need-returns
 returns c = back-end _ _ _ _ _ _ (c .before .before .before .before .before .before .before .before .before .before .pre .0) (c .before .before .before .before .before .before .before .before .before .before .pre .1 .0) (c .before .before .before .before .before .before .before .before .before .before .pre .1 .1 .0) (c .before .before .before .before .before .before .before .before .before .before .pre .1 .1 .1) (c .before .before .before .before .before .before .if1 .taken) _ (c .before .before .copy-part .ensures)
 
 add-copy-part-2 : tie.Need-add-copy-part-2
-add-copy-part-2 c = let r = c .before .before .before .before .before .before .pre .1 .0 .pre in omega (arith, c .before .before .before .before .before .before .good .0, c .before .before .before .before .before .before .good .1 .1 .0, low-short (c .before .before .before .before .before .before .args .list .now) (c .before .before .before .before .before .before .args .a .now) (c .before .before .before .before .before .before .args .low) (c .before .before .before .before .before .before .args .i .low))
+add-copy-part-2 c = let r = c .before .before .before .before .before .before .pre .1 .0 .pre in omega (arith, c .before .before .before .before .before .before .good .0, c .before .before .before .before .before .before .good .1 .1 .0, ground-short (c .before .before .before .before .before .before .args .list .now) (c .before .before .before .before .before .before .args .a .now) (c .before .before .before .before .before .before .args .ground) (c .before .before .before .before .before .before .args .i .ground))
 
 copy-part-requires-2 : tie.Need-copy-part-requires-2
 copy-part-requires-2 c κs = front-asks _ _ _ _ _ _ (c .before .before .before .before .before .before .pre .0) (c .before .before .before .before .before .before .pre .1 .0) (c .before .before .before .before .before .before .pre .1 .1 .0) (c .before .before .before .before .before .before .pre .1 .1 .1) (c .before .before .if1 .left)

@@ -9,7 +9,7 @@ use Rattle.build_history.proofs.hist_page.Tie as tie
 use Rattle.build_history.proofs.hist_page.Reads as reads
 use Rattle.build_history.proofs.hist_page.Lts as lts
 use Rattle.frames.proofs.frame_len.Reads as frame-len-reads
-use Rattle.build_history.proofs.far_frames.Reads as far-frames-reads
+use Rattle.build_history.proofs.remote_frames.Reads as remote-frames-reads
 use Rattle.build_history.proofs.hist_head.Reads as hist-head-reads
 use Rattle.build_history.proofs.link_of.Reads as link-of-reads
 use Rattle.build_history.proofs.old_recs.Reads as old-recs-reads
@@ -67,14 +67,14 @@ sub-zeros c = omega (arith, c .before .before .before .before .before .before .b
 zeros-requires : tie.Need-zeros-requires
 zeros-requires c κs = zeros-room _ _ _ _ _ _ _ (c .before .before .before .before .before .before .before .before .before .before .before .before .before .before .before .before .before .pre .0) (c .before .before .before .before .before .before .before .before .before .before .before .before .before .before .before .before .before .pre .1 .0) (c .before .before .before .before .before .before .before .before .before .before .before .before .before .before .before .before .before .pre .1 .1 .0) (c .before .before .before .before .before .before .before .before .before .before .before .before .before .before .before .before .before .pre .1 .1 .1) _ (c .before .before .before .before .before .before .before .before .before .before .before .before .before .before .frame-len .ensures) _ (c .before .before .before .before .before .before .before .before .before .before .before .before .before .link-of .ensures) _ (c .before .before .before .before .before .before .before .before .before .before .before .hist-head .ensures) _ (c .before .before .before .before .before .before .before .old-slots .ensures) _ (c .before .before .before .old-recs .ensures)
 
-far-frames-requires : tie.Need-far-frames-requires
-far-frames-requires c κs = frames-asks _ _ _ _ _ _ _ (c .before .before .before .before .before .before .before .before .before .before .before .before .before .before .before .before .before .before .before .before .before .pre .0) (c .before .before .before .before .before .before .before .before .before .before .before .before .before .before .before .before .before .before .before .before .before .pre .1 .0) (c .before .before .before .before .before .before .before .before .before .before .before .before .before .before .before .before .before .before .before .before .before .pre .1 .1 .0) (c .before .before .before .before .before .before .before .before .before .before .before .before .before .before .before .before .before .before .before .before .before .pre .1 .1 .1) _ (c .before .before .before .before .before .before .before .before .before .before .before .before .before .before .before .before .before .before .frame-len .ensures) _ (c .before .before .before .before .before .before .before .before .before .before .before .before .before .before .before .before .before .link-of .ensures) _ (c .before .before .before .before .before .before .before .before .before .before .before .before .before .before .before .hist-head .ensures) _ (c .before .before .before .before .before .before .before .before .before .before .before .old-slots .ensures) _ (c .before .before .before .before .before .before .before .old-recs .ensures) _ (c .before .before .before .zeros .ensures)
+remote-frames-requires : tie.Need-remote-frames-requires
+remote-frames-requires c κs = frames-asks _ _ _ _ _ _ _ (c .before .before .before .before .before .before .before .before .before .before .before .before .before .before .before .before .before .before .before .before .before .pre .0) (c .before .before .before .before .before .before .before .before .before .before .before .before .before .before .before .before .before .before .before .before .before .pre .1 .0) (c .before .before .before .before .before .before .before .before .before .before .before .before .before .before .before .before .before .before .before .before .before .pre .1 .1 .0) (c .before .before .before .before .before .before .before .before .before .before .before .before .before .before .before .before .before .before .before .before .before .pre .1 .1 .1) _ (c .before .before .before .before .before .before .before .before .before .before .before .before .before .before .before .before .before .before .frame-len .ensures) _ (c .before .before .before .before .before .before .before .before .before .before .before .before .before .before .before .before .before .link-of .ensures) _ (c .before .before .before .before .before .before .before .before .before .before .before .before .before .before .before .hist-head .ensures) _ (c .before .before .before .before .before .before .before .before .before .before .before .old-slots .ensures) _ (c .before .before .before .before .before .before .before .old-recs .ensures) _ (c .before .before .before .zeros .ensures)
 
 same-length : tie.Need-same-length
 same-length c = search needs
 
 returns : tie.Need-returns
-returns c = (page-end _ _ _ _ _ _ _ (c .before .before .before .before .before .before .before .before .before .before .before .before .before .before .before .before .before .before .before .before .before .before .before .before .pre .0) (c .before .before .before .before .before .before .before .before .before .before .before .before .before .before .before .before .before .before .before .before .before .before .before .before .pre .1 .0) (c .before .before .before .before .before .before .before .before .before .before .before .before .before .before .before .before .before .before .before .before .before .before .before .before .pre .1 .1 .0) (c .before .before .before .before .before .before .before .before .before .before .before .before .before .before .before .before .before .before .before .before .before .before .before .before .pre .1 .1 .1) _ (c .before .before .before .before .before .before .before .before .before .before .before .before .before .before .before .before .before .before .before .before .before .frame-len .ensures), page-whole _ _ _ _ _ _ _ (c .before .before .before .before .before .before .before .before .before .before .before .before .before .before .before .before .before .before .before .before .before .before .before .before .pre .0) (c .before .before .before .before .before .before .before .before .before .before .before .before .before .before .before .before .before .before .before .before .before .before .before .before .pre .1 .0) (c .before .before .before .before .before .before .before .before .before .before .before .before .before .before .before .before .before .before .before .before .before .before .before .before .pre .1 .1 .0) (c .before .before .before .before .before .before .before .before .before .before .before .before .before .before .before .before .before .before .before .before .before .before .before .before .pre .1 .1 .1) _ (c .before .before .before .before .before .before .before .before .before .before .before .before .before .before .before .before .before .before .before .before .before .frame-len .ensures) _ (c .before .before .before .before .before .before .before .before .before .before .before .before .before .before .before .before .before .before .before .before .link-of .ensures) _ (c .before .before .before .before .before .before .before .before .before .before .before .before .before .before .before .before .before .before .hist-head .ensures) _ (c .before .before .before .before .before .before .before .before .before .before .before .before .before .before .old-slots .ensures) _ (c .before .before .before .before .before .before .before .before .before .before .old-recs .ensures) _ (c .before .before .before .before .before .before .zeros .ensures) _ (c .before .before .far-frames .ensures))
+returns c = (page-end _ _ _ _ _ _ _ (c .before .before .before .before .before .before .before .before .before .before .before .before .before .before .before .before .before .before .before .before .before .before .before .before .pre .0) (c .before .before .before .before .before .before .before .before .before .before .before .before .before .before .before .before .before .before .before .before .before .before .before .before .pre .1 .0) (c .before .before .before .before .before .before .before .before .before .before .before .before .before .before .before .before .before .before .before .before .before .before .before .before .pre .1 .1 .0) (c .before .before .before .before .before .before .before .before .before .before .before .before .before .before .before .before .before .before .before .before .before .before .before .before .pre .1 .1 .1) _ (c .before .before .before .before .before .before .before .before .before .before .before .before .before .before .before .before .before .before .before .before .before .frame-len .ensures), page-whole _ _ _ _ _ _ _ (c .before .before .before .before .before .before .before .before .before .before .before .before .before .before .before .before .before .before .before .before .before .before .before .before .pre .0) (c .before .before .before .before .before .before .before .before .before .before .before .before .before .before .before .before .before .before .before .before .before .before .before .before .pre .1 .0) (c .before .before .before .before .before .before .before .before .before .before .before .before .before .before .before .before .before .before .before .before .before .before .before .before .pre .1 .1 .0) (c .before .before .before .before .before .before .before .before .before .before .before .before .before .before .before .before .before .before .before .before .before .before .before .before .pre .1 .1 .1) _ (c .before .before .before .before .before .before .before .before .before .before .before .before .before .before .before .before .before .before .before .before .before .frame-len .ensures) _ (c .before .before .before .before .before .before .before .before .before .before .before .before .before .before .before .before .before .before .before .before .link-of .ensures) _ (c .before .before .before .before .before .before .before .before .before .before .before .before .before .before .before .before .before .before .hist-head .ensures) _ (c .before .before .before .before .before .before .before .before .before .before .before .before .before .before .old-slots .ensures) _ (c .before .before .before .before .before .before .before .before .before .before .old-recs .ensures) _ (c .before .before .before .before .before .before .zeros .ensures) _ (c .before .before .remote-frames .ensures))
 
 pub hist-page-spec : {M : Type 1} → statement M
 hist-page-spec =
@@ -97,6 +97,6 @@ hist-page-spec =
     add-z-2
     sub-zeros
     zeros-requires
-    far-frames-requires
+    remote-frames-requires
     same-length
     returns)

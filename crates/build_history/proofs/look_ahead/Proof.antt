@@ -5,22 +5,22 @@ use borrow.Author.Tests.{not-true, not-false}
 use lib.ListN.{length}
 use Rattle.build_sources.specs.Source.{entries, only}
 use Rattle.build_sources.proofs.Sourced.{one, no-one}
-use Rattle.build_history.proofs.Ahead.{Looking, look-begin, look-end, look-full, look-turn, look-fits, look-far, fewer}
+use Rattle.build_history.proofs.Ahead.{Looking, look-begin, look-end, look-full, look-turn, look-fits, look-remote, fewer}
 use borrow.Author.Needs.{needs}
 use Rattle.build_history.proofs.look_ahead.Statement.{statement}
 use Rattle.build_history.proofs.look_ahead.Tie as tie
 use Rattle.build_history.proofs.look_ahead.Reads as reads
 use Rattle.build_history.proofs.look_ahead.Lts as lts
-use Rattle.build_image.proofs.far_len.Reads as far-len-reads
+use Rattle.build_image.proofs.remote_len.Reads as remote-len-reads
 use Rattle.build_paging.proofs.takes.Reads as takes-reads
 use Rattle.build_sources.proofs.next_of.Reads as next-of-reads
 use Rattle.values.proofs.Val.calc_size.Reads as calc-size-reads
 
 abbrev Inv-loop : tie.InvT-loop
-Inv-loop list low limit budget c₀ n₀ t₀ f₀ c n t f = Looking list low limit budget c₀ c n t f
+Inv-loop list ground limit budget c₀ n₀ t₀ f₀ c n t f = Looking list ground limit budget c₀ c n t f
 
 abbrev μ-loop : tie.MeasureT-loop
-μ-loop list low limit budget c₀ n₀ t₀ f₀ c n t f = length (only true (entries list low c))
+μ-loop list ground limit budget c₀ n₀ t₀ f₀ c n t f = length (only true (entries list ground c))
 
 loop-holds : tie.Need-loop-holds Inv-loop μ-loop
 loop-holds c = look-begin _ _ _ _ _ (c .before .before .pre .0) (c .before .before .pre .1)
@@ -61,17 +61,17 @@ add-n c = let v = c .before .before .before .before .before .before .before .bef
 add-t : tie.Need-add-t Inv-loop μ-loop
 add-t c = let v = c .before .before .before .before .before .before .before .before .before .loop .inv in let z = look-fits _ _ _ _ _ _ _ _ _ v _ _ (one _ _ _ _ _ _ refl (c .before .before .before .before .before .before .before .before .next-of .ensures) _ _ (c .before .before .before .before .before .before .st .given .1)) _ (c .before .before .before .calc-size .ensures) in omega (arith, v .small)
 
-far-len-requires : tie.Need-far-len-requires Inv-loop μ-loop
-far-len-requires c κs = one _ _ _ _ _ _ refl (c .before .before .before .before .before .before .before .before .next-of .ensures) _ _ (c .before .before .before .before .before .before .st .given .1) .placed .vsmall
+remote-len-requires : tie.Need-remote-len-requires Inv-loop μ-loop
+remote-len-requires c κs = one _ _ _ _ _ _ refl (c .before .before .before .before .before .before .before .before .next-of .ensures) _ _ (c .before .before .before .before .before .before .st .given .1) .placed .vsmall
 
 add-f : tie.Need-add-f Inv-loop μ-loop
-add-f c = let v = c .before .before .before .before .before .before .before .before .before .before .loop .inv in let z = look-far _ _ _ _ _ _ _ _ _ v _ _ (one _ _ _ _ _ _ refl (c .before .before .before .before .before .before .before .before .before .next-of .ensures) _ _ (c .before .before .before .before .before .before .before .st .given .1)) _ (c .before .before .before .before .calc-size .ensures) _ (c .far-len .ensures) in omega (arith, v .many, v .small, v .away)
+add-f c = let v = c .before .before .before .before .before .before .before .before .before .before .loop .inv in let z = look-remote _ _ _ _ _ _ _ _ _ v _ _ (one _ _ _ _ _ _ refl (c .before .before .before .before .before .before .before .before .before .next-of .ensures) _ _ (c .before .before .before .before .before .before .before .st .given .1)) _ (c .before .before .before .before .calc-size .ensures) _ (c .remote-len .ensures) in omega (arith, v .many, v .small, v .away)
 
 loop-less : tie.Need-loop-less Inv-loop μ-loop
 loop-less c = fewer _ _ _ _ _ _ (one _ _ _ _ _ _ refl (c .before .before .before .before .before .before .before .before .before .next-of .ensures) _ _ (c .before .before .before .before .before .before .before .st .given .1))
 
 loop-again : tie.Need-loop-again Inv-loop μ-loop
-loop-again c = look-turn _ _ _ _ _ _ _ _ _ (c .before .before .before .before .before .before .before .before .before .before .loop .inv) _ _ (one _ _ _ _ _ _ refl (c .before .before .before .before .before .before .before .before .before .next-of .ensures) _ _ (c .before .before .before .before .before .before .before .st .given .1)) _ (c .before .before .before .before .calc-size .ensures) _ (c .far-len .ensures) (sym (c .before .before .before .takes .ensures) ∙ not-false _ (c .before .before .if1 .left))
+loop-again c = look-turn _ _ _ _ _ _ _ _ _ (c .before .before .before .before .before .before .before .before .before .before .loop .inv) _ _ (one _ _ _ _ _ _ refl (c .before .before .before .before .before .before .before .before .before .next-of .ensures) _ _ (c .before .before .before .before .before .before .before .st .given .1)) _ (c .before .before .before .before .calc-size .ensures) _ (c .remote-len .ensures) (sym (c .before .before .before .takes .ensures) ∙ not-false _ (c .before .before .if1 .left))
 
 pub look-ahead-spec : {M : Type 1} → statement M
 look-ahead-spec =
@@ -92,7 +92,7 @@ look-ahead-spec =
     returns-2
     add-n
     add-t
-    far-len-requires
+    remote-len-requires
     add-f
     loop-less
     loop-again)

@@ -9,24 +9,24 @@ use Rattle.build_sources.specs.Source.{entries, only, Chosen}
 use Rattle.build_sources.proofs.Sourced.{one, no-one}
 use Rattle.spans.proofs.Writing.{Writing, begin, finished}
 use Rattle.build_image.specs.Image.{oldRecs}
-use Rattle.build_image.specs.Sizes.{fars}
+use Rattle.build_image.specs.Sizes.{remotesLen}
 use Rattle.build_history.specs.Runs.{these}
-use Rattle.build_history.proofs.Passes.{recs-asks, recs-room, recs-turn, recs-nil, take-nil, take-none, fars-found}
+use Rattle.build_history.proofs.Passes.{recs-asks, recs-room, recs-turn, recs-nil, take-nil, take-none, remotes-found}
 use borrow.Author.Needs.{needs}
 use Rattle.build_history.proofs.old_recs.Statement.{statement}
 use Rattle.build_history.proofs.old_recs.Tie as tie
 use Rattle.build_history.proofs.old_recs.Reads as reads
 use Rattle.build_history.proofs.old_recs.Lts as lts
 use Rattle.build_history.proofs.old_rec.Reads as old-rec-reads
-use Rattle.build_image.proofs.far_len.Reads as far-len-reads
+use Rattle.build_image.proofs.remote_len.Reads as remote-len-reads
 use Rattle.build_sources.proofs.next_of.Reads as next-of-reads
 use Rattle.values.proofs.Val.calc_size.Reads as calc-size-reads
 
 abbrev Inv-loop : tie.InvT-loop
-Inv-loop a₀ low list n at limit far c₀ to₀ next₀ k₀ a c to next k = (Writing a₀ low (put a₀ at (oldRecs limit far (these list a₀ low true c₀ n))) a to (oldRecs limit next (these list a₀ low true c k))) × (next + fars limit (these list a₀ low true c k) ≤ length a₀)
+Inv-loop a₀ ground list n at limit remote c₀ to₀ next₀ k₀ a c to next k = (Writing a₀ ground (put a₀ at (oldRecs limit remote (these list a₀ ground true c₀ n))) a to (oldRecs limit next (these list a₀ ground true c k))) × (next + remotesLen limit (these list a₀ ground true c k) ≤ length a₀)
 
 abbrev μ-loop : tie.MeasureT-loop
-μ-loop a₀ low list n at limit far c₀ to₀ next₀ k₀ a c to next k = k
+μ-loop a₀ ground list n at limit remote c₀ to₀ next₀ k₀ a c to next k = k
 
 loop-holds : tie.Need-loop-holds Inv-loop μ-loop
 loop-holds c = (begin _ _ _ _ (c .before .before .pre .0) (c .before .before .pre .1 .0), c .before .before .pre .1 .1)
@@ -64,11 +64,11 @@ add-past c = let z = recs-room _ _ _ _ _ _ _ (one _ _ _ _ _ _ (c .before .before
 add-past-2 : tie.Need-add-past-2 Inv-loop μ-loop
 add-past-2 c = let z = recs-room _ _ _ _ _ _ _ (one _ _ _ _ _ _ (c .before .before .before .before .before .before .before .before .before .loop .inv .0 .same) (c .before .before .before .before .before .before .next-of .ensures) _ _ (c .before .before .before .before .st .given .1)) _ (c .before .before .before .before .before .before .before .before .loop-test .taken) _ _ _ _ _ (c .before .before .before .before .before .before .before .before .before .loop .inv .0) in omega (arith, c .before .before .before .before .before .before .before .before .before .before .before .before .good .0, c .before .before .before .before .before .before .before .before .before .loop .inv .0 .long, c .calc-size .ensures)
 
-far-len-requires : tie.Need-far-len-requires Inv-loop μ-loop
-far-len-requires c κs = (one _ _ _ _ _ _ (c .before .before .before .before .before .before .before .before .before .loop .inv .0 .same) (c .before .before .before .before .before .before .next-of .ensures) _ _ (c .before .before .before .before .st .given .1)) .placed .vsmall
+remote-len-requires : tie.Need-remote-len-requires Inv-loop μ-loop
+remote-len-requires c κs = (one _ _ _ _ _ _ (c .before .before .before .before .before .before .before .before .before .loop .inv .0 .same) (c .before .before .before .before .before .before .next-of .ensures) _ _ (c .before .before .before .before .st .given .1)) .placed .vsmall
 
 add-beyond : tie.Need-add-beyond Inv-loop μ-loop
-add-beyond c = let z = fars-found _ _ _ _ _ _ (one _ _ _ _ _ _ (c .before .before .before .before .before .before .before .before .before .before .loop .inv .0 .same) (c .before .before .before .before .before .before .before .next-of .ensures) _ _ (c .before .before .before .before .before .st .given .1)) _ (c .before .before .before .before .before .before .before .before .before .loop-test .taken) (c .before .before .before .before .before .before .before .before .before .before .before .before .before .args .limit) in let v = c .before .before .before .before .before .before .before .before .before .before .loop .inv .1 in omega (arith, c .before .before .before .before .before .before .before .before .before .before .before .before .before .good .0, c .far-len .ensures)
+add-beyond c = let z = remotes-found _ _ _ _ _ _ (one _ _ _ _ _ _ (c .before .before .before .before .before .before .before .before .before .before .loop .inv .0 .same) (c .before .before .before .before .before .before .before .next-of .ensures) _ _ (c .before .before .before .before .before .st .given .1)) _ (c .before .before .before .before .before .before .before .before .before .loop-test .taken) (c .before .before .before .before .before .before .before .before .before .before .before .before .before .args .limit) in let v = c .before .before .before .before .before .before .before .before .before .before .loop .inv .1 in omega (arith, c .before .before .before .before .before .before .before .before .before .before .before .before .before .good .0, c .remote-len .ensures)
 
 old-rec-requires : tie.Need-old-rec-requires Inv-loop μ-loop
 old-rec-requires c κs = recs-asks _ _ _ _ _ _ _ (one _ _ _ _ _ _ (c .before .before .before .before .before .before .before .before .before .before .before .loop .inv .0 .same) (c .before .before .before .before .before .before .before .before .next-of .ensures) _ _ (c .before .before .before .before .before .before .st .given .1)) _ (c .before .before .before .before .before .before .before .before .before .before .loop-test .taken) _ _ _ _ _ (c .before .before .before .before .before .before .before .before .before .before .before .loop .inv .0)
@@ -81,9 +81,9 @@ loop-less c = search needs
 
 loop-again : tie.Need-loop-again Inv-loop μ-loop
 loop-again c =
-    let z = fars-found _ _ _ _ _ _ (one _ _ _ _ _ _ (c .before .before .before .before .before .before .before .before .before .before .before .before .before .before .loop .inv .0 .same) (c .before .before .before .before .before .before .before .before .before .before .before .next-of .ensures) _ _ (c .before .before .before .before .before .before .before .before .before .st .given .1)) _ (c .before .before .before .before .before .before .before .before .before .before .before .before .before .loop-test .taken) (c .before .before .before .before .before .before .before .before .before .before .before .before .before .before .before .before .before .args .limit) in
+    let z = remotes-found _ _ _ _ _ _ (one _ _ _ _ _ _ (c .before .before .before .before .before .before .before .before .before .before .before .before .before .before .loop .inv .0 .same) (c .before .before .before .before .before .before .before .before .before .before .before .next-of .ensures) _ _ (c .before .before .before .before .before .before .before .before .before .st .given .1)) _ (c .before .before .before .before .before .before .before .before .before .before .before .before .before .loop-test .taken) (c .before .before .before .before .before .before .before .before .before .before .before .before .before .before .before .before .before .args .limit) in
     let v = c .before .before .before .before .before .before .before .before .before .before .before .before .before .before .loop .inv .1 in
-    (recs-turn _ _ _ _ _ _ _ (one _ _ _ _ _ _ (c .before .before .before .before .before .before .before .before .before .before .before .before .before .before .loop .inv .0 .same) (c .before .before .before .before .before .before .before .before .before .before .before .next-of .ensures) _ _ (c .before .before .before .before .before .before .before .before .before .st .given .1)) _ (c .before .before .before .before .before .before .before .before .before .before .before .before .before .loop-test .taken) _ _ _ _ _ (c .before .before .before .before .before .before .before .before .before .before .before .before .before .before .loop .inv .0) _ _ _ (c .before .before .old-rec .ensures) (c .before .before .before .before .before .calc-size .ensures) (c .before .before .before .before .far-len .ensures), omega (arith, c .before .before .before .before .far-len .ensures, z, v))
+    (recs-turn _ _ _ _ _ _ _ (one _ _ _ _ _ _ (c .before .before .before .before .before .before .before .before .before .before .before .before .before .before .loop .inv .0 .same) (c .before .before .before .before .before .before .before .before .before .before .before .next-of .ensures) _ _ (c .before .before .before .before .before .before .before .before .before .st .given .1)) _ (c .before .before .before .before .before .before .before .before .before .before .before .before .before .loop-test .taken) _ _ _ _ _ (c .before .before .before .before .before .before .before .before .before .before .before .before .before .before .loop .inv .0) _ _ _ (c .before .before .old-rec .ensures) (c .before .before .before .before .before .calc-size .ensures) (c .before .before .before .before .remote-len .ensures), omega (arith, c .before .before .before .before .remote-len .ensures, z, v))
 
 same-length-2 : tie.Need-same-length-2 Inv-loop μ-loop
 same-length-2 c = c .before .loop .inv .0 .long
@@ -109,7 +109,7 @@ old-recs-spec =
     calc-size-requires
     add-past
     add-past-2
-    far-len-requires
+    remote-len-requires
     add-beyond
     old-rec-requires
     sub-k

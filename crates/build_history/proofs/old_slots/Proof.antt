@@ -23,10 +23,10 @@ use Rattle.build_sources.proofs.next_of.Reads as next-of-reads
 use Rattle.values.proofs.Val.calc_size.Reads as calc-size-reads
 
 abbrev Inv-loop : tie.InvT-loop
-Inv-loop a₀ low list n at first limit c₀ to₀ off₀ k₀ a c to off k = (Writing a₀ low (put a₀ at (oldSlots limit first (these list a₀ low true c₀ n))) a to (oldSlots limit off (these list a₀ low true c k))) × (off + total (costsOf limit (these list a₀ low true c k)) ≤ 4294967295)
+Inv-loop a₀ ground list n at first limit c₀ to₀ off₀ k₀ a c to off k = (Writing a₀ ground (put a₀ at (oldSlots limit first (these list a₀ ground true c₀ n))) a to (oldSlots limit off (these list a₀ ground true c k))) × (off + total (costsOf limit (these list a₀ ground true c k)) ≤ 4294967295)
 
 abbrev μ-loop : tie.MeasureT-loop
-μ-loop a₀ low list n at first limit c₀ to₀ off₀ k₀ a c to off k = k
+μ-loop a₀ ground list n at first limit c₀ to₀ off₀ k₀ a c to off k = k
 
 loop-holds : tie.Need-loop-holds Inv-loop μ-loop
 loop-holds c = (begin _ _ _ _ (c .before .before .pre .0) (c .before .before .pre .1 .0), c .before .before .pre .1 .1)

@@ -7,7 +7,7 @@ use Rattle.build_history.proofs.put_val.Tie as tie
 use Rattle.build_history.proofs.put_val.Reads as reads
 use Rattle.build_history.proofs.put_val.Lts as lts
 use Rattle.build_history.proofs.copy_part.Reads as copy-part-reads
-use Rattle.build_image.proofs.far_addr.Reads as far-addr-reads
+use Rattle.build_image.proofs.remote_addr.Reads as remote-addr-reads
 use Rattle.numbers.proofs.put_u64.Reads as put-u64-reads
 use Rattle.values.proofs.Val.write_front.Reads as write-front-reads
 
@@ -26,8 +26,8 @@ write-front-requires-2 c κs = search needs
 add-w : tie.Need-add-w
 add-w c = let z = away-fits _ _ _ _ _ _ _ _ (c .before .before .before .before .before .before .before .before .pre .0) (c .before .before .before .before .before .before .before .before .pre .1 .0) (c .before .before .before .before .before .before .before .before .pre .1 .1) (c .before .before .before .before .if1 .left) _ _ (c .before .before .write-front2 .ensures) in omega arith
 
-far-addr-requires : tie.Need-far-addr-requires
-far-addr-requires c κs = search needs
+remote-addr-requires : tie.Need-remote-addr-requires
+remote-addr-requires c κs = search needs
 
 put-u64-requires : tie.Need-put-u64-requires
 put-u64-requires c κs = away-room _ _ _ _ _ _ _ _ (c .before .before .before .before .before .before .before .before .before .before .pre .0) (c .before .before .before .before .before .before .before .before .before .before .pre .1 .0) (c .before .before .before .before .before .before .before .before .before .before .pre .1 .1) (c .before .before .before .before .before .before .if1 .left) _ _ (c .before .before .before .before .write-front2 .ensures)
@@ -42,7 +42,7 @@ same-length-2 : tie.Need-same-length-2
 same-length-2 c = search needs
 
 returns-2 : tie.Need-returns-2
-returns-2 c = away-end _ _ _ _ _ _ _ _ (c .before .before .before .before .before .before .before .before .before .before .before .before .before .pre .0) (c .before .before .before .before .before .before .before .before .before .before .before .before .before .pre .1 .0) (c .before .before .before .before .before .before .before .before .before .before .before .before .before .pre .1 .1) (c .before .before .before .before .before .before .before .before .before .if1 .left) _ _ (c .before .before .before .before .before .before .before .write-front2 .ensures) _ (c .before .before .before .before .far-addr .ensures) _ (c .before .before .put-u64 .ensures)
+returns-2 c = away-end _ _ _ _ _ _ _ _ (c .before .before .before .before .before .before .before .before .before .before .before .before .before .pre .0) (c .before .before .before .before .before .before .before .before .before .before .before .before .before .pre .1 .0) (c .before .before .before .before .before .before .before .before .before .before .before .before .before .pre .1 .1) (c .before .before .before .before .before .before .before .before .before .if1 .left) _ _ (c .before .before .before .before .before .before .before .write-front2 .ensures) _ (c .before .before .before .before .remote-addr .ensures) _ (c .before .before .put-u64 .ensures)
 
 pub put-val-spec : {M : Type 1} → statement M
 put-val-spec =
@@ -53,7 +53,7 @@ put-val-spec =
     copy-part-requires
     write-front-requires-2
     add-w
-    far-addr-requires
+    remote-addr-requires
     put-u64-requires
     same-length
     returns

@@ -2,7 +2,7 @@ use native.Mathlib.Omega.{arith}
 use mathlib.Core.Path.{_≡_, refl, sym, ap, _∙_}
 use Prim.Native.Nat.{_+_}
 use denote.Ref.{now}
-use Rattle.build_history.proofs.Straight.{far-room, far-room1, far-asks, far-zeros, far-end}
+use Rattle.build_history.proofs.Straight.{remote-room, remote-room1, remote-asks, remote-zeros, remote-end}
 use borrow.Author.Needs.{needs}
 use Rattle.build_history.proofs.remote_frame.Statement.{statement}
 use Rattle.build_history.proofs.remote_frame.Tie as tie
@@ -21,19 +21,19 @@ cast-payload : tie.Need-cast-payload
 cast-payload c = search needs
 
 put-box-requires : tie.Need-put-box-requires
-put-box-requires c κs = far-room (now (c .before .before .before .args .list)) (now (c .before .before .before .args .a)) (c .before .before .before .args .low) (c .before .before .before .args .at) (c .before .before .before .args .inside) (c .before .before .before .args .from) (c .before .before .before .args .n) (c .before .before .before .args .m) (c .before .before .before .pre .0) (c .before .before .before .pre .1 .1 .0) (c .before .before .before .pre .1 .1 .1)
+put-box-requires c κs = remote-room (now (c .before .before .before .args .list)) (now (c .before .before .before .args .a)) (c .before .before .before .args .ground) (c .before .before .before .args .at) (c .before .before .before .args .inside) (c .before .before .before .args .from) (c .before .before .before .args .n) (c .before .before .before .args .m) (c .before .before .before .pre .0) (c .before .before .before .pre .1 .1 .0) (c .before .before .before .pre .1 .1 .1)
 
 add-s : tie.Need-add-s
 add-s c = search needs
 
 put-u64-requires : tie.Need-put-u64-requires
-put-u64-requires c κs = far-room1 (now (c .before .before .before .before .before .before .before .args .list)) (now (c .before .before .before .before .before .before .before .args .a)) (c .before .before .before .before .before .before .before .args .low) (c .before .before .before .before .before .before .before .args .at) (c .before .before .before .before .before .before .before .args .inside) (c .before .before .before .before .before .before .before .args .from) (c .before .before .before .before .before .before .before .args .n) (c .before .before .before .before .before .before .before .args .m) (c .before .before .before .before .before .before .before .pre .0) (c .before .before .before .before .before .before .before .pre .1 .1 .0) (c .before .before .before .before .before .before .before .pre .1 .1 .1) _ (c .before .before .before .put-box .ensures)
+put-u64-requires c κs = remote-room1 (now (c .before .before .before .before .before .before .before .args .list)) (now (c .before .before .before .before .before .before .before .args .a)) (c .before .before .before .before .before .before .before .args .ground) (c .before .before .before .before .before .before .before .args .at) (c .before .before .before .before .before .before .before .args .inside) (c .before .before .before .before .before .before .before .args .from) (c .before .before .before .before .before .before .before .args .n) (c .before .before .before .before .before .before .before .args .m) (c .before .before .before .before .before .before .before .pre .0) (c .before .before .before .before .before .before .before .pre .1 .1 .0) (c .before .before .before .before .before .before .before .pre .1 .1 .1) _ (c .before .before .before .put-box .ensures)
 
 add-v : tie.Need-add-v
 add-v c = search needs
 
 copy-part-requires : tie.Need-copy-part-requires
-copy-part-requires c κs = far-asks (now (c .before .before .before .before .before .before .before .before .before .before .before .args .list)) (now (c .before .before .before .before .before .before .before .before .before .before .before .args .a)) (c .before .before .before .before .before .before .before .before .before .before .before .args .low) (c .before .before .before .before .before .before .before .before .before .before .before .args .at) (c .before .before .before .before .before .before .before .before .before .before .before .args .inside) (c .before .before .before .before .before .before .before .before .before .before .before .args .from) (c .before .before .before .before .before .before .before .before .before .before .before .args .n) (c .before .before .before .before .before .before .before .before .before .before .before .args .m) (c .before .before .before .before .before .before .before .before .before .before .before .pre .0) (c .before .before .before .before .before .before .before .before .before .before .before .pre .1 .1 .0) (c .before .before .before .before .before .before .before .before .before .before .before .pre .1 .1 .1) _ (c .before .before .before .before .before .before .before .put-box .ensures) _ (c .before .before .before .put-u64 .ensures)
+copy-part-requires c κs = remote-asks (now (c .before .before .before .before .before .before .before .before .before .before .before .args .list)) (now (c .before .before .before .before .before .before .before .before .before .before .before .args .a)) (c .before .before .before .before .before .before .before .before .before .before .before .args .ground) (c .before .before .before .before .before .before .before .before .before .before .before .args .at) (c .before .before .before .before .before .before .before .before .before .before .before .args .inside) (c .before .before .before .before .before .before .before .before .before .before .before .args .from) (c .before .before .before .before .before .before .before .before .before .before .before .args .n) (c .before .before .before .before .before .before .before .before .before .before .before .args .m) (c .before .before .before .before .before .before .before .before .before .before .before .pre .0) (c .before .before .before .before .before .before .before .before .before .before .before .pre .1 .1 .0) (c .before .before .before .before .before .before .before .before .before .before .before .pre .1 .1 .1) _ (c .before .before .before .before .before .before .before .put-box .ensures) _ (c .before .before .before .put-u64 .ensures)
 
 add-z : tie.Need-add-z
 add-z c = search needs
@@ -51,13 +51,13 @@ sub-k : tie.Need-sub-k
 sub-k c = search needs
 
 zeros-requires : tie.Need-zeros-requires
-zeros-requires c κs = far-zeros (now (c .before .before .before .before .before .before .before .before .before .before .before .before .before .before .before .before .args .list)) (now (c .before .before .before .before .before .before .before .before .before .before .before .before .before .before .before .before .args .a)) (c .before .before .before .before .before .before .before .before .before .before .before .before .before .before .before .before .args .low) (c .before .before .before .before .before .before .before .before .before .before .before .before .before .before .before .before .args .at) (c .before .before .before .before .before .before .before .before .before .before .before .before .before .before .before .before .args .inside) (c .before .before .before .before .before .before .before .before .before .before .before .before .before .before .before .before .args .from) (c .before .before .before .before .before .before .before .before .before .before .before .before .before .before .before .before .args .n) (c .before .before .before .before .before .before .before .before .before .before .before .before .before .before .before .before .args .m) (c .before .before .before .before .before .before .before .before .before .before .before .before .before .before .before .before .pre .0) (c .before .before .before .before .before .before .before .before .before .before .before .before .before .before .before .before .pre .1 .1 .0) (c .before .before .before .before .before .before .before .before .before .before .before .before .before .before .before .before .pre .1 .1 .1) _ (c .before .before .before .before .before .before .before .before .before .before .before .before .put-box .ensures) _ (c .before .before .before .before .before .before .before .before .put-u64 .ensures) _ (c .before .before .before .before .copy-part .ensures) _ (c .before .frame-len .ensures)
+zeros-requires c κs = remote-zeros (now (c .before .before .before .before .before .before .before .before .before .before .before .before .before .before .before .before .args .list)) (now (c .before .before .before .before .before .before .before .before .before .before .before .before .before .before .before .before .args .a)) (c .before .before .before .before .before .before .before .before .before .before .before .before .before .before .before .before .args .ground) (c .before .before .before .before .before .before .before .before .before .before .before .before .before .before .before .before .args .at) (c .before .before .before .before .before .before .before .before .before .before .before .before .before .before .before .before .args .inside) (c .before .before .before .before .before .before .before .before .before .before .before .before .before .before .before .before .args .from) (c .before .before .before .before .before .before .before .before .before .before .before .before .before .before .before .before .args .n) (c .before .before .before .before .before .before .before .before .before .before .before .before .before .before .before .before .args .m) (c .before .before .before .before .before .before .before .before .before .before .before .before .before .before .before .before .pre .0) (c .before .before .before .before .before .before .before .before .before .before .before .before .before .before .before .before .pre .1 .1 .0) (c .before .before .before .before .before .before .before .before .before .before .before .before .before .before .before .before .pre .1 .1 .1) _ (c .before .before .before .before .before .before .before .before .before .before .before .before .put-box .ensures) _ (c .before .before .before .before .before .before .before .before .put-u64 .ensures) _ (c .before .before .before .before .copy-part .ensures) _ (c .before .frame-len .ensures)
 
 same-length : tie.Need-same-length
 same-length c = search needs
 
 returns : tie.Need-returns
-returns c = far-end (now (c .before .before .before .before .before .before .before .before .before .before .before .before .before .before .before .before .before .before .before .args .list)) (now (c .before .before .before .before .before .before .before .before .before .before .before .before .before .before .before .before .before .before .before .args .a)) (c .before .before .before .before .before .before .before .before .before .before .before .before .before .before .before .before .before .before .before .args .low) (c .before .before .before .before .before .before .before .before .before .before .before .before .before .before .before .before .before .before .before .args .at) (c .before .before .before .before .before .before .before .before .before .before .before .before .before .before .before .before .before .before .before .args .inside) (c .before .before .before .before .before .before .before .before .before .before .before .before .before .before .before .before .before .before .before .args .from) (c .before .before .before .before .before .before .before .before .before .before .before .before .before .before .before .before .before .before .before .args .n) (c .before .before .before .before .before .before .before .before .before .before .before .before .before .before .before .before .before .before .before .args .m) (c .before .before .before .before .before .before .before .before .before .before .before .before .before .before .before .before .before .before .before .pre .0) (c .before .before .before .before .before .before .before .before .before .before .before .before .before .before .before .before .before .before .before .pre .1 .1 .0) (c .before .before .before .before .before .before .before .before .before .before .before .before .before .before .before .before .before .before .before .pre .1 .1 .1) _ (c .before .before .before .before .before .before .before .before .before .before .before .before .before .before .before .put-box .ensures) _ (c .before .before .before .before .before .before .before .before .before .before .before .put-u64 .ensures) _ (c .before .before .before .before .before .before .before .copy-part .ensures) _ (c .before .before .before .before .frame-len .ensures) _ (c .before .before .zeros .ensures)
+returns c = remote-end (now (c .before .before .before .before .before .before .before .before .before .before .before .before .before .before .before .before .before .before .before .args .list)) (now (c .before .before .before .before .before .before .before .before .before .before .before .before .before .before .before .before .before .before .before .args .a)) (c .before .before .before .before .before .before .before .before .before .before .before .before .before .before .before .before .before .before .before .args .ground) (c .before .before .before .before .before .before .before .before .before .before .before .before .before .before .before .before .before .before .before .args .at) (c .before .before .before .before .before .before .before .before .before .before .before .before .before .before .before .before .before .before .before .args .inside) (c .before .before .before .before .before .before .before .before .before .before .before .before .before .before .before .before .before .before .before .args .from) (c .before .before .before .before .before .before .before .before .before .before .before .before .before .before .before .before .before .before .before .args .n) (c .before .before .before .before .before .before .before .before .before .before .before .before .before .before .before .before .before .before .before .args .m) (c .before .before .before .before .before .before .before .before .before .before .before .before .before .before .before .before .before .before .before .pre .0) (c .before .before .before .before .before .before .before .before .before .before .before .before .before .before .before .before .before .before .before .pre .1 .1 .0) (c .before .before .before .before .before .before .before .before .before .before .before .before .before .before .before .before .before .before .before .pre .1 .1 .1) _ (c .before .before .before .before .before .before .before .before .before .before .before .before .before .before .before .put-box .ensures) _ (c .before .before .before .before .before .before .before .before .before .before .before .put-u64 .ensures) _ (c .before .before .before .before .before .before .before .copy-part .ensures) _ (c .before .before .before .before .frame-len .ensures) _ (c .before .before .zeros .ensures)
 
 pub remote-frame-spec : {M : Type 1} → statement M
 remote-frame-spec =

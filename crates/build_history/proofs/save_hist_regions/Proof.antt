@@ -14,10 +14,10 @@ use Rattle.build_history.proofs.hist_page.Reads as hist-page-reads
 use Rattle.build_history.proofs.look_ahead.Reads as look-ahead-reads
 
 abbrev Inv-loop : tie.InvT-loop
-Inv-loop a₀ low list at m c₀ to₀ a c to = Histories a₀ list low at m c₀ a c to
+Inv-loop a₀ ground list at m c₀ to₀ a c to = Histories a₀ list ground at m c₀ a c to
 
 abbrev μ-loop : tie.MeasureT-loop
-μ-loop a₀ low list at m c₀ to₀ a c to = length (only true (entries list (take low a₀) c))
+μ-loop a₀ ground list at m c₀ to₀ a c to = length (only true (entries list (take ground a₀) c))
 
 loop-holds : tie.Need-loop-holds Inv-loop μ-loop
 loop-holds c = hist-begin _ _ _ _ _ _ (c .before .before .pre .0) (c .before .before .pre .1 .1)

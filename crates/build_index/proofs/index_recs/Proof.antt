@@ -17,10 +17,10 @@ use Rattle.build_index.proofs.index_rec.Reads as index-rec-reads
 use Rattle.build_sources.proofs.next.Reads as next-reads
 
 abbrev Inv-loop : tie.InvT-loop
-Inv-loop a₀ low list at p c₀ to₀ a c to = Recording a₀ list low (put a₀ at (indexRecs p (entries list (take low a₀) c₀))) p a c to
+Inv-loop a₀ ground list at p c₀ to₀ a c to = Recording a₀ list ground (put a₀ at (indexRecs p (entries list (take ground a₀) c₀))) p a c to
 
 abbrev μ-loop : tie.MeasureT-loop
-μ-loop a₀ low list at p c₀ to₀ a c to = leftOf list (take low a₀) c
+μ-loop a₀ ground list at p c₀ to₀ a c to = leftOf list (take ground a₀) c
 
 loop-holds : tie.Need-loop-holds Inv-loop μ-loop
 loop-holds c = record { writing = begin _ _ _ _ (c .before .before .pre .0) (c .before .before .pre .1 .1); long = c .before .before .pre .1 .0 }

@@ -12,10 +12,10 @@ use Rattle.build_index.proofs.key_len.Reads as key-len-reads
 use Rattle.build_sources.proofs.next.Reads as next-reads
 
 abbrev Inv-loop : tie.InvT-loop
-Inv-loop list low p c₀ n₀ c n = Summing list low p c₀ c n
+Inv-loop list ground p c₀ n₀ c n = Summing list ground p c₀ c n
 
 abbrev μ-loop : tie.MeasureT-loop
-μ-loop list low p c₀ n₀ c n = leftOf list low c
+μ-loop list ground p c₀ n₀ c n = leftOf list ground c
 
 loop-holds : tie.Need-loop-holds Inv-loop μ-loop
 loop-holds c = sum-begin _ _ _ _ (c .before .before .pre .0) (c .before .before .pre .1)

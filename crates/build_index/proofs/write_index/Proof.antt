@@ -7,7 +7,7 @@ use Rattle.build_index.proofs.write_index.Statement.{statement}
 use Rattle.build_index.proofs.write_index.Tie as tie
 use Rattle.build_index.proofs.write_index.Reads as reads
 use Rattle.build_index.proofs.write_index.Lts as lts
-use Rattle.build_bounds.proofs.put_edge.Reads as put-edge-reads
+use Rattle.build_bounds.proofs.put_boundary.Reads as put-boundary-reads
 use Rattle.frames.proofs.frame_len.Reads as frame-len-reads
 use Rattle.build_index.proofs.index_head.Reads as index-head-reads
 use Rattle.build_index.proofs.index_recs.Reads as index-recs-reads
@@ -41,20 +41,20 @@ mul-q c = omega (arith, c .before .before .before .before .before .before .befor
 add-q : tie.Need-add-q
 add-q c = let z = fits _ _ _ _ _ (c .before .before .before .before .before .before .before .before .before .before .before .before .before .before .args .m) _ _ _ _ _ (c .before .before .before .before .before .before .before .before .before .before .before .before .before .before .pre) in let y = sized _ _ _ _ _ (c .before .before .before .before .before .before .before .before .before .before .before .before .before .before .args .m) _ _ _ _ _ (c .before .before .before .before .before .before .before .before .before .before .before .before .before .before .pre) in omega (arith, z, y, c .before .before .before .before .before .before .before .before .before .before .before .before .before .before .good .0)
 
-put-edge-requires : tie.Need-put-edge-requires
-put-edge-requires c κs = lo-asks _ _ _ _ _ (c .before .before .before .before .before .before .before .before .before .before .before .before .before .before .before .args .m) _ _ _ _ _ (c .before .before .before .before .before .before .before .before .before .before .before .before .before .before .before .pre) _ (c .before .before .before .before .before .before .before .index-head .ensures) _ (c .before .before .before .index-slots .ensures)
+put-boundary-requires : tie.Need-put-boundary-requires
+put-boundary-requires c κs = lo-asks _ _ _ _ _ (c .before .before .before .before .before .before .before .before .before .before .before .before .before .before .before .args .m) _ _ _ _ _ (c .before .before .before .before .before .before .before .before .before .before .before .before .before .before .before .pre) _ (c .before .before .before .before .before .before .before .index-head .ensures) _ (c .before .before .before .index-slots .ensures)
 
 add-r : tie.Need-add-r
 add-r c = let z = fits _ _ _ _ _ (c .before .before .before .before .before .before .before .before .before .before .before .before .before .before .before .before .before .before .args .m) _ _ _ _ _ (c .before .before .before .before .before .before .before .before .before .before .before .before .before .before .before .before .before .before .pre) in let y = sized _ _ _ _ _ (c .before .before .before .before .before .before .before .before .before .before .before .before .before .before .before .before .before .before .args .m) _ _ _ _ _ (c .before .before .before .before .before .before .before .before .before .before .before .before .before .before .before .before .before .before .pre) in omega (arith, z, y, c .before .before .before .before .before .before .before .before .before .before .before .before .before .before .before .before .before .before .good .0)
 
-put-edge-requires-2 : tie.Need-put-edge-requires-2
-put-edge-requires-2 c κs = hi-asks _ _ _ _ _ (c .before .before .before .before .before .before .before .before .before .before .before .before .before .before .before .before .before .before .before .args .m) _ _ _ _ _ (c .before .before .before .before .before .before .before .before .before .before .before .before .before .before .before .before .before .before .before .pre) _ (c .before .before .before .before .before .before .before .before .before .before .before .index-head .ensures) _ (c .before .before .before .before .before .before .before .index-slots .ensures) _ (c .before .before .before .put-edge .ensures)
+put-boundary-requires-2 : tie.Need-put-boundary-requires-2
+put-boundary-requires-2 c κs = hi-asks _ _ _ _ _ (c .before .before .before .before .before .before .before .before .before .before .before .before .before .before .before .before .before .before .before .args .m) _ _ _ _ _ (c .before .before .before .before .before .before .before .before .before .before .before .before .before .before .before .before .before .before .before .pre) _ (c .before .before .before .before .before .before .before .before .before .before .before .index-head .ensures) _ (c .before .before .before .before .before .before .before .index-slots .ensures) _ (c .before .before .before .put-boundary .ensures)
 
 add-t : tie.Need-add-t
 add-t c = let z = fits _ _ _ _ _ (c .before .before .before .before .before .before .before .before .before .before .before .before .before .before .before .before .before .before .before .before .before .before .args .m) _ _ _ _ _ (c .before .before .before .before .before .before .before .before .before .before .before .before .before .before .before .before .before .before .before .before .before .before .pre) in let y = sized _ _ _ _ _ (c .before .before .before .before .before .before .before .before .before .before .before .before .before .before .before .before .before .before .before .before .before .before .args .m) _ _ _ _ _ (c .before .before .before .before .before .before .before .before .before .before .before .before .before .before .before .before .before .before .before .before .before .before .pre) in omega (arith, z, y, c .before .before .before .before .before .before .before .before .before .before .before .before .before .before .before .before .before .before .before .before .before .before .good .0)
 
 index-recs-requires : tie.Need-index-recs-requires
-index-recs-requires c κs = recs-asks _ _ _ _ _ (c .before .before .before .before .before .before .before .before .before .before .before .before .before .before .before .before .before .before .before .before .before .before .before .args .m) _ _ _ _ _ (c .before .before .before .before .before .before .before .before .before .before .before .before .before .before .before .before .before .before .before .before .before .before .before .pre) _ (c .before .before .before .before .before .before .before .before .before .before .before .before .before .before .before .index-head .ensures) _ (c .before .before .before .before .before .before .before .before .before .before .before .index-slots .ensures) _ (c .before .before .before .before .before .before .before .put-edge .ensures) _ (c .before .before .before .put-edge2 .ensures)
+index-recs-requires c κs = recs-asks _ _ _ _ _ (c .before .before .before .before .before .before .before .before .before .before .before .before .before .before .before .before .before .before .before .before .before .before .before .args .m) _ _ _ _ _ (c .before .before .before .before .before .before .before .before .before .before .before .before .before .before .before .before .before .before .before .before .before .before .before .pre) _ (c .before .before .before .before .before .before .before .before .before .before .before .before .before .before .before .index-head .ensures) _ (c .before .before .before .before .before .before .before .before .before .before .before .index-slots .ensures) _ (c .before .before .before .before .before .before .before .put-boundary .ensures) _ (c .before .before .before .put-boundary2 .ensures)
 
 add-z : tie.Need-add-z
 add-z c = omega (arith, c .before .before .before .before .before .before .before .before .before .before .before .before .before .before .before .before .before .before .before .before .before .before .before .before .before .before .pre .small)
@@ -75,13 +75,13 @@ sub-zeros : tie.Need-sub-zeros
 sub-zeros c = omega (arith, c .frame-len .ensures, frame-least (c .before .before .before .before .before .before .before .before .before .before .before .before .before .before .before .before .before .before .before .before .before .before .before .before .before .before .before .before .args .size))
 
 zeros-requires : tie.Need-zeros-requires
-zeros-requires c κs = zeros-room _ _ _ _ _ (c .before .before .before .before .before .before .before .before .before .before .before .before .before .before .before .before .before .before .before .before .before .before .before .before .before .before .before .before .args .m) _ _ _ _ _ (c .before .before .before .before .before .before .before .before .before .before .before .before .before .before .before .before .before .before .before .before .before .before .before .before .before .before .before .before .pre) _ (c .before .before .before .before .before .before .before .before .before .before .before .before .before .before .before .before .before .before .before .before .index-head .ensures) _ (c .before .before .before .before .before .before .before .before .before .before .before .before .before .before .before .before .index-slots .ensures) _ (c .before .before .before .before .before .before .before .before .before .before .before .before .put-edge .ensures) _ (c .before .before .before .before .before .before .before .before .put-edge2 .ensures) _ (c .before .before .before .before .index-recs .ensures) _ (c .frame-len .ensures)
+zeros-requires c κs = zeros-room _ _ _ _ _ (c .before .before .before .before .before .before .before .before .before .before .before .before .before .before .before .before .before .before .before .before .before .before .before .before .before .before .before .before .args .m) _ _ _ _ _ (c .before .before .before .before .before .before .before .before .before .before .before .before .before .before .before .before .before .before .before .before .before .before .before .before .before .before .before .before .pre) _ (c .before .before .before .before .before .before .before .before .before .before .before .before .before .before .before .before .before .before .before .before .index-head .ensures) _ (c .before .before .before .before .before .before .before .before .before .before .before .before .before .before .before .before .index-slots .ensures) _ (c .before .before .before .before .before .before .before .before .before .before .before .before .put-boundary .ensures) _ (c .before .before .before .before .before .before .before .before .put-boundary2 .ensures) _ (c .before .before .before .before .index-recs .ensures) _ (c .frame-len .ensures)
 
 same-length : tie.Need-same-length
 same-length c = search needs
 
 returns : tie.Need-returns
-returns c = page-whole _ _ _ _ _ (c .before .before .before .before .before .before .before .before .before .before .before .before .before .before .before .before .before .before .before .before .before .before .before .before .before .before .before .before .before .before .before .args .m) _ _ _ _ _ (c .before .before .before .before .before .before .before .before .before .before .before .before .before .before .before .before .before .before .before .before .before .before .before .before .before .before .before .before .before .before .before .pre) _ (c .before .before .before .before .before .before .before .before .before .before .before .before .before .before .before .before .before .before .before .before .before .before .before .index-head .ensures) _ (c .before .before .before .before .before .before .before .before .before .before .before .before .before .before .before .before .before .before .before .index-slots .ensures) _ (c .before .before .before .before .before .before .before .before .before .before .before .before .before .before .before .put-edge .ensures) _ (c .before .before .before .before .before .before .before .before .before .before .before .put-edge2 .ensures) _ (c .before .before .before .before .before .before .before .index-recs .ensures) _ (c .before .before .before .frame-len .ensures) _ (c .before .before .zeros .ensures)
+returns c = page-whole _ _ _ _ _ (c .before .before .before .before .before .before .before .before .before .before .before .before .before .before .before .before .before .before .before .before .before .before .before .before .before .before .before .before .before .before .before .args .m) _ _ _ _ _ (c .before .before .before .before .before .before .before .before .before .before .before .before .before .before .before .before .before .before .before .before .before .before .before .before .before .before .before .before .before .before .before .pre) _ (c .before .before .before .before .before .before .before .before .before .before .before .before .before .before .before .before .before .before .before .before .before .before .before .index-head .ensures) _ (c .before .before .before .before .before .before .before .before .before .before .before .before .before .before .before .before .before .before .before .index-slots .ensures) _ (c .before .before .before .before .before .before .before .before .before .before .before .before .before .before .before .put-boundary .ensures) _ (c .before .before .before .before .before .before .before .before .before .before .before .put-boundary2 .ensures) _ (c .before .before .before .before .before .before .before .index-recs .ensures) _ (c .before .before .before .frame-len .ensures) _ (c .before .before .zeros .ensures)
 
 pub write-index-spec : {M : Type 1} → statement M
 write-index-spec =
@@ -96,9 +96,9 @@ write-index-spec =
     index-slots-requires
     mul-q
     add-q
-    put-edge-requires
+    put-boundary-requires
     add-r
-    put-edge-requires-2
+    put-boundary-requires-2
     add-t
     index-recs-requires
     add-z

@@ -1,68 +1,63 @@
 use native.Mathlib.Omega.{arith}
-use mathlib.Core.Path.{_≡_, refl, sym, ap, _∙_}
 use Rattle.build_leaf.proofs.Frame.{head-end}
 use borrow.Author.Needs.{needs}
 use Rattle.build_leaf.proofs.leaf_head.Statement.{statement}
 use Rattle.build_leaf.proofs.leaf_head.Tie as tie
 use Rattle.build_leaf.proofs.leaf_head.Reads as reads
 use Rattle.build_leaf.proofs.leaf_head.Lts as lts
-use Rattle.frames.proofs.put_base.Reads as put-base-reads
-use Rattle.frames.proofs.put_box.Reads as put-box-reads
+use Rattle.build_image.proofs.page_head.Reads as page-head-reads
+use Rattle.frames.proofs.BaseHeader.new.Reads as new-reads
 use Rattle.build_leaf.proofs.one_if.Reads as one-if-reads
 
 one-if-requires : tie.Need-one-if-requires
 one-if-requires c κs = search needs
 
-add-t11 : tie.Need-add-t11
-add-t11 c = omega (arith, c .before .before .before .before .pre .1 .0 .size)
+add-payload : tie.Need-add-payload
+add-payload c = omega (arith, c .before .before .before .before .pre .1 .0 .size)
 
-cast-t12 : tie.Need-cast-t12
-cast-t12 c = omega (arith, c .before .before .before .before .pre .1 .0 .size)
+cast-payload : tie.Need-cast-payload
+cast-payload c = omega (arith, c .before .before .before .before .pre .1 .0 .size)
 
-put-box-requires : tie.Need-put-box-requires
-put-box-requires c κs = search needs
+cast-n : tie.Need-cast-n
+cast-n c = omega (arith, c .before .before .before .before .before .pre .1 .1)
 
-cast-t12-2 : tie.Need-cast-t12-2
-cast-t12-2 c = omega (arith, c .before .before .before .before .before .before .before .before .pre .1 .0 .size)
+cast-lo : tie.Need-cast-lo
+cast-lo c = omega (arith, c .before .before .before .before .before .before .pre .1 .0 .lo)
 
-cast-t17 : tie.Need-cast-t17
-cast-t17 c = omega (arith, c .before .before .before .before .before .before .before .before .before .pre .1 .1)
+cast-hi : tie.Need-cast-hi
+cast-hi c = omega (arith, c .before .before .before .before .before .before .before .pre .1 .0 .hi)
 
-cast-t19 : tie.Need-cast-t19
-cast-t19 c = omega (arith, c .before .before .before .before .before .before .before .before .before .before .pre .1 .0 .lo)
+cast-new : tie.Need-cast-new
+cast-new c = omega (arith, c .before .before .before .before .before .before .before .pre .1 .0 .size)
 
-cast-t20 : tie.Need-cast-t20
-cast-t20 c = omega (arith, c .before .before .before .before .before .before .before .before .before .before .before .pre .1 .0 .hi)
+cast-new-2 : tie.Need-cast-new-2
+cast-new-2 c = omega (arith, c .before .before .before .before .before .before .before .before .pre .1 .0 .prefix)
 
-cast-t21 : tie.Need-cast-t21
-cast-t21 c = omega (arith, c .before .before .before .before .before .before .before .before .before .before .before .before .pre .1 .0 .prefix)
+new-requires : tie.Need-new-requires
+new-requires c κs = search needs
 
-add-put-base : tie.Need-add-put-base
-add-put-base c = search needs
-
-put-base-requires : tie.Need-put-base-requires
-put-base-requires c κs = search needs
+page-head-requires : tie.Need-page-head-requires
+page-head-requires c κs = omega (arith, c .before .before .before .before .before .before .before .before .before .before .pre .0)
 
 same-length : tie.Need-same-length
 same-length c = search needs
 
 returns : tie.Need-returns
-returns c = head-end _ _ _ _ _ _ _ _ (c .before .before .before .before .before .before .before .before .before .before .before .before .before .before .one-if .ensures) (c .before .before .before .before .before .before .before .before .before .before .put-box .ensures) (c .before .before .put-base .ensures)
+returns c = head-end _ _ _ _ _ _ _ _ (c .before .before .before .before .before .before .before .before .before .before .before .one-if .ensures) (c .before .before .before .before .new .ensures) (c .before .before .page-head .ensures)
 
 pub leaf-head-spec : {M : Type 1} → statement M
 leaf-head-spec =
     tie.close
     (tie.spec
     one-if-requires
-    add-t11
-    cast-t12
-    put-box-requires
-    cast-t12-2
-    cast-t17
-    cast-t19
-    cast-t20
-    cast-t21
-    add-put-base
-    put-base-requires
+    add-payload
+    cast-payload
+    cast-n
+    cast-lo
+    cast-hi
+    cast-new
+    cast-new-2
+    new-requires
+    page-head-requires
     same-length
     returns)

@@ -21,8 +21,8 @@ cast-frame-len c = let z = page-small _ _ _ _ (c .before .before .before .before
 frame-len-requires : tie.Need-frame-len-requires
 frame-len-requires c κs = search needs
 
-add-far : tie.Need-add-far
-add-far c = let z = page-fits _ _ _ _ _ (c .before .before .before .before .before .before .before .pre .0) _ (c .before .before .before .before .look-ahead .ensures .0) (c .before .before .if1 .left) _ (c .frame-len .ensures) (c .before .before .before .before .before .before .before .pre .1) in omega (arith, z)
+add-remote : tie.Need-add-remote
+add-remote c = let z = page-fits _ _ _ _ _ (c .before .before .before .before .before .before .before .pre .0) _ (c .before .before .before .before .look-ahead .ensures .0) (c .before .before .if1 .left) _ (c .frame-len .ensures) (c .before .before .before .before .before .before .before .pre .1) in omega (arith, z)
 
 add-next : tie.Need-add-next
 add-next c = let z = page-fits _ _ _ _ _ (c .before .before .before .before .before .before .before .before .pre .0) _ (c .before .before .before .before .before .look-ahead .ensures .0) (c .before .before .before .if1 .left) _ (c .before .frame-len .ensures) (c .before .before .before .before .before .before .before .before .pre .1) in omega (arith, z)
@@ -38,6 +38,6 @@ page-at-spec =
     returns
     cast-frame-len
     frame-len-requires
-    add-far
+    add-remote
     add-next
     returns-2)

@@ -18,10 +18,10 @@ use Rattle.build_leaf.proofs.page_at.Reads as page-at-reads
 use Rattle.build_leaf.proofs.page_hint.Reads as page-hint-reads
 
 abbrev Inv-loop : tie.InvT-loop
-Inv-loop a₀ low list b at m first c₀ to₀ page₀ a c to page = Paged a₀ list low (put a₀ at (hintsAt b m first (only true (entries list (take low a₀) c₀)))) b m (at + length (hintsAt b m first (only true (entries list (take low a₀) c₀)))) a c to page
+Inv-loop a₀ ground list b at m first c₀ to₀ page₀ a c to page = Paged a₀ list ground (put a₀ at (hintsAt b m first (only true (entries list (take ground a₀) c₀)))) b m (at + length (hintsAt b m first (only true (entries list (take ground a₀) c₀)))) a c to page
 
 abbrev μ-loop : tie.MeasureT-loop
-μ-loop a₀ low list b at m first c₀ to₀ page₀ a c to page = length (only true (entries list (take low a₀) c))
+μ-loop a₀ ground list b at m first c₀ to₀ page₀ a c to page = length (only true (entries list (take ground a₀) c))
 
 loop-holds : tie.Need-loop-holds Inv-loop μ-loop
 loop-holds c = record { writing = begin _ _ _ _ (c .before .before .pre .0) (c .before .before .pre .1 .1 .1); last = refl; ends = c .before .before .pre .1 .1 .0 }

@@ -13,10 +13,10 @@ use Rattle.build_sources.proofs.key_begins.Reads as key-begins-reads
 use Rattle.build_sources.proofs.next.Reads as next-reads
 
 abbrev Inv-loop : tie.InvT-loop
-Inv-loop list low pre c₀ c = prefixed pre (entries list low c) ≡ prefixed pre (entries list low c₀)
+Inv-loop list ground pre c₀ c = prefixed pre (entries list ground c) ≡ prefixed pre (entries list ground c₀)
 
 abbrev μ-loop : tie.MeasureT-loop
-μ-loop list low pre c₀ c = leftOf list low c
+μ-loop list ground pre c₀ c = leftOf list ground c
 
 loop-holds : tie.Need-loop-holds Inv-loop μ-loop
 loop-holds c = refl

@@ -1,4 +1,4 @@
--- `sources::is_same` meets its contract. Assumes nothing.
+-- `build_sources::is_same` meets its contract. Assumes nothing.
 use Rattle.build_sources.specs.Lists.{sameKey}
 use borrow.Author.Needs.{needs}
 use Rattle.build_sources.proofs.is_same.Statement.{statement}

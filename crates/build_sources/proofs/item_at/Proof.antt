@@ -30,7 +30,7 @@ returns-3 : tie.Need-returns-3
 returns-3 c = no-value _ _ _ _ _ _ _ _ (sym (c .before .before .before .before .before .room .ensures) ∙ not-false _ (c .before .before .before .before .if1 .left)) (sym (c .before .before .before .room2 .ensures) ∙ not-false _ (c .before .before .if2 .left)) (sym (c .before .room3 .ensures) ∙ not-true _ (c .if3 .taken))
 
 add-if4 : tie.Need-add-if4
-add-if4 c = omega (arith, room-sum (c .before .before .before .before .before .before .before .before .before .before .before .args .c .pre .at) (c .before .before .before .before .before .before .before .before .before .before .before .args .c .pre .len) (c .before .before .before .before .before .before .before .before .before .before .before .args .rest .at) (c .before .before .before .before .before .before .before .before .before .before .before .args .rest .len) (length (c .before .before .before .before .before .before .before .before .before .before .before .args .low .now)) (sym (c .before .before .before .before .before .before .before .room .ensures) ∙ not-false _ (c .before .before .before .before .before .before .if1 .left)) (sym (c .before .before .before .before .before .room2 .ensures) ∙ not-false _ (c .before .before .before .before .if2 .left)))
+add-if4 c = omega (arith, room-sum (c .before .before .before .before .before .before .before .before .before .before .before .args .c .pre .at) (c .before .before .before .before .before .before .before .before .before .before .before .args .c .pre .len) (c .before .before .before .before .before .before .before .before .before .before .before .args .rest .at) (c .before .before .before .before .before .before .before .before .before .before .before .args .rest .len) (length (c .before .before .before .before .before .before .before .before .before .before .before .args .ground .now)) (sym (c .before .before .before .before .before .before .before .room .ensures) ∙ not-false _ (c .before .before .before .before .before .before .if1 .left)) (sym (c .before .before .before .before .before .room2 .ensures) ∙ not-false _ (c .before .before .before .before .if2 .left)))
 
 returns-4 : tie.Need-returns-4
 returns-4 c = no-key _ _ _ _ _ _ _ _ (sym (c .before .before .before .before .before .before .before .before .room .ensures) ∙ not-false _ (c .before .before .before .before .before .before .before .if1 .left)) (sym (c .before .before .before .before .before .before .room2 .ensures) ∙ not-false _ (c .before .before .before .before .before .if2 .left)) (sym (c .before .before .before .before .room3 .ensures) ∙ not-false _ (c .before .before .before .if3 .left)) (c .if4 .taken)

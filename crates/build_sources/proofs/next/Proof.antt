@@ -17,7 +17,7 @@ returns : tie.Need-returns
 returns c = c .any-next .ensures
 
 returns-2 : tie.Need-returns-2
-returns-2 c = record-end (c .before .before .before .before .before .before .args .list .now) (c .before .before .before .before .before .before .args .low .now) (c .before .before .before .before .before .before .args .c) (c .before .before .if1 .left) (c .if2 .taken)
+returns-2 c = record-end (c .before .before .before .before .before .before .args .list .now) (c .before .before .before .before .before .before .args .ground .now) (c .before .before .before .before .before .before .args .c) (c .before .before .if1 .left) (c .if2 .taken)
 
 record-at-requires : tie.Need-record-at-requires
 record-at-requires c κs = search needs
@@ -30,14 +30,14 @@ enum-told c = search needs
 
 returns-3 : tie.Need-returns-3
 unfolding stepOf
-returns-3 c = ap (stepOf (c .before .before .before .before .before .before .before .before .before .args .c)) (sym (c .enum-told .given .1) ∙ c .before .before .record-at .ensures ∙ record-bare (c .before .before .before .before .before .before .before .before .before .args .list .now) (c .before .before .before .before .before .before .before .before .before .args .c)) ∙ record-on (c .before .before .before .before .before .before .before .before .before .args .list .now) (c .before .before .before .before .before .before .before .before .before .args .low .now) (c .before .before .before .before .before .before .before .before .before .args .c) (c .before .before .before .before .before .if1 .left) (c .before .before .before .if2 .left)
+returns-3 c = ap (stepOf (c .before .before .before .before .before .before .before .before .before .args .c)) (sym (c .enum-told .given .1) ∙ c .before .before .record-at .ensures ∙ record-bare (c .before .before .before .before .before .before .before .before .before .args .list .now) (c .before .before .before .before .before .before .before .before .before .args .c)) ∙ record-on (c .before .before .before .before .before .before .before .before .before .args .list .now) (c .before .before .before .before .before .before .before .before .before .args .ground .now) (c .before .before .before .before .before .before .before .before .before .args .c) (c .before .before .before .before .before .if1 .left) (c .before .before .before .if2 .left)
 
 apart-requires : tie.Need-apart-requires
 apart-requires c κs = search needs
 
 returns-4 : tie.Need-returns-4
 unfolding stepOf
-returns-4 c = walk-kept (c .before .before .before .before .before .before .before .before .before .before .before .before .before .before .args .c) _ _ _ (c .before .before .apart .ensures) ∙ ap (stepOf (c .before .before .before .before .before .before .before .before .before .before .before .before .before .before .args .c)) (sym (c .before .before .before .before .before .i .given .1) ∙ c .before .before .before .before .before .before .before .record-at .ensures ∙ record-bare (c .before .before .before .before .before .before .before .before .before .before .before .before .before .before .args .list .now) (c .before .before .before .before .before .before .before .before .before .before .before .before .before .before .args .c)) ∙ record-on (c .before .before .before .before .before .before .before .before .before .before .before .before .before .before .args .list .now) (c .before .before .before .before .before .before .before .before .before .before .before .before .before .before .args .low .now) (c .before .before .before .before .before .before .before .before .before .before .before .before .before .before .args .c) (c .before .before .before .before .before .before .before .before .before .before .if1 .left) (c .before .before .before .before .before .before .before .before .if2 .left)
+returns-4 c = walk-kept (c .before .before .before .before .before .before .before .before .before .before .before .before .before .before .args .c) _ _ _ (c .before .before .apart .ensures) ∙ ap (stepOf (c .before .before .before .before .before .before .before .before .before .before .before .before .before .before .args .c)) (sym (c .before .before .before .before .before .i .given .1) ∙ c .before .before .before .before .before .before .before .record-at .ensures ∙ record-bare (c .before .before .before .before .before .before .before .before .before .before .before .before .before .before .args .list .now) (c .before .before .before .before .before .before .before .before .before .before .before .before .before .before .args .c)) ∙ record-on (c .before .before .before .before .before .before .before .before .before .before .before .before .before .before .args .list .now) (c .before .before .before .before .before .before .before .before .before .before .before .before .before .before .args .ground .now) (c .before .before .before .before .before .before .before .before .before .before .before .before .before .before .args .c) (c .before .before .before .before .before .before .before .before .before .before .if1 .left) (c .before .before .before .before .before .before .before .before .if2 .left)
 
 pub next-spec : {M : Type 1} → statement M
 next-spec =

@@ -11,10 +11,10 @@ use Rattle.build_sources.proofs.is_wanted.Reads as is-wanted-reads
 use Rattle.build_sources.proofs.next.Reads as next-reads
 
 abbrev Inv-loop : tie.InvT-loop
-Inv-loop list low want c₀ c = only want (entries list low c) ≡ only want (entries list low c₀)
+Inv-loop list ground want c₀ c = only want (entries list ground c) ≡ only want (entries list ground c₀)
 
 abbrev μ-loop : tie.MeasureT-loop
-μ-loop list low want c₀ c = leftOf list low c
+μ-loop list ground want c₀ c = leftOf list ground c
 
 loop-holds : tie.Need-loop-holds Inv-loop μ-loop
 loop-holds c = refl

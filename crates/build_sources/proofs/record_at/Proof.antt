@@ -1,4 +1,4 @@
--- `sources::record_at` meets its contract. Assumes nothing.
+-- `build_sources::record_at` meets its contract. Assumes nothing.
 use native.Mathlib.Omega.{arith}
 use mathlib.Core.Path.{_∙_}
 use Rattle.build_sources.specs.Lists.{cursorAt}

@@ -13,10 +13,10 @@ use Rattle.build_sources.proofs.is_above.Reads as is-above-reads
 use Rattle.build_sources.proofs.next.Reads as next-reads
 
 abbrev Inv-loop : tie.InvT-loop
-Inv-loop list low last₀ c₀ n₀ last c n = Rising list low (entryOf list low last₀) c₀ (entryOf list low last) c n
+Inv-loop list ground last₀ c₀ n₀ last c n = Rising list ground (entryOf list ground last₀) c₀ (entryOf list ground last) c n
 
 abbrev μ-loop : tie.MeasureT-loop
-μ-loop list low last₀ c₀ n₀ last c n = leftOf list low c
+μ-loop list ground last₀ c₀ n₀ last c n = leftOf list ground c
 
 loop-holds : tie.Need-loop-holds Inv-loop μ-loop
 loop-holds c = rising-begin _ _ _ _
@@ -34,7 +34,7 @@ returns : tie.Need-returns Inv-loop μ-loop
 returns c = risen-stop _ _ _ _ _ _ _ (c .before .before .before .before .before .before .loop .inv) _ _ (got _ _ _ _ _ refl (c .before .before .before .before .before .next .ensures) _ _ (c .before .before .before .st .given .1)) (sym (c .before .is-above .ensures) ∙ not-true _ (c .if1 .taken))
 
 add-n : tie.Need-add-n Inv-loop μ-loop
-add-n c = omega (arith, c .before .before .before .before .before .before .loop .inv .left, left-long (c .before .before .before .before .before .before .before .before .before .args .list .now) (c .before .before .before .before .before .before .before .before .before .args .low .now) (c .before .before .before .before .before .before .before .before .before .args .from), got _ _ _ _ _ refl (c .before .before .before .before .before .next .ensures) _ _ (c .before .before .before .st .given .1) .falls)
+add-n c = omega (arith, c .before .before .before .before .before .before .loop .inv .left, left-long (c .before .before .before .before .before .before .before .before .before .args .list .now) (c .before .before .before .before .before .before .before .before .before .args .ground .now) (c .before .before .before .before .before .before .before .before .before .args .from), got _ _ _ _ _ refl (c .before .before .before .before .before .next .ensures) _ _ (c .before .before .before .st .given .1) .falls)
 
 loop-less : tie.Need-loop-less Inv-loop μ-loop
 loop-less c = got _ _ _ _ _ refl (c .before .before .before .before .before .next .ensures) _ _ (c .before .before .before .st .given .1) .falls

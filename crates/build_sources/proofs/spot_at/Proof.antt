@@ -1,4 +1,4 @@
--- `sources::spot_at` meets its contract. Assumes nothing.
+-- `build_sources::spot_at` meets its contract. Assumes nothing.
 use mathlib.Core.Path.{_∙_}
 use borrow.Author.Tests.{eq-eqb, ne-eqb}
 use Rattle.build_sources.specs.Lists.{spotAt}

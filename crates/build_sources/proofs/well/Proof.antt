@@ -9,10 +9,10 @@ use Rattle.build_sources.proofs.well.Lts as lts
 use Rattle.build_sources.proofs.next.Reads as next-reads
 
 abbrev Inv-loop : tie.InvT-loop
-Inv-loop list low c₀ c = wellFormed list low c ≡ wellFormed list low c₀
+Inv-loop list ground c₀ c = wellFormed list ground c ≡ wellFormed list ground c₀
 
 abbrev μ-loop : tie.MeasureT-loop
-μ-loop list low c₀ c = leftOf list low c
+μ-loop list ground c₀ c = leftOf list ground c
 
 loop-holds : tie.Need-loop-holds Inv-loop μ-loop
 loop-holds c = refl

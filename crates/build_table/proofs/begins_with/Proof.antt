@@ -4,7 +4,7 @@ use Prim.Native.Nat.{ℕ}
 use denote.Ref.{now}
 use Rattle.build_sources.specs.Source.{entries}
 use Rattle.build_sources.specs.Judged.{prefixed}
-use Rattle.build_table.proofs.Judging.{no-prefix, in-low, in-lent}
+use Rattle.build_table.proofs.Judging.{no-prefix, in-ground, in-lent}
 use borrow.Author.Needs.{needs}
 use Rattle.build_table.proofs.begins_with.Statement.{statement}
 use Rattle.build_table.proofs.begins_with.Tie as tie
@@ -23,7 +23,7 @@ begins-requires : tie.Need-begins-requires
 begins-requires c κs = search needs
 
 returns-2 : tie.Need-returns-2
-returns-2 c = c .begins .ensures ∙ ap (λ (x : List ℕ). prefixed x (entries (now (c .before .before .before .before .before .before .before .args .list)) (now (c .before .before .before .before .before .before .before .args .low)) (c .before .before .before .before .before .before .before .args .from))) (c .before .part-of .ensures ∙ in-low _ _ _ _ (c .before .before .before .before .before .before .before .pre .0) (c .before .before .before .before .before .before .before .pre .1) (c .before .before .if2 .taken))
+returns-2 c = c .begins .ensures ∙ ap (λ (x : List ℕ). prefixed x (entries (now (c .before .before .before .before .before .before .before .args .list)) (now (c .before .before .before .before .before .before .before .args .ground)) (c .before .before .before .before .before .before .before .args .from))) (c .before .part-of .ensures ∙ in-ground _ _ _ _ (c .before .before .before .before .before .before .before .pre .0) (c .before .before .before .before .before .before .before .pre .1) (c .before .before .if2 .taken))
 
 part-of-requires-2 : tie.Need-part-of-requires-2
 part-of-requires-2 c κs = search needs
@@ -32,7 +32,7 @@ begins-requires-2 : tie.Need-begins-requires-2
 begins-requires-2 c κs = search needs
 
 returns-3 : tie.Need-returns-3
-returns-3 c = c .begins2 .ensures ∙ ap (λ (x : List ℕ). prefixed x (entries (now (c .before .before .before .before .before .before .before .args .list)) (now (c .before .before .before .before .before .before .before .args .low)) (c .before .before .before .before .before .before .before .args .from))) (c .before .part-of2 .ensures ∙ in-lent _ _ _ _ (c .before .before .before .before .before .before .before .pre .0) (c .before .before .before .before .before .before .before .pre .1) (c .before .before .if2 .left))
+returns-3 c = c .begins2 .ensures ∙ ap (λ (x : List ℕ). prefixed x (entries (now (c .before .before .before .before .before .before .before .args .list)) (now (c .before .before .before .before .before .before .before .args .ground)) (c .before .before .before .before .before .before .before .args .from))) (c .before .part-of2 .ensures ∙ in-lent _ _ _ _ (c .before .before .before .before .before .before .before .pre .0) (c .before .before .before .before .before .before .before .pre .1) (c .before .before .if2 .left))
 
 pub begins-with-spec : {M : Type 1} → statement M
 begins-with-spec =

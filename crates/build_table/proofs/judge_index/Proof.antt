@@ -51,7 +51,7 @@ index-sums-requires : tie.Need-index-sums-requires
 index-sums-requires c κs = (held-long _ _ _ _ (c .before .before .before .before .before .before .before .before .before .before .before .before .before .before .pre .0) (sym (c .before .before .before .before .begins-with .ensures) ∙ not-false _ (c .before .before .before .if1 .left)), omega (arith, risen-up _ _ (sym (c .before .before .before .before .before .before .n .given .1) ∙ c .before .before .before .before .before .before .before .before .rises .ensures) .1, c .before .before .if2 .left))
 
 add-size-4 : tie.Need-add-size-4
-add-size-4 c = omega (arith, c .index-sums .ensures .1, c .before .before .before .before .before .before .before .before .before .before .before .before .before .before .before .pre .0 .low, c .before .before .before .before .before .before .before .before .before .before .before .before .before .before .before .pre .0 .high, c .before .before .before .if2 .left)
+add-size-4 c = omega (arith, c .index-sums .ensures .1, c .before .before .before .before .before .before .before .before .before .before .before .before .before .before .before .pre .0 .ground, c .before .before .before .before .before .before .before .before .before .before .before .before .before .before .before .pre .0 .high, c .before .before .before .if2 .left)
 
 returns-4 : tie.Need-returns-4
 returns-4 c = index-large _ _ _ _ _ (risen-up _ _ (sym (c .before .before .before .before .before .before .before .before .n .given .1) ∙ c .before .before .before .before .before .before .before .before .before .before .rises .ensures) .0) (sym (c .before .before .before .before .before .before .begins-with .ensures) ∙ not-false _ (c .before .before .before .before .before .if1 .left)) _ (risen-up _ _ (sym (c .before .before .before .before .before .before .before .before .n .given .1) ∙ c .before .before .before .before .before .before .before .before .before .before .rises .ensures) .1) (c .before .before .before .before .if2 .left) _ (c .before .index-sums .ensures .0) (c .if3 .taken)

@@ -45,28 +45,28 @@ tally-up-requires : tie.Need-tally-up-requires
 tally-up-requires c κs = (held-long _ _ _ _ (c .before .before .before .before .before .before .before .before .before .before .before .before .before .pre .0) (sym (c .before .before .begins-with .ensures) ∙ not-false _ (c .before .if1 .left)), omega (arith, risen-up _ _ (sym (c .before .before .before .before .n .given .1) ∙ c .before .before .before .before .before .before .rises .ensures) .1, c .if2 .left))
 
 count-pages-requires : tie.Need-count-pages-requires
-count-pages-requires c κs = ((c .before .before .before .before .before .before .before .before .before .before .before .before .before .before .pre .1 .1 .0 .limit, c .before .before .before .before .before .before .before .before .before .before .before .before .before .before .pre .1 .1 .0 .budget), (omega (arith, risen-up _ _ (sym (c .before .before .before .before .before .n .given .1) ∙ c .before .before .before .before .before .before .before .rises .ensures) .1, c .before .if2 .left, only-few true (entries (now (c .before .before .before .before .before .before .before .before .before .before .before .before .before .before .args .list)) (now (c .before .before .before .before .before .before .before .before .before .before .before .before .before .before .args .low)) (c .before .before .before .before .before .before .before .before .before .before .before .before .before .before .args .from))), omega (arith, c .before .before .before .before .before .before .before .before .before .before .before .before .before .before .pre .1 .1 .1 .0, c .before .before .before .before .before .before .before .before .before .before .before .before .before .before .pre .1 .1 .1 .1)))
+count-pages-requires c κs = ((c .before .before .before .before .before .before .before .before .before .before .before .before .before .before .pre .1 .1 .0 .limit, c .before .before .before .before .before .before .before .before .before .before .before .before .before .before .pre .1 .1 .0 .budget), (omega (arith, risen-up _ _ (sym (c .before .before .before .before .before .n .given .1) ∙ c .before .before .before .before .before .before .before .rises .ensures) .1, c .before .if2 .left, only-few true (entries (now (c .before .before .before .before .before .before .before .before .before .before .before .before .before .before .args .list)) (now (c .before .before .before .before .before .before .before .before .before .before .before .before .before .before .args .ground)) (c .before .before .before .before .before .before .before .before .before .before .before .before .before .before .args .from))), omega (arith, c .before .before .before .before .before .before .before .before .before .before .before .before .before .before .pre .1 .1 .1 .0, c .before .before .before .before .before .before .before .before .before .before .before .before .before .before .pre .1 .1 .1 .1)))
 
 mul-size : tie.Need-mul-size
-mul-size c = let q = c .before .before .tally-up .ensures .1 in omega (arith, q .heads, q .sums, q .far, q .counted, c .before .before .before .before .before .before .before .before .before .before .before .before .before .before .before .before .pre .0 .low, c .before .before .before .before .before .before .before .before .before .before .before .before .before .before .before .before .pre .0 .high, c .before .count-pages .ensures .1 .0, c .before .count-pages .ensures .1 .1, c .before .before .before .before .before .before .before .before .before .before .before .before .before .before .before .before .pre .1 .1 .1 .0, c .before .before .before .before .before .before .before .before .before .before .before .before .before .before .before .before .pre .1 .1 .1 .1)
+mul-size c = let q = c .before .before .tally-up .ensures .1 in omega (arith, q .heads, q .sums, q .remote, q .counted, c .before .before .before .before .before .before .before .before .before .before .before .before .before .before .before .before .pre .0 .ground, c .before .before .before .before .before .before .before .before .before .before .before .before .before .before .before .before .pre .0 .high, c .before .count-pages .ensures .1 .0, c .before .count-pages .ensures .1 .1, c .before .before .before .before .before .before .before .before .before .before .before .before .before .before .before .before .pre .1 .1 .1 .0, c .before .before .before .before .before .before .before .before .before .before .before .before .before .before .before .before .pre .1 .1 .1 .1)
 
 add-size : tie.Need-add-size
-add-size c = let q = c .before .before .tally-up .ensures .1 in omega (arith, q .heads, q .sums, q .far, q .counted, c .before .before .before .before .before .before .before .before .before .before .before .before .before .before .before .before .pre .0 .low, c .before .before .before .before .before .before .before .before .before .before .before .before .before .before .before .before .pre .0 .high, c .before .count-pages .ensures .1 .0, c .before .count-pages .ensures .1 .1, c .before .before .before .before .before .before .before .before .before .before .before .before .before .before .before .before .pre .1 .1 .1 .0, c .before .before .before .before .before .before .before .before .before .before .before .before .before .before .before .before .pre .1 .1 .1 .1)
+add-size c = let q = c .before .before .tally-up .ensures .1 in omega (arith, q .heads, q .sums, q .remote, q .counted, c .before .before .before .before .before .before .before .before .before .before .before .before .before .before .before .before .pre .0 .ground, c .before .before .before .before .before .before .before .before .before .before .before .before .before .before .before .before .pre .0 .high, c .before .count-pages .ensures .1 .0, c .before .count-pages .ensures .1 .1, c .before .before .before .before .before .before .before .before .before .before .before .before .before .before .before .before .pre .1 .1 .1 .0, c .before .before .before .before .before .before .before .before .before .before .before .before .before .before .before .before .pre .1 .1 .1 .1)
 
 add-size-2 : tie.Need-add-size-2
-add-size-2 c = let q = c .before .before .before .tally-up .ensures .1 in omega (arith, q .heads, q .sums, q .far, q .counted, c .before .before .before .before .before .before .before .before .before .before .before .before .before .before .before .before .before .pre .0 .low, c .before .before .before .before .before .before .before .before .before .before .before .before .before .before .before .before .before .pre .0 .high, c .before .before .count-pages .ensures .1 .0, c .before .before .count-pages .ensures .1 .1, c .before .before .before .before .before .before .before .before .before .before .before .before .before .before .before .before .before .pre .1 .1 .1 .0, c .before .before .before .before .before .before .before .before .before .before .before .before .before .before .before .before .before .pre .1 .1 .1 .1)
+add-size-2 c = let q = c .before .before .before .tally-up .ensures .1 in omega (arith, q .heads, q .sums, q .remote, q .counted, c .before .before .before .before .before .before .before .before .before .before .before .before .before .before .before .before .before .pre .0 .ground, c .before .before .before .before .before .before .before .before .before .before .before .before .before .before .before .before .before .pre .0 .high, c .before .before .count-pages .ensures .1 .0, c .before .before .count-pages .ensures .1 .1, c .before .before .before .before .before .before .before .before .before .before .before .before .before .before .before .before .before .pre .1 .1 .1 .0, c .before .before .before .before .before .before .before .before .before .before .before .before .before .before .before .before .before .pre .1 .1 .1 .1)
 
 add-size-3 : tie.Need-add-size-3
-add-size-3 c = let q = c .before .before .before .before .tally-up .ensures .1 in omega (arith, q .heads, q .sums, q .far, q .counted, c .before .before .before .before .before .before .before .before .before .before .before .before .before .before .before .before .before .before .pre .0 .low, c .before .before .before .before .before .before .before .before .before .before .before .before .before .before .before .before .before .before .pre .0 .high, c .before .before .before .count-pages .ensures .1 .0, c .before .before .before .count-pages .ensures .1 .1, c .before .before .before .before .before .before .before .before .before .before .before .before .before .before .before .before .before .before .pre .1 .1 .1 .0, c .before .before .before .before .before .before .before .before .before .before .before .before .before .before .before .before .before .before .pre .1 .1 .1 .1)
+add-size-3 c = let q = c .before .before .before .before .tally-up .ensures .1 in omega (arith, q .heads, q .sums, q .remote, q .counted, c .before .before .before .before .before .before .before .before .before .before .before .before .before .before .before .before .before .before .pre .0 .ground, c .before .before .before .before .before .before .before .before .before .before .before .before .before .before .before .before .before .before .pre .0 .high, c .before .before .before .count-pages .ensures .1 .0, c .before .before .before .count-pages .ensures .1 .1, c .before .before .before .before .before .before .before .before .before .before .before .before .before .before .before .before .before .before .pre .1 .1 .1 .0, c .before .before .before .before .before .before .before .before .before .before .before .before .before .before .before .before .before .before .pre .1 .1 .1 .1)
 
 add-size-4 : tie.Need-add-size-4
-add-size-4 c = let q = c .before .before .before .before .before .tally-up .ensures .1 in omega (arith, q .heads, q .sums, q .far, q .counted, c .before .before .before .before .before .before .before .before .before .before .before .before .before .before .before .before .before .before .before .pre .0 .low, c .before .before .before .before .before .before .before .before .before .before .before .before .before .before .before .before .before .before .before .pre .0 .high, c .before .before .before .before .count-pages .ensures .1 .0, c .before .before .before .before .count-pages .ensures .1 .1, c .before .before .before .before .before .before .before .before .before .before .before .before .before .before .before .before .before .before .before .pre .1 .1 .1 .0, c .before .before .before .before .before .before .before .before .before .before .before .before .before .before .before .before .before .before .before .pre .1 .1 .1 .1)
+add-size-4 c = let q = c .before .before .before .before .before .tally-up .ensures .1 in omega (arith, q .heads, q .sums, q .remote, q .counted, c .before .before .before .before .before .before .before .before .before .before .before .before .before .before .before .before .before .before .before .pre .0 .ground, c .before .before .before .before .before .before .before .before .before .before .before .before .before .before .before .before .before .before .before .pre .0 .high, c .before .before .before .before .count-pages .ensures .1 .0, c .before .before .before .before .count-pages .ensures .1 .1, c .before .before .before .before .before .before .before .before .before .before .before .before .before .before .before .before .before .before .before .pre .1 .1 .1 .0, c .before .before .before .before .before .before .before .before .before .before .before .before .before .before .before .before .before .before .before .pre .1 .1 .1 .1)
 
 room-of-requires : tie.Need-room-of-requires
 room-of-requires c κs = (c .before .before .before .before .count-pages .ensures .1 .1, c .before .before .before .before .before .tally-up .ensures .1 .counted)
 
 add-if3 : tie.Need-add-if3
-add-if3 c = let q = c .before .before .before .before .before .before .tally-up .ensures .1 in omega (arith, q .heads, q .sums, c .before .before .before .before .before .before .before .before .before .before .before .before .before .before .before .before .before .before .before .before .pre .0 .low, c .before .before .before .before .before .before .before .before .before .before .before .before .before .before .before .before .before .before .before .before .pre .0 .high, c .room-of .ensures, room-most (c .before .before .before .before .before .count-pages .result .count) (c .before .before .before .before .before .before .tally-up .result .counted) (c .before .before .before .before .before .count-pages .ensures .1 .1) (q .counted))
+add-if3 c = let q = c .before .before .before .before .before .before .tally-up .ensures .1 in omega (arith, q .heads, q .sums, c .before .before .before .before .before .before .before .before .before .before .before .before .before .before .before .before .before .before .before .before .pre .0 .ground, c .before .before .before .before .before .before .before .before .before .before .before .before .before .before .before .before .before .before .before .before .pre .0 .high, c .room-of .ensures, room-most (c .before .before .before .before .before .count-pages .result .count) (c .before .before .before .before .before .before .tally-up .result .counted) (c .before .before .before .before .before .count-pages .ensures .1 .1) (q .counted))
 
 returns-4 : tie.Need-returns-4
 returns-4 c = leaf-large (c .before .before .before .before .before .before .before .before .before .before .before .before .before .before .before .before .before .before .before .before .before .args .m) _ (now (c .before .before .before .before .before .before .before .before .before .before .before .before .before .before .before .before .before .before .before .before .before .args .hi)) _ (c .before .before .before .before .before .before .before .before .before .before .before .before .before .before .before .before .before .before .before .before .before .args .e) (c .before .before .before .before .before .before .before .before .before .before .before .before .before .before .before .before .before .before .before .before .before .pre .1 .0) _ _ _ (risen-up _ _ (sym (c .before .before .before .before .before .before .before .before .before .before .before .before .n .given .1) ∙ c .before .before .before .before .before .before .before .before .before .before .before .before .before .before .rises .ensures) .0) (sym (c .before .before .before .before .before .before .before .before .before .before .begins-with .ensures) ∙ not-false _ (c .before .before .before .before .before .before .before .before .before .if1 .left)) _ (risen-up _ _ (sym (c .before .before .before .before .before .before .before .before .before .before .before .before .n .given .1) ∙ c .before .before .before .before .before .before .before .before .before .before .before .before .before .before .rises .ensures) .1) (c .before .before .before .before .before .before .before .before .if2 .left) _ (c .before .before .before .before .before .before .before .tally-up .ensures .0) _ (c .before .before .before .before .before .before .count-pages .ensures .0) _ (c .before .room-of .ensures) (c .if3 .taken)
@@ -81,10 +81,10 @@ frame-len-requires : tie.Need-frame-len-requires
 frame-len-requires c κs = search needs
 
 add-end : tie.Need-add-end
-add-end c = let q = c .before .before .before .before .before .before .before .before .tally-up .ensures .1 in omega (arith, q .far, c .before .before .before .before .before .before .before .count-pages .ensures .1 .0, c .before .before .before .before .before .before .before .before .before .before .before .before .before .before .before .before .before .before .before .before .before .before .pre .1 .1 .1 .0, c .before .before .before .before .before .before .before .before .before .before .before .before .before .before .before .before .before .before .before .before .before .before .pre .1 .1 .1 .1, c .frame-len .ensures, c .before .if3 .left)
+add-end c = let q = c .before .before .before .before .before .before .before .before .tally-up .ensures .1 in omega (arith, q .remote, c .before .before .before .before .before .before .before .count-pages .ensures .1 .0, c .before .before .before .before .before .before .before .before .before .before .before .before .before .before .before .before .before .before .before .before .before .before .pre .1 .1 .1 .0, c .before .before .before .before .before .before .before .before .before .before .before .before .before .before .before .before .before .before .before .before .before .before .pre .1 .1 .1 .1, c .frame-len .ensures, c .before .if3 .left)
 
 add-end-2 : tie.Need-add-end-2
-add-end-2 c = let q = c .before .before .before .before .before .before .before .before .before .tally-up .ensures .1 in omega (arith, q .far, c .before .before .before .before .before .before .before .before .count-pages .ensures .1 .0, c .before .before .before .before .before .before .before .before .before .before .before .before .before .before .before .before .before .before .before .before .before .before .before .pre .1 .1 .1 .0, c .before .before .before .before .before .before .before .before .before .before .before .before .before .before .before .before .before .before .before .before .before .before .before .pre .1 .1 .1 .1, c .before .frame-len .ensures, c .before .before .if3 .left)
+add-end-2 c = let q = c .before .before .before .before .before .before .before .before .before .tally-up .ensures .1 in omega (arith, q .remote, c .before .before .before .before .before .before .before .before .count-pages .ensures .1 .0, c .before .before .before .before .before .before .before .before .before .before .before .before .before .before .before .before .before .before .before .before .before .before .before .pre .1 .1 .1 .0, c .before .before .before .before .before .before .before .before .before .before .before .before .before .before .before .before .before .before .before .before .before .before .before .pre .1 .1 .1 .1, c .before .frame-len .ensures, c .before .before .if3 .left)
 
 returns-5 : tie.Need-returns-5
 returns-5 c = leaf-full (c .before .before .before .before .before .before .before .before .before .before .before .before .before .before .before .before .before .before .before .before .before .before .before .before .args .m) _ (now (c .before .before .before .before .before .before .before .before .before .before .before .before .before .before .before .before .before .before .before .before .before .before .before .before .args .hi)) _ (c .before .before .before .before .before .before .before .before .before .before .before .before .before .before .before .before .before .before .before .before .before .before .before .before .args .e) (c .before .before .before .before .before .before .before .before .before .before .before .before .before .before .before .before .before .before .before .before .before .before .before .before .pre .1 .0) _ _ _ (risen-up _ _ (sym (c .before .before .before .before .before .before .before .before .before .before .before .before .before .before .before .n .given .1) ∙ c .before .before .before .before .before .before .before .before .before .before .before .before .before .before .before .before .before .rises .ensures) .0) (sym (c .before .before .before .before .before .before .before .before .before .before .before .before .before .begins-with .ensures) ∙ not-false _ (c .before .before .before .before .before .before .before .before .before .before .before .before .if1 .left)) _ (risen-up _ _ (sym (c .before .before .before .before .before .before .before .before .before .before .before .before .before .before .before .n .given .1) ∙ c .before .before .before .before .before .before .before .before .before .before .before .before .before .before .before .before .before .rises .ensures) .1) (c .before .before .before .before .before .before .before .before .before .before .before .if2 .left) _ (c .before .before .before .before .before .before .before .before .before .before .tally-up .ensures .0) _ (c .before .before .before .before .before .before .before .before .before .count-pages .ensures .0) _ (c .before .before .before .before .room-of .ensures) (c .before .before .before .if3 .left) _ (c .before .before .frame-len .ensures) (c .if4 .taken)

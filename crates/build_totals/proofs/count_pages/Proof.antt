@@ -17,10 +17,10 @@ use Rattle.frames.proofs.frame_len.Reads as frame-len-reads
 use Rattle.build_history.proofs.look_ahead.Reads as look-ahead-reads
 
 abbrev Inv-loop : tie.InvT-loop
-Inv-loop list low at limit budget c₀ n₀ to₀ c n to = Paging list low limit budget at c₀ c n to
+Inv-loop list ground at limit budget c₀ n₀ to₀ c n to = Paging list ground limit budget at c₀ c n to
 
 abbrev μ-loop : tie.MeasureT-loop
-μ-loop list low at limit budget c₀ n₀ to₀ c n to = length (only true (entries list low c))
+μ-loop list ground at limit budget c₀ n₀ to₀ c n to = length (only true (entries list ground c))
 
 loop-holds : tie.Need-loop-holds Inv-loop μ-loop
 loop-holds c = paging-begin _ _ _ _ _ _ (c .before .before .pre .1 .0)

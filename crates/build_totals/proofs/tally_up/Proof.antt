@@ -16,10 +16,10 @@ use Rattle.build_sources.proofs.next.Reads as next-reads
 use Rattle.build_totals.proofs.with_one.Reads as with-one-reads
 
 abbrev Inv-loop : tie.InvT-loop
-Inv-loop list low p limit c₀ t₀ c t = Tallying list low limit p c₀ c t
+Inv-loop list ground p limit c₀ t₀ c t = Tallying list ground limit p c₀ c t
 
 abbrev μ-loop : tie.MeasureT-loop
-μ-loop list low p limit c₀ t₀ c t = leftOf list low c
+μ-loop list ground p limit c₀ t₀ c t = leftOf list ground c
 
 loop-holds : tie.Need-loop-holds Inv-loop μ-loop
 loop-holds c = tally-begin _ _ _ _ _ (c .before .before .pre .0) (c .before .before .pre .1)

@@ -2,14 +2,14 @@ use native.Mathlib.Omega.{arith}
 use mathlib.Core.Path.{_≡_, refl, sym, ap, _∙_}
 use Prim.Native.Nat.{ℕ, _+_}
 use lib.Dec.{ltb, eqb}
-use Rattle.build_totals.proofs.Tallying.{one-most, far-one-most, second-most, old-is}
+use Rattle.build_totals.proofs.Tallying.{one-most, remote-one-most, second-most, old-is}
 use borrow.Author.Needs.{needs}
 use Rattle.build_totals.proofs.with_old.Statement.{statement}
 use Rattle.build_totals.proofs.with_old.Tie as tie
 use Rattle.build_totals.proofs.with_old.Reads as reads
 use Rattle.build_totals.proofs.with_old.Lts as lts
 use Rattle.build_totals.proofs.counted_one.Reads as counted-one-reads
-use Rattle.build_totals.proofs.far_one.Reads as far-one-reads
+use Rattle.build_totals.proofs.remote_one.Reads as remote-one-reads
 use Rattle.build_totals.proofs.second.Reads as second-reads
 
 add-t5 : tie.Need-add-t5
@@ -27,14 +27,14 @@ counted-one-requires c κs = search needs
 add-t9 : tie.Need-add-t9
 add-t9 c = omega (arith, c .before .before .before .before .before .pre .1 .counted, c .before .counted-one .ensures, one-most (ltb (c .before .before .before .before .before .args .n) (c .before .before .before .before .before .args .limit)) (eqb (c .before .before .before .before .before .args .kept .0) 0))
 
-far-one-requires : tie.Need-far-one-requires
-far-one-requires c κs = search needs
+remote-one-requires : tie.Need-remote-one-requires
+remote-one-requires c κs = search needs
 
 add-t11 : tie.Need-add-t11
-add-t11 c = omega (arith, c .before .before .before .before .before .before .before .pre .1 .remotes, c .before .far-one .ensures, far-one-most (ltb (c .before .before .before .before .before .before .before .args .n) (c .before .before .before .before .before .before .before .args .limit)))
+add-t11 c = omega (arith, c .before .before .before .before .before .before .before .pre .1 .remotes, c .before .remote-one .ensures, remote-one-most (ltb (c .before .before .before .before .before .before .before .args .n) (c .before .before .before .before .before .before .before .args .limit)))
 
 returns : tie.Need-returns
-returns c = old-is (c .before .before .before .before .before .before .before .args .limit) (c .before .before .before .before .before .before .before .args .t) (c .before .before .before .before .before .before .before .args .n) (c .before .before .before .before .before .before .before .args .kept .0) _ _ _ (c .before .before .before .before .before .second .ensures) (c .before .before .before .counted-one .ensures) (c .before .far-one .ensures)
+returns c = old-is (c .before .before .before .before .before .before .before .args .limit) (c .before .before .before .before .before .before .before .args .t) (c .before .before .before .before .before .before .before .args .n) (c .before .before .before .before .before .before .before .args .kept .0) _ _ _ (c .before .before .before .before .before .second .ensures) (c .before .before .before .counted-one .ensures) (c .before .remote-one .ensures)
 
 pub with-old-spec : {M : Type 1} → statement M
 with-old-spec =
@@ -45,6 +45,6 @@ with-old-spec =
     add-t7
     counted-one-requires
     add-t9
-    far-one-requires
+    remote-one-requires
     add-t11
     returns)

@@ -1,4 +1,4 @@
--- `tells::tell_as_of` meets its contract. Assumes nothing.
+-- `c_answers::tell_as_of` meets its contract. Assumes nothing.
 use mathlib.Core.Path.{refl, sym}
 use Rattle.spans.proofs.Put.{put-chain}
 use Rattle.asof.specs.Refused.{asOfNumber}

@@ -1,4 +1,4 @@
--- `tells::tell_begun` meets its contract. Assumes nothing.
+-- `c_answers::tell_begun` meets its contract. Assumes nothing.
 use mathlib.Core.Path.{refl, sym}
 use Rattle.walks.specs.Refused.{begunNumber}
 use Rattle.c_words.specs.Words.{written}

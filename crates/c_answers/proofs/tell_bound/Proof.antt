@@ -1,4 +1,4 @@
--- `tells::tell_bound` meets its contract. Assumes nothing.
+-- `c_answers::tell_bound` meets its contract. Assumes nothing.
 use mathlib.Core.Path.{refl, sym}
 use Rattle.sst.specs.Refused.{boundNumber}
 use Rattle.c_words.specs.Words.{written}

@@ -1,4 +1,4 @@
--- `tells::tell_built` meets its contract. Assumes nothing.
+-- `c_answers::tell_built` meets its contract. Assumes nothing.
 use mathlib.Core.Path.{refl, sym}
 use Rattle.build_image.specs.Call as call
 use Rattle.c_words.specs.Words.{written}

@@ -1,4 +1,4 @@
--- `tells::tell_floor` meets its contract. Assumes nothing.
+-- `c_answers::tell_floor` meets its contract. Assumes nothing.
 use mathlib.Core.Path.{refl, sym}
 use Rattle.spans.proofs.Put.{put-chain}
 use Rattle.sst.specs.Refused.{floorNumber}

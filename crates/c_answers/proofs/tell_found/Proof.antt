@@ -1,4 +1,4 @@
--- `tells::tell_found` meets its contract. Assumes nothing.
+-- `c_answers::tell_found` meets its contract. Assumes nothing.
 use mathlib.Core.Path.{refl, sym}
 use Rattle.spans.proofs.Put.{put-chain}
 use Rattle.sst.specs.Refused.{foundNumber}

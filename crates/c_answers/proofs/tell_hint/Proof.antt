@@ -1,4 +1,4 @@
--- `tells::tell_hint` meets its contract. Assumes nothing.
+-- `c_answers::tell_hint` meets its contract. Assumes nothing.
 use mathlib.Core.Path.{refl, sym}
 use Rattle.pages.specs.declared.Hint.{Hint}
 use Rattle.c_words.specs.Words.{written}

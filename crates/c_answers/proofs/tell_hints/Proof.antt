@@ -1,4 +1,4 @@
--- `tells::tell_hints` meets its contract. Assumes nothing.
+-- `c_answers::tell_hints` meets its contract. Assumes nothing.
 use mathlib.Core.Path.{refl, sym}
 use Rattle.pages.specs.Refused.{hintsNumber}
 use Rattle.c_words.specs.Words.{written}

@@ -1,4 +1,4 @@
--- `tells::tell_index_key` meets its contract. Assumes nothing.
+-- `c_answers::tell_index_key` meets its contract. Assumes nothing.
 use mathlib.Core.Path.{refl, sym}
 use Rattle.delta.specs.Refused as refused
 use Rattle.c_words.specs.Words.{written}

@@ -1,4 +1,4 @@
--- `tells::tell_laid` meets its contract. Assumes nothing.
+-- `c_answers::tell_laid` meets its contract. Assumes nothing.
 use mathlib.Core.Path.{refl, sym}
 use Rattle.overlay.specs.Overlay.{laidNumber}
 use Rattle.c_words.specs.Words.{written}

@@ -1,4 +1,4 @@
--- `tells::tell_page` meets its contract. Assumes nothing.
+-- `c_answers::tell_page` meets its contract. Assumes nothing.
 use mathlib.Core.Path.{refl, sym}
 use Rattle.spans.proofs.Put.{put-chain}
 use Rattle.pages.specs.Refused.{boundsNumber}

@@ -1,4 +1,4 @@
--- `runs::any` meets its contract. Assumes nothing.
+-- `c_steps::any` meets its contract. Assumes nothing.
 use native.Mathlib.Omega.{arith}
 use mathlib.Core.Path.{sym, _∙_}
 use denote.Ref.{now}

@@ -1,18 +1,18 @@
--- `runs::fill` meets its contract. Assumes nothing.
+-- `c_steps::fill` meets its contract. Assumes nothing.
 use native.Mathlib.Omega.{arith}
 use borrow.Author.Needs.{needs}
 use Prim.Native.Nat.{_-_}
 use mathlib.Core.Path.{subst}
 use denote.Ref.{now}
 use Rattle.c_steps.specs.declared.Turn.{Turn}
-use Rattle.c_steps.specs.Turns.{Filling, Known, Turns}
+use Rattle.c_steps.specs.Turns.{Filling, KnownOlder, Turns}
 use Rattle.c_steps.proofs.Running.{filling-begin, filling-join, filling-stop, filling-full}
 use Rattle.c_steps.proofs.Ways.{known-none}
 use Rattle.c_steps.proofs.fill.Statement.{statement}
 use Rattle.c_steps.proofs.fill.Tie as tie
 
 abbrev Inv-loop : tie.InvT-loop
-Inv-loop s out₀ first room fit w₀ known₀ at₀ k₀ out w known at k = Filling s room first w₀ out₀ w at k out × Known s known (w .past)
+Inv-loop s out₀ first room fit w₀ known₀ at₀ k₀ out w known at k = Filling s room first w₀ out₀ w at k out × KnownOlder s known (w .older)
 
 abbrev μ-loop : tie.MeasureT-loop
 μ-loop s out₀ first room fit w₀ known₀ at₀ k₀ out w known at k = room - k

@@ -1,4 +1,4 @@
--- `runs::next` meets its contract. Assumes nothing.
+-- `c_steps::next` meets its contract. Assumes nothing.
 use Prim.Native.Nat.{ℕ, _-_}
 use mathlib.Core.Path.{subst}
 use mathlib.Core.List.{List}

@@ -1,4 +1,4 @@
--- `runs::olds` meets its contract. Assumes nothing.
+-- `c_steps::olds` meets its contract. Assumes nothing.
 use native.Mathlib.Omega.{arith}
 use borrow.Author.Needs.{needs}
 use Prim.Native.Nat.{_+_, _-_}
@@ -44,7 +44,7 @@ add-quick-old : tie.Need-add-quick-old Inv-loop μ-loop
 add-quick-old c = omega (arith, c .before .before .loop .inv .below, c .before .before .before .before .before .before .before .before .before .before .before .before .before .before .good)
 
 quick-old-requires : tie.Need-quick-old-requires Inv-loop μ-loop
-quick-old-requires c κs = (body-inside (now (c .before .before .before .before .before .before .before .before .before .before .before .before .before .before .args .s)) (c .before .before .before .before .before .before .before .before .before .before .before .before .before .before .args .w .past .page) 2 (c .before .before .before .before .before .b .given .0 .0) (sym (c .before .before .before .before .before .before .before .body-of .ensures) ∙ c .before .before .before .before .before .b .given .1), ap (λ (y : Body). y .kind) (sym (body-is (now (c .before .before .before .before .before .before .before .before .before .before .before .before .before .before .args .s)) (c .before .before .before .before .before .before .before .before .before .before .before .before .before .before .args .w .past .page) 2 (c .before .before .before .before .before .b .given .0 .0) (sym (c .before .before .before .before .before .before .before .body-of .ensures) ∙ c .before .before .before .before .before .b .given .1))))
+quick-old-requires c κs = (body-inside (now (c .before .before .before .before .before .before .before .before .before .before .before .before .before .before .args .s)) (c .before .before .before .before .before .before .before .before .before .before .before .before .before .before .args .w .older .page) 2 (c .before .before .before .before .before .b .given .0 .0) (sym (c .before .before .before .before .before .before .before .body-of .ensures) ∙ c .before .before .before .before .before .b .given .1), ap (λ (y : Body). y .kind) (sym (body-is (now (c .before .before .before .before .before .before .before .before .before .before .before .before .before .before .args .s)) (c .before .before .before .before .before .before .before .before .before .before .before .before .before .before .args .w .older .page) 2 (c .before .before .before .before .before .b .given .0 .0) (sym (c .before .before .before .before .before .before .before .body-of .ensures) ∙ c .before .before .before .before .before .b .given .1))))
 
 enum-known-r : tie.Need-enum-known-r Inv-loop μ-loop
 enum-known-r c = search needs
@@ -59,7 +59,7 @@ returns-3 : tie.Need-returns-3 Inv-loop μ-loop
 returns-3 c = olds-are _ _ _ _ _ _ _ _ _ _ (c .before .before .before .before .before .loop .inv)
 
 tell-rec-requires : tie.Need-tell-rec-requires Inv-loop μ-loop
-tell-rec-requires c κs = (let i = c .before .before .before .before .before .before .before .before .loop .inv in (omega (arith, i .fills .place, i .fills .long, c .before .before .before .before .before .before .before .before .before .least .ensures .0, c .before .before .before .before .before .before .before .loop-test .taken, c .before .before .before .before .before .before .before .before .before .before .before .before .before .before .before .before .before .before .before .before .pre .1), ver-inside (now (c .before .before .before .before .before .before .before .before .before .before .before .before .before .before .before .before .before .before .before .before .args .s)) (c .before .before .before .before .before .before .before .before .before .before .before .b .given .0 .0) (c .before .before .before .before .before .before .before .before .before .before .before .before .before .before .before .before .before .before .before .before .args .w .past .slot + c .before .before .before .before .before .before .before .before .loop .n) (c .before .before .before .r .given .0 .0) (body-inside (now (c .before .before .before .before .before .before .before .before .before .before .before .before .before .before .before .before .before .before .before .before .args .s)) (c .before .before .before .before .before .before .before .before .before .before .before .before .before .before .before .before .before .before .before .before .args .w .past .page) 2 (c .before .before .before .before .before .before .before .before .before .before .before .b .given .0 .0) (sym (c .before .before .before .before .before .before .before .before .before .before .before .before .before .body-of .ensures) ∙ c .before .before .before .before .before .before .before .before .before .before .before .b .given .1)) (λ z. omega (arith, ap (λ (y : Body). y .kind) (sym (body-is (now (c .before .before .before .before .before .before .before .before .before .before .before .before .before .before .before .before .before .before .before .before .args .s)) (c .before .before .before .before .before .before .before .before .before .before .before .before .before .before .before .before .before .before .before .before .args .w .past .page) 2 (c .before .before .before .before .before .before .before .before .before .before .before .b .given .0 .0) (sym (c .before .before .before .before .before .before .before .before .before .before .before .before .before .body-of .ensures) ∙ c .before .before .before .before .before .before .before .before .before .before .before .b .given .1))), z)) (quick-is (RecRead.Is (c .before .before .before .r .given .0 .0)) (c .before .before .before .before .before .quick-old .ensures) (c .before .before .before .r .given .1) (rec-none (c .before .before .before .r .given .0 .0)))))
+tell-rec-requires c κs = (let i = c .before .before .before .before .before .before .before .before .loop .inv in (omega (arith, i .fills .place, i .fills .long, c .before .before .before .before .before .before .before .before .before .least .ensures .0, c .before .before .before .before .before .before .before .loop-test .taken, c .before .before .before .before .before .before .before .before .before .before .before .before .before .before .before .before .before .before .before .before .pre .1), ver-inside (now (c .before .before .before .before .before .before .before .before .before .before .before .before .before .before .before .before .before .before .before .before .args .s)) (c .before .before .before .before .before .before .before .before .before .before .before .b .given .0 .0) (c .before .before .before .before .before .before .before .before .before .before .before .before .before .before .before .before .before .before .before .before .args .w .older .slot + c .before .before .before .before .before .before .before .before .loop .n) (c .before .before .before .r .given .0 .0) (body-inside (now (c .before .before .before .before .before .before .before .before .before .before .before .before .before .before .before .before .before .before .before .before .args .s)) (c .before .before .before .before .before .before .before .before .before .before .before .before .before .before .before .before .before .before .before .before .args .w .older .page) 2 (c .before .before .before .before .before .before .before .before .before .before .before .b .given .0 .0) (sym (c .before .before .before .before .before .before .before .before .before .before .before .before .before .body-of .ensures) ∙ c .before .before .before .before .before .before .before .before .before .before .before .b .given .1)) (λ z. omega (arith, ap (λ (y : Body). y .kind) (sym (body-is (now (c .before .before .before .before .before .before .before .before .before .before .before .before .before .before .before .before .before .before .before .before .args .s)) (c .before .before .before .before .before .before .before .before .before .before .before .before .before .before .before .before .before .before .before .before .args .w .older .page) 2 (c .before .before .before .before .before .before .before .before .before .before .before .b .given .0 .0) (sym (c .before .before .before .before .before .before .before .before .before .before .before .before .before .body-of .ensures) ∙ c .before .before .before .before .before .before .before .before .before .before .before .b .given .1))), z)) (quick-is (RecRead.Is (c .before .before .before .r .given .0 .0)) (c .before .before .before .before .before .quick-old .ensures) (c .before .before .before .r .given .1) (rec-none (c .before .before .before .r .given .0 .0)))))
 
 add-at : tie.Need-add-at Inv-loop μ-loop
 add-at c = omega (arith, c .before .before .before .before .before .before .before .before .before .before .before .loop .inv .fills .place, c .before .before .before .before .before .before .before .before .before .before .before .before .least .ensures .0, c .before .before .before .before .before .before .before .before .before .before .loop-test .taken, c .before .before .before .before .before .before .before .before .before .before .before .before .before .before .before .before .before .before .before .before .before .before .before .pre .1, c .before .before .before .before .before .before .before .before .before .before .before .before .before .before .before .before .before .before .before .before .before .before .before .good)

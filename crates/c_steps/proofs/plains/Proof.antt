@@ -1,4 +1,4 @@
--- `runs::plains` meets its contract. Assumes nothing.
+-- `c_steps::plains` meets its contract. Assumes nothing.
 use native.Mathlib.Omega.{arith}
 use borrow.Author.Needs.{needs}
 use Prim.Native.Nat.{_-_}
@@ -6,6 +6,7 @@ use mathlib.Core.Path.{sym, _∙_}
 use denote.Ref.{now}
 use Rattle.records.specs.declared.RecRead.{RecRead}
 use Rattle.records.proofs.Quick.{quick-is}
+use Rattle.walks.specs.Walk.{movedOf}
 use Rattle.c_steps.proofs.Heading.{Heading, heading-begin, heading-next, plains-none, plains-are, leaf-kind, leaf-inside, leaf-below, leaf-ver}
 use Rattle.c_steps.proofs.Ways.{rec-none}
 use Rattle.c_steps.proofs.plains.Statement.{statement}
@@ -75,11 +76,11 @@ returns-4 c = rw (c .heads-read4 .ensures) ((plains-are _ _ _ _ _ _ _ _ _ _ _ _ 
 tell-rec-requires : tie.Need-tell-rec-requires Inv-loop μ-loop
 tell-rec-requires c κs = (omega (arith, c .before .before .before .before .before .before .before .before .loop .inv .fills .place, c .before .before .before .before .before .before .before .before .loop .inv .fills .long, c .before .before .before .before .before .before .before .before .before .least .ensures .0, c .before .before .before .before .before .before .before .loop-test .taken, c .before .before .before .before .before .before .before .before .before .before .before .before .before .before .before .before .before .before .before .pre .0 .1), leaf-ver (now (c .before .before .before .before .before .before .before .before .before .before .before .before .before .before .before .before .before .before .before .args .s)) (c .before .before .before .before .before .before .before .before .before .before .before .before .before .before .before .before .before .before .before .args .w) (c .before .before .before .before .before .before .before .before .before .before .before .b .given .0 .0) (c .before .before .before .before .before .before .before .before .loop .inv .body) (c .before .before .before .before .before .before .before .before .loop .pos) (c .before .before .before .before .r .given .0 .0) (quick-is (RecRead.Is (c .before .before .before .before .r .given .0 .0)) (c .before .before .before .before .before .before .quick-head .ensures) (c .before .before .before .before .r .given .1) (rec-none (c .before .before .before .before .r .given .0 .0))))
 
-moved-requires : tie.Need-moved-requires Inv-loop μ-loop
-moved-requires c κs = omega (arith, leaf-below (now (c .before .before .before .before .before .before .before .before .before .before .before .before .before .before .before .before .before .before .before .before .before .before .args .s)) (c .before .before .before .before .before .before .before .before .before .before .before .before .before .before .before .before .before .before .before .before .before .before .args .w) (c .before .before .before .before .before .before .before .before .before .before .before .before .before .before .b .given .0 .0) (c .before .before .before .before .before .before .before .before .before .before .before .loop .inv .body) (c .before .before .before .before .before .before .before .before .before .before .before .loop .pos) (c .before .before .before .before .before .before .before .r .given .0 .0) (quick-is (RecRead.Is (c .before .before .before .before .before .before .before .r .given .0 .0)) (c .before .before .before .before .before .before .before .before .before .quick-head .ensures) (c .before .before .before .before .before .before .before .r .given .1) (rec-none (c .before .before .before .before .before .before .before .r .given .0 .0))), c .before .before .before .before .before .before .before .before .before .before .before .before .before .before .before .before .before .before .before .before .before .before .good)
+onward-requires : tie.Need-onward-requires Inv-loop μ-loop
+onward-requires c κs = omega (arith, leaf-below (now (c .before .before .before .before .before .before .before .before .before .before .before .before .before .before .before .before .before .before .before .before .before .before .before .args .s)) (c .before .before .before .before .before .before .before .before .before .before .before .before .before .before .before .before .before .before .before .before .before .before .before .args .w) (c .before .before .before .before .before .before .before .before .before .before .before .before .before .before .before .b .given .0 .0) (c .before .before .before .before .before .before .before .before .before .before .before .before .loop .inv .body) (c .before .before .before .before .before .before .before .before .before .before .before .before .loop .pos) (c .before .before .before .before .before .before .before .before .r .given .0 .0) (quick-is (RecRead.Is (c .before .before .before .before .before .before .before .before .r .given .0 .0)) (c .before .before .before .before .before .before .before .before .before .before .quick-head .ensures) (c .before .before .before .before .before .before .before .before .r .given .1) (rec-none (c .before .before .before .before .before .before .before .before .r .given .0 .0))), c .before .before .before .before .before .before .before .before .before .before .before .before .before .before .before .before .before .before .before .before .before .before .before .good)
 
 add-at : tie.Need-add-at Inv-loop μ-loop
-add-at c = omega (arith, c .before .before .before .before .before .before .before .before .before .before .before .before .loop .inv .fills .place, c .before .before .before .before .before .before .before .before .before .before .before .before .before .least .ensures .0, c .before .before .before .before .before .before .before .before .before .before .before .loop-test .taken, c .before .before .before .before .before .before .before .before .before .before .before .before .before .before .before .before .before .before .before .before .before .before .before .pre .0 .1, c .before .before .before .before .before .before .before .before .before .before .before .before .before .before .before .before .before .before .before .before .before .before .before .good)
+add-at c = omega (arith, c .before .before .before .before .before .before .before .before .before .before .before .before .before .loop .inv .fills .place, c .before .before .before .before .before .before .before .before .before .before .before .before .before .before .least .ensures .0, c .before .before .before .before .before .before .before .before .before .before .before .before .loop-test .taken, c .before .before .before .before .before .before .before .before .before .before .before .before .before .before .before .before .before .before .before .before .before .before .before .before .pre .0 .1, c .before .before .before .before .before .before .before .before .before .before .before .before .before .before .before .before .before .before .before .before .before .before .before .before .good)
 
 add-n : tie.Need-add-n Inv-loop μ-loop
 add-n c = search needs
@@ -88,7 +89,8 @@ loop-less : tie.Need-loop-less Inv-loop μ-loop
 loop-less c = search needs
 
 loop-again : tie.Need-loop-again Inv-loop μ-loop
-loop-again c = heading-next _ _ _ _ _ _ _ _ _ _ _ _ _ (c .before .before .before .before .before .before .before .before .before .before .before .before .loop .inv) (c .before .before .before .before .before .before .before .before .r .given .0 .0) (c .before .before .before .before .before .before .before .before .before .before .before .loop-test .taken) (quick-is (RecRead.Is (c .before .before .before .before .before .before .before .before .r .given .0 .0)) (c .before .before .before .before .before .before .before .before .before .before .quick-head .ensures) (c .before .before .before .before .before .before .before .before .r .given .1) (rec-none (c .before .before .before .before .before .before .before .before .r .given .0 .0))) (c .before .before .before .before .before .if2 .left) (c .moved .ensures) (c .before .before .before .tell-rec .ensures)
+unfolding movedOf
+loop-again c = heading-next _ _ _ _ _ _ _ _ _ _ _ _ _ (c .before .before .before .before .before .before .before .before .before .before .before .before .before .loop .inv) (c .before .before .before .before .before .before .before .before .before .r .given .0 .0) (c .before .before .before .before .before .before .before .before .before .before .before .before .loop-test .taken) (quick-is (RecRead.Is (c .before .before .before .before .before .before .before .before .before .r .given .0 .0)) (c .before .before .before .before .before .before .before .before .before .before .before .quick-head .ensures) (c .before .before .before .before .before .before .before .before .before .r .given .1) (rec-none (c .before .before .before .before .before .before .before .before .before .r .given .0 .0))) (c .before .before .before .before .before .before .if2 .left) (c .onward .ensures) (c .before .before .before .before .tell-rec .ensures)
 
 heads-read-requires-5 : tie.Need-heads-read-requires-5 Inv-loop μ-loop
 heads-read-requires-5 c κs = search needs
@@ -124,7 +126,7 @@ plains-spec =
     same-length-2
     returns-4
     tell-rec-requires
-    moved-requires
+    onward-requires
     add-at
     add-n
     loop-less

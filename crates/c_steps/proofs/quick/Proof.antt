@@ -1,4 +1,4 @@
--- `runs::quick` meets its contract. Assumes nothing.
+-- `c_steps::quick` meets its contract. Assumes nothing.
 use native.Mathlib.Omega.{arith}
 use Prim.Native.Nat.{_-_, _<_}
 use mathlib.Core.Path.{subst}
@@ -27,7 +27,7 @@ same-length-2 : tie.Need-same-length-2
 same-length-2 c = search needs
 
 returns-2 : tie.Need-returns-2
-returns-2 c = rw (c .age .ensures) (c .before .before .before .before .olds .ensures .1 .1 .1, (known-at (now (c .before .before .before .before .before .before .before .before .before .before .before .args .s)) (c .before .before .before .before .before .before .before .before .before .before .before .args .known) (c .before .before .before .before .before .before .before .before .before .before .before .args .w .past) _ _ (c .before .before .before .before .before .before .before .before .before .before .before .pre .0), omega (arith, c .before .if2 .left)))
+returns-2 c = rw (c .age .ensures) (c .before .before .before .before .olds .ensures .1 .1 .1, (known-at (now (c .before .before .before .before .before .before .before .before .before .before .before .args .s)) (c .before .before .before .before .before .before .before .before .before .before .before .args .known) (c .before .before .before .before .before .before .before .before .before .before .before .args .w .older) _ _ (c .before .before .before .before .before .before .before .before .before .before .before .pre .0), omega (arith, c .before .if2 .left)))
 
 plains-requires : tie.Need-plains-requires
 plains-requires c κs = (c .before .before .before .before .before .before .pre .1 .1 .0, omega (arith, c .before .if1 .left))

@@ -1,4 +1,4 @@
--- `runs::reach` meets its contract. Assumes nothing.
+-- `c_steps::reach` meets its contract. Assumes nothing.
 use mathlib.Core.Path.{sym, _∙_}
 use denote.Ref.{now}
 use Rattle.walks.specs.Walk.{enterAt}
@@ -23,8 +23,8 @@ returns-2 c = (enter-known (now (c .before .before .before .before .before .befo
 enter-requires : tie.Need-enter-requires
 enter-requires c κs = search needs
 
-enum-known-past : tie.Need-enum-known-past
-enum-known-past c = search needs
+enum-known-older : tie.Need-enum-known-older
+enum-known-older c = search needs
 
 enum-told : tie.Need-enum-told
 enum-told c = search needs
@@ -33,7 +33,7 @@ returns-3 : tie.Need-returns-3
 returns-3 c = search needs
 
 returns-4 : tie.Need-returns-4
-returns-4 c = (let e = sym (c .before .before .before .enter .ensures) ∙ c .before .past .given .1 in (e, known-entered (now (c .before .before .before .before .before .before .before .before .before .before .before .args .s)) (c .before .before .before .before .before .before .before .before .before .before .before .args .h) (c .before .before .before .before .before .before .before .before .before .before .before .args .was) (c .before .past .given .0 .0) (c .before .before .before .before .before .before .before .before .if1 .left) e))
+returns-4 c = (let e = sym (c .before .before .before .enter .ensures) ∙ c .before .older .given .1 in (e, known-entered (now (c .before .before .before .before .before .before .before .before .before .before .before .args .s)) (c .before .before .before .before .before .before .before .before .before .before .before .args .h) (c .before .before .before .before .before .before .before .before .before .before .before .args .was) (c .before .older .given .0 .0) (c .before .before .before .before .before .before .before .before .if1 .left) e))
 
 pub reach-spec : {M : Type 1} → statement M
 reach-spec =
@@ -44,7 +44,7 @@ reach-spec =
     cast-t13
     returns-2
     enter-requires
-    enum-known-past
+    enum-known-older
     enum-told
     returns-3
     returns-4)

@@ -1,4 +1,4 @@
--- `runs::room_in` meets its contract. Assumes nothing.
+-- `c_steps::room_in` meets its contract. Assumes nothing.
 use Prim.Native.Nat.{ℕ, _-_, _/_}
 use native.Mathlib.Omega.{arith}
 use mathlib.Core.Path.{refl, sym, ap}

@@ -1,4 +1,4 @@
--- `runs::tell_rec` meets its contract. Assumes nothing.
+-- `c_steps::tell_rec` meets its contract. Assumes nothing.
 use Prim.Native.Nat.{_-_}
 use Rattle.walks.specs.Walk.{itemOf}
 use borrow.Author.Needs.{needs}

@@ -1,4 +1,4 @@
--- `runs::tell_run` meets its contract. Assumes nothing.
+-- `c_steps::tell_run` meets its contract. Assumes nothing.
 use Rattle.c_steps.proofs.Running.{told-none, told-refused, told-run}
 use borrow.Author.Needs.{needs}
 use Rattle.c_steps.proofs.tell_run.Statement.{statement}

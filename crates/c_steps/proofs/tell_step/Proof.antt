@@ -1,4 +1,4 @@
--- `runs::tell_step` meets its contract. Assumes nothing.
+-- `c_steps::tell_step` meets its contract. Assumes nothing.
 use Rattle.c_steps.proofs.Running.{step-end, step-refused, step-run}
 use borrow.Author.Needs.{needs}
 use Rattle.c_steps.proofs.tell_step.Statement.{statement}

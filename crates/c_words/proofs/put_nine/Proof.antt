@@ -1,4 +1,4 @@
--- `words::put_nine` meets its contract. Assumes nothing.
+-- `c_words::put_nine` meets its contract. Assumes nothing.
 use mathlib.Core.Path.{refl}
 use Rattle.spans.proofs.Put.{put-chain}
 use borrow.Author.Needs.{needs}

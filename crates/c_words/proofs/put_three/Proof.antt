@@ -1,4 +1,4 @@
--- `words::put_three` meets its contract. Assumes nothing.
+-- `c_words::put_three` meets its contract. Assumes nothing.
 use native.Mathlib.Omega.{arith}
 use Prim.Native.Nat.{_+_}
 use mathlib.Core.Path.{sym}

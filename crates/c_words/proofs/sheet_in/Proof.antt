@@ -1,4 +1,4 @@
--- `words::sheet_in` meets its contract. Assumes nothing.
+-- `c_words::sheet_in` meets its contract. Assumes nothing.
 use borrow.Author.Needs.{needs}
 use Rattle.c_words.proofs.sheet_in.Statement.{statement}
 use Rattle.c_words.proofs.sheet_in.Tie as tie

@@ -1,4 +1,4 @@
--- `words::store` meets its contract. Assumes nothing.
+-- `c_words::store` meets its contract. Assumes nothing.
 use mathlib.Core.Path.{sym}
 use mathlib.Core.List.{[], _∷_}
 use Rattle.spans.specs.Span.{put}

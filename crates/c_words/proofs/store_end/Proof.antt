@@ -1,4 +1,4 @@
--- `words::store_end` meets its contract. Assumes nothing.
+-- `c_words::store_end` meets its contract. Assumes nothing.
 use Rattle.c_words.specs.Words.{written}
 use borrow.Author.Needs.{needs}
 use Rattle.c_words.proofs.store_end.Statement.{statement}

@@ -1,4 +1,4 @@
--- `words::store_nine` meets its contract. Assumes nothing.
+-- `c_words::store_nine` meets its contract. Assumes nothing.
 use mathlib.Core.Path.{sym, _∙_}
 use native.Mathlib.Omega.{arith}
 use Prim.Native.Nat.{_+_}

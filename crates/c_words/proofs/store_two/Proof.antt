@@ -1,4 +1,4 @@
--- `words::store_two` meets its contract. Assumes nothing.
+-- `c_words::store_two` meets its contract. Assumes nothing.
 use mathlib.Core.Path.{refl}
 use mathlib.Core.List.{[], _∷_}
 use Rattle.spans.proofs.Put.{put-chain}

@@ -1,4 +1,4 @@
--- `words::store_walk` meets its contract. Assumes nothing.
+-- `c_words::store_walk` meets its contract. Assumes nothing.
 use mathlib.Core.Path.{refl}
 use Rattle.spans.proofs.Put.{put-chain}
 use Rattle.c_words.specs.Words.{written}

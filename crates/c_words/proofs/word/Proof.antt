@@ -1,4 +1,4 @@
--- `words::word` meets its contract. Assumes nothing.
+-- `c_words::word` meets its contract. Assumes nothing.
 use mathlib.Core.Path.{sym}
 use mathlib.Core.List.{List}
 use denote.Ref.{now}

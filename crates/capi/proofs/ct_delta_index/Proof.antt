@@ -1,10 +1,5 @@
 -- `capi::ct_delta_index` meets its contract. Assumes nothing.
-use mathlib.Core.Path.{ap, _∙_}
 use denote.Ref.{now}
-use Rattle.frames.specs.Layout.{pageId}
-use Rattle.build_image.specs.declared.Built.{Built}
-use Rattle.delta.specs.Built.{afterwards}
-use Rattle.delta.specs.Deltas as deltas
 use Rattle.build_image.specs.Call as call
 use Rattle.c_answers.specs.Answers.{builtWords}
 use Rattle.c_words.proofs.Laws.{told}
@@ -27,7 +22,7 @@ same-length-2 c = search needs
 returns : tie.Need-returns
 returns c =
     let t = told call.builtNumber builtWords (now (c .before .before .before .before .before .before .before .before .before .before .before .args .out)) (c .before .before .before .before .before .before .from-key-index .ensures .0) (c .before .before .tell-built .ensures) in
-    (t .0, (c .before .before .before .before .before .before .from-key-index .ensures .1 ∙ ap (λ (x : Built). afterwards x (now (c .before .before .before .before .before .before .before .before .before .before .before .args .arena)) (c .before .before .before .before .before .before .before .before .before .before .before .args .next) (deltas.indexFrame (call.callOf 0 0 (c .before .before .before .before .before .before .before .before .before .before .before .args .group) (c .before .before .before .before .before .before .before .before .before .before .before .args .txid) (c .before .before .before .before .before .before .before .before .before .before .before .args .lsn) (c .before .before .before .before .before .before .before .before .before .before .before .args .checkpoint)) (now (c .before .before .before .before .before .before .before .before .before .before .before .args .key)) (pageId (c .before .before .before .before .before .before .before .before .before .before .before .args .page)))) (c .before .before .before .before .before .before .from-key-index .ensures .0), t .1))
+    (t .0, (c .before .before .before .before .before .before .from-key-index .ensures .1, t .1))
 
 pub ct-delta-index-spec : {M : Type 1} → statement M
 ct-delta-index-spec = tie.close (tie.spec from-key-index-requires tell-built-requires same-length same-length-2 returns)

@@ -3,7 +3,7 @@ use mathlib.Core.Path.{_≡_, sym, ap, _∙_}
 use denote.Ref.{now}
 use Rattle.frames.specs.declared.Opened.{Opened}
 use Rattle.frames.specs.Layout.{addr, openAt}
-use Rattle.pages.specs.Edges.{boundsAt}
+use Rattle.pages.specs.Boundaries.{boundsAt}
 use Rattle.pages.specs.Refused.{boundsNumber}
 use Rattle.c_words.specs.Words.{written}
 use Rattle.c_answers.specs.Answers.{boundsWords, pageWords}

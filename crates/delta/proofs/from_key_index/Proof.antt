@@ -1,7 +1,7 @@
 -- `delta::from_key_index` meets its contract. Assumes nothing.
 use native.Mathlib.Omega.{arith}
 use Prim.Native.Nat.{ℕ, _+_, _≤_}
-use mathlib.Core.Path.{_≡_, refl, sym, ap, _∙_}
+use mathlib.Core.Path.{_≡_, sym, ap, _∙_}
 use denote.Ref.{now}
 use lib.ListN.{length}
 use Rattle.spans.specs.Span.{put}
@@ -9,7 +9,7 @@ use Rattle.delta.specs.Deltas.{indexFrame, indexLen}
 use Rattle.build_image.specs.Call.{callOf}
 use Rattle.build_image.proofs.Asked.{next-true}
 use Rattle.delta.proofs.Lengths.{index-most}
-use Rattle.delta.proofs.Verdict.{lengths-true, address-some, address-zero, judged-2, judged-3, judged-9, judged-at, index-is, index-frame-room}
+use Rattle.delta.proofs.Verdict.{lengths-true, address-some, address-zero, index-next, index-pair, index-full, index-fits, index-frame-room}
 use borrow.Author.Tests.{not-true, not-false}
 use mathlib.Core.Path.{ap₂}
 use Rattle.frames.specs.Layout.{addr}
@@ -22,13 +22,13 @@ next-ok-requires : tie.Need-next-ok-requires
 next-ok-requires c κs = search needs
 
 returns : tie.Need-returns
-returns c = (sym (index-is (length (c .before .before .before .before .args .a .now)) (c .before .before .before .before .args .next) (length (c .before .before .before .before .args .key .now)) ∙ judged-2 _ _ _ _ _ _ (sym (c .before .next-ok .ensures) ∙ not-true _ (c .if1 .taken))), refl)
+returns c = index-next (callOf 0 0 (c .before .before .before .before .args .group) (c .before .before .before .before .args .txid) (c .before .before .before .before .args .lsn) (c .before .before .before .before .args .ckpt)) (c .before .before .before .before .args .a .now) (c .before .before .before .before .args .next) (c .before .before .before .before .args .key .now) (c .before .before .before .before .args .page) (sym (c .before .next-ok .ensures) ∙ not-true _ (c .if1 .taken))
 
 lengths-ok-requires : tie.Need-lengths-ok-requires
 lengths-ok-requires c κs = search needs
 
 returns-2 : tie.Need-returns-2
-returns-2 c = (sym (index-is (length (c .before .before .before .before .before .before .args .a .now)) (c .before .before .before .before .before .before .args .next) (length (c .before .before .before .before .before .before .args .key .now)) ∙ judged-3 _ _ _ _ _ _ (sym (c .before .before .before .next-ok .ensures) ∙ not-false _ (c .before .before .if1 .left)) (sym (c .before .lengths-ok .ensures) ∙ not-true _ (c .if2 .taken))), refl)
+returns-2 c = index-pair (callOf 0 0 (c .before .before .before .before .before .before .args .group) (c .before .before .before .before .before .before .args .txid) (c .before .before .before .before .before .before .args .lsn) (c .before .before .before .before .before .before .args .ckpt)) (c .before .before .before .before .before .before .args .a .now) (c .before .before .before .before .before .before .args .next) (c .before .before .before .before .before .before .args .key .now) (c .before .before .before .before .before .before .args .page) (sym (c .before .before .before .next-ok .ensures) ∙ not-false _ (c .before .before .if1 .left)) (sym (c .before .lengths-ok .ensures) ∙ not-true _ (c .if2 .taken))
 
 index-len-requires : tie.Need-index-len-requires
 index-len-requires c κs = lengths-true (length (c .before .before .before .before .before .before .args .key .now)) 0 (sym (c .before .lengths-ok .ensures) ∙ not-false _ (c .if2 .left)) .0
@@ -41,7 +41,7 @@ placed-requires c κs =
 returns-3 : tie.Need-returns-3
 returns-3 c =
     let h = address-zero (c .before .before .before .before .before .before .before .before .before .args .next) (length (c .before .before .before .before .before .before .before .before .before .args .a .now)) 0 (c .before .before .index-len .result) (c .before .placed .result) (next-true (length (c .before .before .before .before .before .before .before .before .before .args .a .now)) (c .before .before .before .before .before .before .before .before .before .args .next) (sym (c .before .before .before .before .before .before .next-ok .ensures) ∙ not-false _ (c .before .before .before .before .before .if1 .left)) .0) (c .before .placed .ensures) (c .if3 .taken) in
-    (sym (index-is (length (c .before .before .before .before .before .before .before .before .before .args .a .now)) (c .before .before .before .before .before .before .before .before .before .args .next) (length (c .before .before .before .before .before .before .before .before .before .args .key .now)) ∙ judged-9 (c .before .before .before .before .before .before .before .before .before .args .next) (length (c .before .before .before .before .before .before .before .before .before .args .a .now)) (length (c .before .before .before .before .before .before .before .before .before .args .key .now)) 0 0 (indexLen (length (c .before .before .before .before .before .before .before .before .before .args .key .now))) (sym (c .before .before .before .before .before .before .next-ok .ensures) ∙ not-false _ (c .before .before .before .before .before .if1 .left)) (sym (c .before .before .before .before .lengths-ok .ensures) ∙ not-false _ (c .before .before .before .if2 .left)) (omega (arith, h, c .before .before .index-len .ensures))), refl)
+    index-full (callOf 0 0 (c .before .before .before .before .before .before .before .before .before .args .group) (c .before .before .before .before .before .before .before .before .before .args .txid) (c .before .before .before .before .before .before .before .before .before .args .lsn) (c .before .before .before .before .before .before .before .before .before .args .ckpt)) (c .before .before .before .before .before .before .before .before .before .args .a .now) (c .before .before .before .before .before .before .before .before .before .args .next) (c .before .before .before .before .before .before .before .before .before .args .key .now) (c .before .before .before .before .before .before .before .before .before .args .page) (sym (c .before .before .before .before .before .before .next-ok .ensures) ∙ not-false _ (c .before .before .before .before .before .if1 .left)) (sym (c .before .before .before .before .lengths-ok .ensures) ∙ not-false _ (c .before .before .before .if2 .left)) (omega (arith, h, c .before .before .index-len .ensures))
 
 call-of-requires : tie.Need-call-of-requires
 call-of-requires c κs = search needs
@@ -64,10 +64,10 @@ same-length c = search needs
 returns-4 : tie.Need-returns-4
 returns-4 c =
     let s = address-some (c .before .before .before .before .before .before .before .before .before .before .before .before .before .before .args .next) (length (c .before .before .before .before .before .before .before .before .before .before .before .before .before .before .args .a .now)) 0 (c .before .before .before .before .before .before .before .index-len .result) (c .before .before .before .before .before .before .placed .result) (c .before .before .before .before .before .before .placed .ensures) (c .before .before .before .before .before .if3 .left) in
-    let q : c .before .before .before .before .before .before .before .before .before .before .before .before .before .before .args .next + 0 + indexLen (length (c .before .before .before .before .before .before .before .before .before .before .before .before .before .before .args .key .now)) ≤ length (c .before .before .before .before .before .before .before .before .before .before .before .before .before .before .args .a .now) = omega (arith, s .1, c .before .before .before .before .before .before .before .index-len .ensures) in
-    let at : c .before .before .before .before .before .before .placed .result ≡ c .before .before .before .before .before .before .before .before .before .before .before .before .before .before .args .next + 0 = s .0 in
-    let at′ : c .before .before .before .before .before .before .placed .result ≡ c .before .before .before .before .before .before .before .before .before .before .before .before .before .before .args .next = omega arith in
-    (ap₂ (λ (i n : ℕ). Built.At (addr i) (i + n)) at (c .before .before .before .before .before .before .before .index-len .ensures) ∙ sym (index-is (length (c .before .before .before .before .before .before .before .before .before .before .before .before .before .before .args .a .now)) (c .before .before .before .before .before .before .before .before .before .before .before .before .before .before .args .next) (length (c .before .before .before .before .before .before .before .before .before .before .before .before .before .before .args .key .now)) ∙ judged-at (c .before .before .before .before .before .before .before .before .before .before .before .before .before .before .args .next) (length (c .before .before .before .before .before .before .before .before .before .before .before .before .before .before .args .a .now)) (length (c .before .before .before .before .before .before .before .before .before .before .before .before .before .before .args .key .now)) 0 0 (indexLen (length (c .before .before .before .before .before .before .before .before .before .before .before .before .before .before .args .key .now))) (sym (c .before .before .before .before .before .before .before .before .before .before .before .next-ok .ensures) ∙ not-false _ (c .before .before .before .before .before .before .before .before .before .before .if1 .left)) (sym (c .before .before .before .before .before .before .before .before .before .lengths-ok .ensures) ∙ not-false _ (c .before .before .before .before .before .before .before .before .if2 .left)) q), ((rw (c .before .before .before .before .call-of .ensures) at (c .before .before .put-index .ensures)) ∙ ap (λ (i : ℕ). put (c .before .before .before .before .before .before .before .before .before .before .before .before .before .before .args .a .now) i (indexFrame (callOf 0 0 (c .before .before .before .before .before .before .before .before .before .before .before .before .before .before .args .group) (c .before .before .before .before .before .before .before .before .before .before .before .before .before .before .args .txid) (c .before .before .before .before .before .before .before .before .before .before .before .before .before .before .args .lsn) (c .before .before .before .before .before .before .before .before .before .before .before .before .before .before .args .ckpt)) (c .before .before .before .before .before .before .before .before .before .before .before .before .before .before .args .key .now) (c .before .before .before .before .before .before .before .before .before .before .before .before .before .before .args .page))) at′))
+    let q : c .before .before .before .before .before .before .before .before .before .before .before .before .before .before .args .next + indexLen (length (c .before .before .before .before .before .before .before .before .before .before .before .before .before .before .args .key .now)) ≤ length (c .before .before .before .before .before .before .before .before .before .before .before .before .before .before .args .a .now) = omega (arith, s .1, c .before .before .before .before .before .before .before .index-len .ensures) in
+    let at : c .before .before .before .before .before .before .placed .result ≡ c .before .before .before .before .before .before .before .before .before .before .before .before .before .before .args .next = omega (arith, s .0) in
+    let f = index-fits (callOf 0 0 (c .before .before .before .before .before .before .before .before .before .before .before .before .before .before .args .group) (c .before .before .before .before .before .before .before .before .before .before .before .before .before .before .args .txid) (c .before .before .before .before .before .before .before .before .before .before .before .before .before .before .args .lsn) (c .before .before .before .before .before .before .before .before .before .before .before .before .before .before .args .ckpt)) (c .before .before .before .before .before .before .before .before .before .before .before .before .before .before .args .a .now) (c .before .before .before .before .before .before .before .before .before .before .before .before .before .before .args .next) (c .before .before .before .before .before .before .before .before .before .before .before .before .before .before .args .key .now) (c .before .before .before .before .before .before .before .before .before .before .before .before .before .before .args .page) (sym (c .before .before .before .before .before .before .before .before .before .before .before .next-ok .ensures) ∙ not-false _ (c .before .before .before .before .before .before .before .before .before .before .if1 .left)) (sym (c .before .before .before .before .before .before .before .before .before .lengths-ok .ensures) ∙ not-false _ (c .before .before .before .before .before .before .before .before .if2 .left)) q in
+    (ap₂ (λ (i n : ℕ). Built.At (addr i) (i + n)) at (c .before .before .before .before .before .before .before .index-len .ensures) ∙ f .0, (rw (c .before .before .before .before .call-of .ensures) at (c .before .before .put-index .ensures)) ∙ ap (λ (i : ℕ). put (c .before .before .before .before .before .before .before .before .before .before .before .before .before .before .args .a .now) i (indexFrame (callOf 0 0 (c .before .before .before .before .before .before .before .before .before .before .before .before .before .before .args .group) (c .before .before .before .before .before .before .before .before .before .before .before .before .before .before .args .txid) (c .before .before .before .before .before .before .before .before .before .before .before .before .before .before .args .lsn) (c .before .before .before .before .before .before .before .before .before .before .before .before .before .before .args .ckpt)) (c .before .before .before .before .before .before .before .before .before .before .before .before .before .before .args .key .now) (c .before .before .before .before .before .before .before .before .before .before .before .before .before .before .args .page))) at ∙ f .1)
 
 pub from-key-index-spec : {M : Type 1} → statement M
 from-key-index-spec =

@@ -6,30 +6,34 @@ use borrow.Author.Needs.{needs}
 use Rattle.delta.proofs.index_len.Statement.{statement}
 use Rattle.delta.proofs.index_len.Tie as tie
 
-index-key-len-requires : tie.Need-index-key-len-requires
-index-key-len-requires c κs = search needs
+cast-index-key-size : tie.Need-cast-index-key-size
+cast-index-key-size c = search needs
+
+index-key-size-requires : tie.Need-index-key-size-requires
+index-key-size-requires c κs = search needs
 
 add-frame-len : tie.Need-add-frame-len
-add-frame-len c = omega (arith, c .index-key-len .ensures, index-key-most (c .before .args .key))
+add-frame-len c = omega (arith, c .index-key-size .ensures, index-key-most (c .before .args .key))
 
 add-frame-len-2 : tie.Need-add-frame-len-2
-add-frame-len-2 c = omega (arith, c .index-key-len .ensures, index-key-most (c .before .args .key))
+add-frame-len-2 c = omega (arith, c .index-key-size .ensures, index-key-most (c .before .args .key))
 
 cast-frame-len : tie.Need-cast-frame-len
-cast-frame-len c = omega (arith, c .index-key-len .ensures, index-key-most (c .before .args .key))
+cast-frame-len c = omega (arith, c .index-key-size .ensures, index-key-most (c .before .args .key))
 
 frame-len-requires : tie.Need-frame-len-requires
 frame-len-requires c κs = search needs
 
 returns : tie.Need-returns
 unfolding indexLen
-returns c = simp (c .frame-len .ensures, c .before .index-key-len .ensures)
+returns c = simp (c .frame-len .ensures, c .before .index-key-size .ensures)
 
 pub index-len-spec : {M : Type 1} → statement M
 index-len-spec =
     tie.close
     (tie.spec
-    index-key-len-requires
+    cast-index-key-size
+    index-key-size-requires
     add-frame-len
     add-frame-len-2
     cast-frame-len

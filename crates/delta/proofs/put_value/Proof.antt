@@ -22,7 +22,7 @@ same-length c = search needs
 returns : tie.Need-returns
 unfolding valueOf
 returns c =
-    let e : valueOf (c .before .before .before .before .before .before .before .args .limit) (c .before .before .before .before .before .before .before .args .far) (c .before .before .before .before .before .before .before .args .v .now) ≡ inlineBytes noHist (c .before .before .before .before .before .before .before .args .v .now) = simp (lt-ltb (length (c .before .before .before .before .before .before .before .args .v .now)) (c .before .before .before .before .before .before .before .args .limit) (c .before .before .before .before .if1 .taken)) in
+    let e : valueOf (c .before .before .before .before .before .before .before .args .limit) (c .before .before .before .before .before .before .before .args .remote) (c .before .before .before .before .before .before .before .args .v .now) ≡ inlineBytes noHist (c .before .before .before .before .before .before .before .args .v .now) = simp (lt-ltb (length (c .before .before .before .before .before .before .before .args .v .now)) (c .before .before .before .before .before .before .before .args .limit) (c .before .before .before .before .if1 .taken)) in
     rw e (stored-bytes _ _ _ _ _ _ (c .before .before .encode-inline .ensures) (le-leb _ _ (c .before .before .before .before .before .before .before .pre .0)) (rw e at (c .before .before .before .before .before .before .before .pre .1)))
 
 same-length-2 : tie.Need-same-length-2
@@ -31,7 +31,7 @@ same-length-2 c = search needs
 returns-2 : tie.Need-returns-2
 unfolding valueOf
 returns-2 c =
-    let e : valueOf (c .before .before .before .before .before .before .before .args .limit) (c .before .before .before .before .before .before .before .args .far) (c .before .before .before .before .before .before .before .args .v .now) ≡ remoteBytes noHist (length (c .before .before .before .before .before .before .before .args .v .now)) (c .before .before .before .before .before .before .before .args .far) = simp (le-ltb (length (c .before .before .before .before .before .before .before .args .v .now)) (c .before .before .before .before .before .before .before .args .limit) (c .before .before .before .before .if1 .left)) in
+    let e : valueOf (c .before .before .before .before .before .before .before .args .limit) (c .before .before .before .before .before .before .before .args .remote) (c .before .before .before .before .before .before .before .args .v .now) ≡ remoteBytes noHist (length (c .before .before .before .before .before .before .before .args .v .now)) (c .before .before .before .before .before .before .before .args .remote) = simp (le-ltb (length (c .before .before .before .before .before .before .before .args .v .now)) (c .before .before .before .before .before .before .before .args .limit) (c .before .before .before .before .if1 .left)) in
     rw e (stored-bytes _ _ _ _ _ _ (c .before .before .encode-remote .ensures) (le-leb _ _ (c .before .before .before .before .before .before .before .pre .0)) (rw e at (c .before .before .before .before .before .before .before .pre .1)))
 
 pub put-value-spec : {M : Type 1} → statement M

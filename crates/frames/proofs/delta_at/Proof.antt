@@ -26,6 +26,9 @@ returns-2 : tie.Need-returns-2
 unfolding deltaAt
 returns-2 c = simp (← c .before .before .before .before .before .at .ensures, c .before .before .before .h .given .1, ne-eqb _ _ (c .if1 .taken))
 
+cast-if2 : tie.Need-cast-if2
+cast-if2 c = search needs
+
 returns-3 : tie.Need-returns-3
 unfolding deltaAt
 returns-3 c = simp (← c .before .before .before .before .before .before .before .at .ensures, c .before .before .before .before .before .h .given .1, eq-eqb _ _ (c .before .before .if1 .left), lt-leb _ _ (c .if2 .taken))
@@ -92,6 +95,7 @@ delta-at-spec =
     enum-told
     returns
     returns-2
+    cast-if2
     returns-3
     add-p
     read-u32-requires

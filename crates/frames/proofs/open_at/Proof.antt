@@ -6,7 +6,7 @@ use denote.Ref.{now}
 use lib.ListN.{length}
 use borrow.Author.Tests.{leb-true}
 use Rattle.frames.specs.declared.PageRead.{PageRead}
-use Rattle.frames.specs.Layout.{pageAt, openAt}
+use Rattle.frames.specs.Layout.{slotsAt, pageAt, openAt}
 use Rattle.frames.proofs.Frames.{page-sizes}
 use Rattle.frames.proofs.Judged.{plain-page}
 use borrow.Author.Needs.{needs}
@@ -17,16 +17,16 @@ room-requires : tie.Need-room-requires
 room-requires c κs = search needs
 
 fields-requires : tie.Need-fields-requires
-fields-requires c κs = omega (arith, leb-true (c .before .before .before .args .a .0 + 72) (length (now (c .before .before .before .args .s))) (sym (c .before .room .ensures) ∙ c .if1 .taken))
+fields-requires c κs = omega (arith, leb-true (c .before .before .before .args .a .0 + slotsAt) (length (now (c .before .before .before .args .s))) (sym (c .before .room .ensures) ∙ c .if1 .taken))
 
 add-fields : tie.Need-add-fields
-add-fields c = omega (arith, leb-true (c .before .before .before .before .args .a .0 + 72) (length (now (c .before .before .before .before .args .s))) (sym (c .before .before .room .ensures) ∙ c .before .if1 .taken), c .before .before .before .before .good)
+add-fields c = omega (arith, leb-true (c .before .before .before .before .args .a .0 + slotsAt) (length (now (c .before .before .before .before .args .s))) (sym (c .before .before .room .ensures) ∙ c .before .if1 .taken), c .before .before .before .before .good)
 
 fields-requires-2 : tie.Need-fields-requires-2
-fields-requires-2 c κs = omega (arith, leb-true (c .before .before .before .before .args .a .0 + 72) (length (now (c .before .before .before .before .args .s))) (sym (c .before .before .room .ensures) ∙ c .before .if1 .taken))
+fields-requires-2 c κs = omega (arith, leb-true (c .before .before .before .before .args .a .0 + slotsAt) (length (now (c .before .before .before .before .args .s))) (sym (c .before .before .room .ensures) ∙ c .before .if1 .taken))
 
 plain-requires : tie.Need-plain-requires
-plain-requires c κs = omega (arith, leb-true (c .before .before .before .before .before .args .a .0 + 72) (length (now (c .before .before .before .before .before .args .s))) (sym (c .before .before .before .room .ensures) ∙ c .before .before .if1 .taken), c .before .before .before .before .before .good)
+plain-requires c κs = omega (arith, leb-true (c .before .before .before .before .before .args .a .0 + slotsAt) (length (now (c .before .before .before .before .before .args .s))) (sym (c .before .before .before .room .ensures) ∙ c .before .before .if1 .taken), c .before .before .before .before .before .good)
 
 -- a page that `plain` lets pass is read
 page : (c : tie.Then2) → pageAt (now (c .before .before .before .before .before .before .before .args .s)) (c .before .before .before .before .before .before .before .args .a) ≡ PageRead.Page (c .before .before .before .fields .result) (c .before .before .fields2 .result)

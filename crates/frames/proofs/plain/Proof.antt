@@ -5,6 +5,12 @@ use borrow.Author.Needs.{needs}
 use Rattle.frames.proofs.plain.Statement.{statement}
 use Rattle.frames.proofs.plain.Tie as tie
 
+cast-lengths : tie.Need-cast-lengths
+cast-lengths c = search needs
+
+cast-lengths-2 : tie.Need-cast-lengths-2
+cast-lengths-2 c = search needs
+
 front-requires : tie.Need-front-requires
 front-requires c κs = search needs
 
@@ -21,4 +27,4 @@ returns : tie.Need-returns
 returns c = plain-ok (c .before .before .before .before .before .before .before .before .before .before .before .before .before .before .before .before .before .before .before .before .before .before .before .before .args .x) (c .before .before .before .before .before .before .before .before .before .before .before .before .before .before .before .before .before .before .before .before .before .before .before .before .args .h) (c .before .before .before .before .before .before .before .before .before .before .before .before .before .before .before .before .before .before .before .before .before .before .before .before .args .at) (c .before .before .before .before .before .before .before .before .before .before .before .before .before .before .before .before .before .before .before .before .before .before .before .before .args .len) _ _ (c .before .before .front .ensures) (c .frame-len .ensures)
 
 pub plain-spec : {M : Type 1} → statement M
-plain-spec = tie.close (tie.spec front-requires cast-result frame-len-requires add-result returns)
+plain-spec = tie.close (tie.spec cast-lengths cast-lengths-2 front-requires cast-result frame-len-requires add-result returns)

@@ -61,7 +61,7 @@ unfolding boxBytes
 returns c =
     let h = c .before .before .before .before .before .before .before .before .before .before .before .before .before .before .before .before .before .before .before .before .before .before .before .before .before .before .before .before .before .before .before .before .before .args .h in
     let w0 = wrote-first {a = c .before .before .before .before .before .before .before .before .before .before .before .before .before .before .before .before .before .before .before .before .before .before .before .before .before .before .before .before .before .before .before .before .before .args .buf .now} {at = c .before .before .before .before .before .before .before .before .before .before .before .before .before .before .before .before .before .before .before .before .before .before .before .before .before .before .before .before .before .before .before .before .before .args .at} (le 4 (h .«payload_size»)) 4 (c .before .before .before .before .before .before .before .before .before .before .before .before .before .before .before .before .before .before .before .before .before .before .before .before .before .before .before .before .before .before .put-u32 .ensures) (length-le 4 (h .«payload_size»)) in
-    let w1 = wrote-then (le 1 (h .kind)) 1 w0 (c .before .before .before .before .before .before .before .before .before .before .before .before .before .before .before .before .before .before .before .before .before .before .before .before .before .before .put-u8 .ensures) (length-le 1 (h .kind)) in
+    let w1 = wrote-then (le 1 (h .«box_kind»)) 1 w0 (c .before .before .before .before .before .before .before .before .before .before .before .before .before .before .before .before .before .before .before .before .before .before .before .before .before .before .put-u8 .ensures) (length-le 1 (h .«box_kind»)) in
     let w2 = wrote-then (le 1 (h .«node_type»)) 1 w1 (c .before .before .before .before .before .before .before .before .before .before .before .before .before .before .before .before .before .before .before .before .before .before .put-u82 .ensures) (length-le 1 (h .«node_type»)) in
     let w3 = wrote-then (le 1 (h .flag)) 1 w2 (c .before .before .before .before .before .before .before .before .before .before .before .before .before .before .before .before .before .before .put-u83 .ensures) (length-le 1 (h .flag)) in
     let w4 = wrote-then (le 1 (h .group)) 1 w3 (c .before .before .before .before .before .before .before .before .before .before .before .before .before .before .put-u84 .ensures) (length-le 1 (h .group)) in

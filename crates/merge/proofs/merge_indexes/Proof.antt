@@ -3,7 +3,7 @@ use Prim.Native.Nat.{ℕ}
 use denote.Ref.{now}
 use mathlib.Core.Path.{_≡_, refl, sym, ap, _∙_}
 use lib.Seq.{length-take-le}
-use Rattle.build_image.specs.Image.{Bounds}
+use Rattle.build_image.specs.Image.{Borders}
 use Rattle.build_sources.specs.Source.{Entry}
 use mathlib.Core.List.{List}
 use Rattle.build_table.specs.Index.{indexAnswer, indexArena}
@@ -44,7 +44,7 @@ same-length-2 : tie.Need-same-length-2
 same-length-2 c = search needs
 
 returns-2 : tie.Need-returns-2
-returns-2 c = (answered _ _ _ (c .before .before .before .before .before .before .before .before .before .before .before .pre .1 .1 .0) (c .before .before .before .before .before .before .before .before .before .before .before .pre .1 .1 .1) _ _ (sym (c .before .before .before .before .before .before .before .gather .ensures) ∙ c .before .before .before .before .before .c .given .1) _ (c .before .before .before .before .before .before .before .before .before .before .before .pre .1 .0) (λ (b : Bounds) (es : List Entry). indexAnswer (now (c .before .before .before .before .before .before .before .before .before .before .before .args .a)) (c .before .before .before .before .before .before .before .before .before .before .before .args .next) (c .before .before .before .before .before .before .before .before .before .before .before .args .m) b es) _ (c .before .before .build-index .ensures .0), answered _ _ _ (c .before .before .before .before .before .before .before .before .before .before .before .pre .1 .1 .0) (c .before .before .before .before .before .before .before .before .before .before .before .pre .1 .1 .1) _ _ (sym (c .before .before .before .before .before .before .before .gather .ensures) ∙ c .before .before .before .before .before .c .given .1) _ (c .before .before .before .before .before .before .before .before .before .before .before .pre .1 .0) (λ (b : Bounds) (es : List Entry). indexArena (now (c .before .before .before .before .before .before .before .before .before .before .before .args .a)) (c .before .before .before .before .before .before .before .before .before .before .before .args .next) (c .before .before .before .before .before .before .before .before .before .before .before .args .m) b es) _ (c .before .before .build-index .ensures .1))
+returns-2 c = (answered _ _ _ (c .before .before .before .before .before .before .before .before .before .before .before .pre .1 .1 .0) (c .before .before .before .before .before .before .before .before .before .before .before .pre .1 .1 .1) _ _ (sym (c .before .before .before .before .before .before .before .gather .ensures) ∙ c .before .before .before .before .before .c .given .1) _ (c .before .before .before .before .before .before .before .before .before .before .before .pre .1 .0) (λ (b : Borders) (es : List Entry). indexAnswer (now (c .before .before .before .before .before .before .before .before .before .before .before .args .a)) (c .before .before .before .before .before .before .before .before .before .before .before .args .next) (c .before .before .before .before .before .before .before .before .before .before .before .args .m) b es) _ (c .before .before .build-index .ensures .0), answered _ _ _ (c .before .before .before .before .before .before .before .before .before .before .before .pre .1 .1 .0) (c .before .before .before .before .before .before .before .before .before .before .before .pre .1 .1 .1) _ _ (sym (c .before .before .before .before .before .before .before .gather .ensures) ∙ c .before .before .before .before .before .c .given .1) _ (c .before .before .before .before .before .before .before .before .before .before .before .pre .1 .0) (λ (b : Borders) (es : List Entry). indexArena (now (c .before .before .before .before .before .before .before .before .before .before .before .args .a)) (c .before .before .before .before .before .before .before .before .before .before .before .args .next) (c .before .before .before .before .before .before .before .before .before .before .before .args .m) b es) _ (c .before .before .build-index .ensures .1))
 
 pub merge-indexes-spec : {M : Type 1} → statement M
 merge-indexes-spec =

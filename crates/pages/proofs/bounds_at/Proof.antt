@@ -4,7 +4,7 @@ use mathlib.Core.Path.{sym, _∙_}
 use denote.Ref.{now}
 use borrow.Author.Tests.{eq-eqb, ne-eqb}
 use Rattle.frames.proofs.Frames.{open-inside}
-use Rattle.pages.specs.Edges.{boundsOf, boundsAt}
+use Rattle.pages.specs.Boundaries.{boundsOf, boundsAt}
 use borrow.Author.Needs.{needs}
 use Rattle.pages.proofs.bounds_at.Statement.{statement}
 use Rattle.pages.proofs.bounds_at.Tie as tie

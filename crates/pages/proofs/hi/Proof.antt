@@ -1,5 +1,5 @@
 -- `pages::hi` meets its contract. Assumes nothing.
-use Rattle.pages.specs.Edges.{hiAt}
+use Rattle.pages.specs.Boundaries.{hiAt}
 use borrow.Author.Needs.{needs}
 use Rattle.pages.proofs.hi.Statement.{statement}
 use Rattle.pages.proofs.hi.Tie as tie

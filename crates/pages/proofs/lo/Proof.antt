@@ -1,5 +1,5 @@
 -- `pages::lo` meets its contract. Assumes nothing.
-use Rattle.pages.specs.Edges.{loAt}
+use Rattle.pages.specs.Boundaries.{loAt}
 use borrow.Author.Needs.{needs}
 use Rattle.pages.proofs.lo.Statement.{statement}
 use Rattle.pages.proofs.lo.Tie as tie

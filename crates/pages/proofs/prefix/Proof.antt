@@ -1,5 +1,5 @@
 -- `pages::prefix` meets its contract. Assumes nothing.
-use Rattle.pages.specs.Edges.{prefixAt}
+use Rattle.pages.specs.Boundaries.{prefixAt}
 use borrow.Author.Needs.{needs}
 use Rattle.pages.proofs.prefix.Statement.{statement}
 use Rattle.pages.proofs.prefix.Tie as tie

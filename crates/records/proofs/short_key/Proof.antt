@@ -13,13 +13,13 @@ use Rattle.spans.specs.Span.{part, partOr}
 use Rattle.frames.specs.Layout.{Inside, remoteAt}
 use Rattle.values.specs.declared.KeyRead.{KeyRead}
 use Rattle.values.specs.declared.Val.{Val}
-use Rattle.values.specs.Keys.{keyAt}
+use Rattle.values.specs.Keys.{verIn, keyAt}
 use Rattle.values.specs.Vals.{valAt}
 use Rattle.records.specs.declared.SlotRead.{SlotRead}
 use Rattle.records.specs.declared.ValRead.{ValRead}
 use Rattle.records.specs.declared.RecRead.{RecRead}
-use Rattle.records.specs.Records.{slotAt, verIn, keyIn, keyAtSlot, valIn, recIn, recAt}
-use Rattle.records.specs.Parts.{loIn, hiIn, prefixIn}
+use Rattle.records.specs.Records.{slotAt, keyIn, keyAtSlot, valIn, recIn, recAt}
+use Rattle.records.specs.Parts.{prefixIn}
 use Rattle.records.proofs.Places.{remote-place}
 use Rattle.records.proofs.Inside.{ends, KeyInside, place-inside, key-inside}
 use Rattle.records.proofs.Quick.{short-in}
@@ -29,7 +29,7 @@ use Rattle.records.proofs.short_key.Tie as tie
 use Rattle.records.proofs.short_key.Reads as reads
 use Rattle.records.proofs.short_key.Lts as lts
 use Rattle.records.proofs.key_in.Reads as key-in-reads
-use Rattle.records.proofs.skip_of.Reads as skip-of-reads
+use Rattle.values.proofs.skip_of.Reads as skip-of-reads
 
 slice-aggregate-t : tie.Need-slice-aggregate-t
 slice-aggregate-t c = sym (ends (now (c .before .before .args .s)) (c .before .before .args .b) (c .before .before .pre))

@@ -1,5 +1,5 @@
 -- `records::ver_at` meets its contract. Assumes nothing.
-use Rattle.records.specs.Records.{verIn}
+use Rattle.values.specs.Keys.{verIn}
 use borrow.Author.Needs.{needs}
 use Rattle.records.proofs.ver_at.Statement.{statement}
 use Rattle.records.proofs.ver_at.Tie as tie

@@ -1,4 +1,4 @@
--- `found::head_at` meets its contract. Assumes nothing.
+-- `search_head::head_at` meets its contract. Assumes nothing.
 use mathlib.Core.Path.{_≡_, sym, ap, _∙_}
 use denote.Ref.{now}
 use Rattle.sst.specs.declared.Outcome.{Outcome}

@@ -1,4 +1,4 @@
--- `found::head_in` meets its contract. Assumes nothing.
+-- `search_head::head_in` meets its contract. Assumes nothing.
 use borrow.Author.Needs.{needs}
 use Rattle.search_head.proofs.head_in.Statement.{statement}
 use Rattle.search_head.proofs.head_in.Tie as tie

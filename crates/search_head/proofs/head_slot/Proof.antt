@@ -1,4 +1,4 @@
--- `found::head_slot` meets its contract. Assumes nothing.
+-- `search_head::head_slot` meets its contract. Assumes nothing.
 use native.Mathlib.Omega.{arith}
 use mathlib.Core.Path.{sym, _∙_}
 use denote.Ref.{now}

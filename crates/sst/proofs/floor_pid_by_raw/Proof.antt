@@ -2,10 +2,10 @@ use mathlib.Core.Bool.{true, false}
 use mathlib.Core.Path.{_≡_, sym, ap, _∙_}
 use denote.Ref.{now}
 use Rattle.frames.proofs.Frames.{open-inside}
-use Rattle.sst.specs.Search.{endedIn, outcomeAt, floorAt, intl, floorOf}
+use Rattle.sst.specs.Search.{endedIn, outcomeAt, floorAt, indexes, floorOf}
 use Rattle.sst.specs.declared.Outcome.{Outcome}
 use Rattle.sst.specs.declared.Ended.{Ended}
-use Rattle.sst.proofs.Opens.{wants, end-of, backOf, outcome-ended, outcome-bad, outcome-ready, intl-kind}
+use Rattle.sst.proofs.Opens.{wants, end-of, backOf, outcome-ended, outcome-bad, outcome-ready, index-kind}
 use borrow.Author.Needs.{needs}
 use Rattle.sst.proofs.floor_pid_by_raw.Statement.{statement}
 use Rattle.sst.proofs.floor_pid_by_raw.Tie as tie
@@ -30,7 +30,7 @@ enum-told c = search needs
 
 returns : tie.Need-returns
 unfolding floorAt
-returns c = ap (floorOf (now (c .before .before .before .before .before .before .args .s))) (sym (outcome-bad (now (c .before .before .before .before .before .before .args .s)) (c .before .before .before .before .before .before .args .a) (now (c .before .before .before .before .before .before .args .probe)) intl (sym (c .before .before .open-at .ensures) ∙ c .enum-told .given .1)))
+returns c = ap (floorOf (now (c .before .before .before .before .before .before .args .s))) (sym (outcome-bad (now (c .before .before .before .before .before .before .args .s)) (c .before .before .before .before .before .before .args .a) (now (c .before .before .before .before .before .before .args .probe)) indexes (sym (c .before .before .open-at .ensures) ∙ c .enum-told .given .1)))
 
 ended-in-requires : tie.Need-ended-in-requires
 ended-in-requires c κs = open-inside (now (c .before .before .before .before .before .before .before .args .s)) (c .before .before .before .before .before .before .before .args .a) (c .before .b .given .0 .0) (sym (c .before .before .before .open-at .ensures) ∙ c .before .b .given .1) .0
@@ -46,30 +46,30 @@ enum-known-h c = search needs
 
 floor-in-requires : tie.Need-floor-in-requires
 floor-in-requires c κs =
-    let q : endedIn (now (c .before .before .before .before .before .before .before .before .before .before .before .args .s)) (c .before .before .before .before .before .b .given .0 .0) (now (c .before .before .before .before .before .before .before .before .before .before .before .args .probe)) intl ≡ Ended.Halves (c .before .h .given .0 .0) = end-of (now (c .before .before .before .before .before .before .before .before .before .before .before .args .s)) (c .before .before .before .before .before .b .given .0 .0) (now (c .before .before .before .before .before .before .before .before .before .before .before .args .probe)) intl (wants false true (c .before .before .before .before .before .before .before .before .new .result)) (c .before .before .before .ended-in .result) (Ended.Halves (c .before .h .given .0 .0)) (ap (wants false true) (c .before .before .before .before .before .before .before .before .new .ensures)) (c .before .before .before .ended-in .ensures) (c .before .h .given .1) in
-    let e : outcomeAt (now (c .before .before .before .before .before .before .before .before .before .before .before .args .s)) (c .before .before .before .before .before .before .before .before .before .before .before .args .a) (now (c .before .before .before .before .before .before .before .before .before .before .before .args .probe)) intl ≡ Outcome.Halves (c .before .before .before .before .before .b .given .0 .0) (c .before .h .given .0 .0) = outcome-ended (now (c .before .before .before .before .before .before .before .before .before .before .before .args .s)) (c .before .before .before .before .before .before .before .before .before .before .before .args .a) (now (c .before .before .before .before .before .before .before .before .before .before .before .args .probe)) intl (c .before .before .before .before .before .b .given .0 .0) (Ended.Halves (c .before .h .given .0 .0)) (sym (c .before .before .before .before .before .before .before .open-at .ensures) ∙ c .before .before .before .before .before .b .given .1) q in
-    let k = outcome-ready (now (c .before .before .before .before .before .before .before .before .before .before .before .args .s)) (c .before .before .before .before .before .before .before .before .before .before .before .args .a) (now (c .before .before .before .before .before .before .before .before .before .before .before .args .probe)) intl (c .before .before .before .before .before .b .given .0 .0) (c .before .h .given .0 .0) e .0 in
-    (k .inside, intl-kind (c .before .before .before .before .before .b .given .0 .0 .kind) (k .right))
+    let q : endedIn (now (c .before .before .before .before .before .before .before .before .before .before .before .args .s)) (c .before .before .before .before .before .b .given .0 .0) (now (c .before .before .before .before .before .before .before .before .before .before .before .args .probe)) indexes ≡ Ended.Halves (c .before .h .given .0 .0) = end-of (now (c .before .before .before .before .before .before .before .before .before .before .before .args .s)) (c .before .before .before .before .before .b .given .0 .0) (now (c .before .before .before .before .before .before .before .before .before .before .before .args .probe)) indexes (wants false true (c .before .before .before .before .before .before .before .before .new .result)) (c .before .before .before .ended-in .result) (Ended.Halves (c .before .h .given .0 .0)) (ap (wants false true) (c .before .before .before .before .before .before .before .before .new .ensures)) (c .before .before .before .ended-in .ensures) (c .before .h .given .1) in
+    let e : outcomeAt (now (c .before .before .before .before .before .before .before .before .before .before .before .args .s)) (c .before .before .before .before .before .before .before .before .before .before .before .args .a) (now (c .before .before .before .before .before .before .before .before .before .before .before .args .probe)) indexes ≡ Outcome.Halves (c .before .before .before .before .before .b .given .0 .0) (c .before .h .given .0 .0) = outcome-ended (now (c .before .before .before .before .before .before .before .before .before .before .before .args .s)) (c .before .before .before .before .before .before .before .before .before .before .before .args .a) (now (c .before .before .before .before .before .before .before .before .before .before .before .args .probe)) indexes (c .before .before .before .before .before .b .given .0 .0) (Ended.Halves (c .before .h .given .0 .0)) (sym (c .before .before .before .before .before .before .before .open-at .ensures) ∙ c .before .before .before .before .before .b .given .1) q in
+    let k = outcome-ready (now (c .before .before .before .before .before .before .before .before .before .before .before .args .s)) (c .before .before .before .before .before .before .before .before .before .before .before .args .a) (now (c .before .before .before .before .before .before .before .before .before .before .before .args .probe)) indexes (c .before .before .before .before .before .b .given .0 .0) (c .before .h .given .0 .0) e .0 in
+    (k .inside, index-kind (c .before .before .before .before .before .b .given .0 .0 .kind) (k .right))
 
 returns-2 : tie.Need-returns-2
 unfolding floorAt
 returns-2 c =
-    let q : endedIn (now (c .before .before .before .before .before .before .before .before .before .before .before .args .s)) (c .before .before .before .before .before .b .given .0 .0) (now (c .before .before .before .before .before .before .before .before .before .before .before .args .probe)) intl ≡ Ended.Refused (c .before .r .given .0 .0) = end-of (now (c .before .before .before .before .before .before .before .before .before .before .before .args .s)) (c .before .before .before .before .before .b .given .0 .0) (now (c .before .before .before .before .before .before .before .before .before .before .before .args .probe)) intl (wants false true (c .before .before .before .before .before .before .before .before .new .result)) (c .before .before .before .ended-in .result) (Ended.Refused (c .before .r .given .0 .0)) (ap (wants false true) (c .before .before .before .before .before .before .before .before .new .ensures)) (c .before .before .before .ended-in .ensures) (c .before .r .given .1) in
-    let e : outcomeAt (now (c .before .before .before .before .before .before .before .before .before .before .before .args .s)) (c .before .before .before .before .before .before .before .before .before .before .before .args .a) (now (c .before .before .before .before .before .before .before .before .before .before .before .args .probe)) intl ≡ backOf (c .before .before .before .before .before .b .given .0 .0) (Ended.Refused (c .before .r .given .0 .0)) = outcome-ended (now (c .before .before .before .before .before .before .before .before .before .before .before .args .s)) (c .before .before .before .before .before .before .before .before .before .before .before .args .a) (now (c .before .before .before .before .before .before .before .before .before .before .before .args .probe)) intl (c .before .before .before .before .before .b .given .0 .0) (Ended.Refused (c .before .r .given .0 .0)) (sym (c .before .before .before .before .before .before .before .open-at .ensures) ∙ c .before .before .before .before .before .b .given .1) q in
+    let q : endedIn (now (c .before .before .before .before .before .before .before .before .before .before .before .args .s)) (c .before .before .before .before .before .b .given .0 .0) (now (c .before .before .before .before .before .before .before .before .before .before .before .args .probe)) indexes ≡ Ended.Refused (c .before .r .given .0 .0) = end-of (now (c .before .before .before .before .before .before .before .before .before .before .before .args .s)) (c .before .before .before .before .before .b .given .0 .0) (now (c .before .before .before .before .before .before .before .before .before .before .before .args .probe)) indexes (wants false true (c .before .before .before .before .before .before .before .before .new .result)) (c .before .before .before .ended-in .result) (Ended.Refused (c .before .r .given .0 .0)) (ap (wants false true) (c .before .before .before .before .before .before .before .before .new .ensures)) (c .before .before .before .ended-in .ensures) (c .before .r .given .1) in
+    let e : outcomeAt (now (c .before .before .before .before .before .before .before .before .before .before .before .args .s)) (c .before .before .before .before .before .before .before .before .before .before .before .args .a) (now (c .before .before .before .before .before .before .before .before .before .before .before .args .probe)) indexes ≡ backOf (c .before .before .before .before .before .b .given .0 .0) (Ended.Refused (c .before .r .given .0 .0)) = outcome-ended (now (c .before .before .before .before .before .before .before .before .before .before .before .args .s)) (c .before .before .before .before .before .before .before .before .before .before .before .args .a) (now (c .before .before .before .before .before .before .before .before .before .before .before .args .probe)) indexes (c .before .before .before .before .before .b .given .0 .0) (Ended.Refused (c .before .r .given .0 .0)) (sym (c .before .before .before .before .before .before .before .open-at .ensures) ∙ c .before .before .before .before .before .b .given .1) q in
     ap (floorOf (now (c .before .before .before .before .before .before .before .before .before .before .before .args .s))) (sym e)
 
 returns-3 : tie.Need-returns-3
 unfolding floorAt
 returns-3 c =
-    let q : endedIn (now (c .before .before .before .before .before .before .before .before .before .before .args .s)) (c .before .before .before .before .b .given .0 .0) (now (c .before .before .before .before .before .before .before .before .before .before .args .probe)) intl ≡ Ended.Empty = end-of (now (c .before .before .before .before .before .before .before .before .before .before .args .s)) (c .before .before .before .before .b .given .0 .0) (now (c .before .before .before .before .before .before .before .before .before .before .args .probe)) intl (wants false true (c .before .before .before .before .before .before .before .new .result)) (c .before .before .ended-in .result) (Ended.Empty) (ap (wants false true) (c .before .before .before .before .before .before .before .new .ensures)) (c .before .before .ended-in .ensures) (c .enum-told2 .given .1) in
-    let e : outcomeAt (now (c .before .before .before .before .before .before .before .before .before .before .args .s)) (c .before .before .before .before .before .before .before .before .before .before .args .a) (now (c .before .before .before .before .before .before .before .before .before .before .args .probe)) intl ≡ backOf (c .before .before .before .before .b .given .0 .0) (Ended.Empty) = outcome-ended (now (c .before .before .before .before .before .before .before .before .before .before .args .s)) (c .before .before .before .before .before .before .before .before .before .before .args .a) (now (c .before .before .before .before .before .before .before .before .before .before .args .probe)) intl (c .before .before .before .before .b .given .0 .0) (Ended.Empty) (sym (c .before .before .before .before .before .before .open-at .ensures) ∙ c .before .before .before .before .b .given .1) q in
+    let q : endedIn (now (c .before .before .before .before .before .before .before .before .before .before .args .s)) (c .before .before .before .before .b .given .0 .0) (now (c .before .before .before .before .before .before .before .before .before .before .args .probe)) indexes ≡ Ended.Empty = end-of (now (c .before .before .before .before .before .before .before .before .before .before .args .s)) (c .before .before .before .before .b .given .0 .0) (now (c .before .before .before .before .before .before .before .before .before .before .args .probe)) indexes (wants false true (c .before .before .before .before .before .before .before .new .result)) (c .before .before .ended-in .result) (Ended.Empty) (ap (wants false true) (c .before .before .before .before .before .before .before .new .ensures)) (c .before .before .ended-in .ensures) (c .enum-told2 .given .1) in
+    let e : outcomeAt (now (c .before .before .before .before .before .before .before .before .before .before .args .s)) (c .before .before .before .before .before .before .before .before .before .before .args .a) (now (c .before .before .before .before .before .before .before .before .before .before .args .probe)) indexes ≡ backOf (c .before .before .before .before .b .given .0 .0) (Ended.Empty) = outcome-ended (now (c .before .before .before .before .before .before .before .before .before .before .args .s)) (c .before .before .before .before .before .before .before .before .before .before .args .a) (now (c .before .before .before .before .before .before .before .before .before .before .args .probe)) indexes (c .before .before .before .before .b .given .0 .0) (Ended.Empty) (sym (c .before .before .before .before .before .before .open-at .ensures) ∙ c .before .before .before .before .b .given .1) q in
     ap (floorOf (now (c .before .before .before .before .before .before .before .before .before .before .args .s))) (sym e)
 
 returns-4 : tie.Need-returns-4
 unfolding floorAt
 returns-4 c =
-    let q : endedIn (now (c .before .before .before .before .before .before .before .before .before .before .before .before .args .s)) (c .before .before .before .before .before .before .b .given .0 .0) (now (c .before .before .before .before .before .before .before .before .before .before .before .before .args .probe)) intl ≡ Ended.Halves (c .before .before .h .given .0 .0) = end-of (now (c .before .before .before .before .before .before .before .before .before .before .before .before .args .s)) (c .before .before .before .before .before .before .b .given .0 .0) (now (c .before .before .before .before .before .before .before .before .before .before .before .before .args .probe)) intl (wants false true (c .before .before .before .before .before .before .before .before .before .new .result)) (c .before .before .before .before .ended-in .result) (Ended.Halves (c .before .before .h .given .0 .0)) (ap (wants false true) (c .before .before .before .before .before .before .before .before .before .new .ensures)) (c .before .before .before .before .ended-in .ensures) (c .before .before .h .given .1) in
-    let e : outcomeAt (now (c .before .before .before .before .before .before .before .before .before .before .before .before .args .s)) (c .before .before .before .before .before .before .before .before .before .before .before .before .args .a) (now (c .before .before .before .before .before .before .before .before .before .before .before .before .args .probe)) intl ≡ backOf (c .before .before .before .before .before .before .b .given .0 .0) (Ended.Halves (c .before .before .h .given .0 .0)) = outcome-ended (now (c .before .before .before .before .before .before .before .before .before .before .before .before .args .s)) (c .before .before .before .before .before .before .before .before .before .before .before .before .args .a) (now (c .before .before .before .before .before .before .before .before .before .before .before .before .args .probe)) intl (c .before .before .before .before .before .before .b .given .0 .0) (Ended.Halves (c .before .before .h .given .0 .0)) (sym (c .before .before .before .before .before .before .before .before .open-at .ensures) ∙ c .before .before .before .before .before .before .b .given .1) q in
+    let q : endedIn (now (c .before .before .before .before .before .before .before .before .before .before .before .before .args .s)) (c .before .before .before .before .before .before .b .given .0 .0) (now (c .before .before .before .before .before .before .before .before .before .before .before .before .args .probe)) indexes ≡ Ended.Halves (c .before .before .h .given .0 .0) = end-of (now (c .before .before .before .before .before .before .before .before .before .before .before .before .args .s)) (c .before .before .before .before .before .before .b .given .0 .0) (now (c .before .before .before .before .before .before .before .before .before .before .before .before .args .probe)) indexes (wants false true (c .before .before .before .before .before .before .before .before .before .new .result)) (c .before .before .before .before .ended-in .result) (Ended.Halves (c .before .before .h .given .0 .0)) (ap (wants false true) (c .before .before .before .before .before .before .before .before .before .new .ensures)) (c .before .before .before .before .ended-in .ensures) (c .before .before .h .given .1) in
+    let e : outcomeAt (now (c .before .before .before .before .before .before .before .before .before .before .before .before .args .s)) (c .before .before .before .before .before .before .before .before .before .before .before .before .args .a) (now (c .before .before .before .before .before .before .before .before .before .before .before .before .args .probe)) indexes ≡ backOf (c .before .before .before .before .before .before .b .given .0 .0) (Ended.Halves (c .before .before .h .given .0 .0)) = outcome-ended (now (c .before .before .before .before .before .before .before .before .before .before .before .before .args .s)) (c .before .before .before .before .before .before .before .before .before .before .before .before .args .a) (now (c .before .before .before .before .before .before .before .before .before .before .before .before .args .probe)) indexes (c .before .before .before .before .before .before .b .given .0 .0) (Ended.Halves (c .before .before .h .given .0 .0)) (sym (c .before .before .before .before .before .before .before .before .open-at .ensures) ∙ c .before .before .before .before .before .before .b .given .1) q in
     c .floor-in .ensures ∙ ap (floorOf (now (c .before .before .before .before .before .before .before .before .before .before .before .before .args .s))) (sym e)
 
 pub floor-pid-by-raw-spec : {M : Type 1} → statement M

@@ -4,7 +4,7 @@ use mathlib.Core.Path.{_≡_, sym, ap, _∙_}
 use denote.Ref.{now}
 use Rattle.records.proofs.Quick.{quick-is}
 use Rattle.records.proofs.Inside.{skip-twelve, val-no, rec-no-key, rec-val}
-use Rattle.pages.specs.Edges.{place}
+use Rattle.pages.specs.Boundaries.{place}
 use Rattle.sst.specs.Search.{foundRec, headIn}
 use Rattle.sst.specs.declared.Found.{Found}
 use Rattle.sst.proofs.Opens.{key-at-inside}

@@ -5,7 +5,7 @@ use Rattle.sst.proofs.mark_of.Statement.{statement}
 use Rattle.sst.proofs.mark_of.Tie as tie
 use Rattle.sst.proofs.mark_of.Reads as reads
 use Rattle.sst.proofs.mark_of.Lts as lts
-use Rattle.records.proofs.skip_of.Reads as skip-of-reads
+use Rattle.values.proofs.skip_of.Reads as skip-of-reads
 
 returns : tie.Need-returns
 returns c = search needs

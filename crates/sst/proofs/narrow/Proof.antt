@@ -14,7 +14,7 @@ use Rattle.sst.proofs.narrow.Tie as tie
 use Rattle.sst.proofs.narrow.Reads as reads
 use Rattle.sst.proofs.narrow.Lts as lts
 use Rattle.order_pair.proofs.pair_of.Reads as pair-of-reads
-use Rattle.records.proofs.skip_of.Reads as skip-of-reads
+use Rattle.values.proofs.skip_of.Reads as skip-of-reads
 use Rattle.sst.proofs.marked_at.Reads as marked-at-reads
 
 abbrev Inv-loop : tie.InvT-loop

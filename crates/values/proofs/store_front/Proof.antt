@@ -20,9 +20,9 @@ use Rattle.values.proofs.store_hist.Reads as store-hist-reads
 use Rattle.values.specs.declared.HistRef.{HistRef}
 use mathlib.Core.Bool.{Bool}
 
-long : (h : HistRef) (far : Bool) (n : ℕ) → length (frontBytes h far n) ≡ 1 + (length (histBytes h) + 4)
+long : (h : HistRef) (remote : Bool) (n : ℕ) → length (frontBytes h remote n) ≡ 1 + (length (histBytes h) + 4)
 unfolding frontBytes
-long h far n = simp (length-append, length-le)
+long h remote n = simp (length-append, length-le)
 
 -- the three stores are one, said of lists alone
 stored : (b₀ b₁ b₂ b₃ : List ℕ) (at g f p n : ℕ) (x : List ℕ) → g ≡ f → b₁ ≡ put b₀ at (le 1 g) → b₂ ≡ put b₁ (at + 1) x → p ≡ at + 1 + length x → b₃ ≡ put b₂ p (le 4 n)
@@ -33,19 +33,19 @@ flag-of-requires : tie.Need-flag-of-requires
 flag-of-requires c κs = search needs
 
 put-u8-requires : tie.Need-put-u8-requires
-put-u8-requires c κs = omega (arith, long (c .before .before .before .args .h) (c .before .before .before .args .far) (c .before .before .before .args .n))
+put-u8-requires c κs = omega (arith, long (c .before .before .before .args .h) (c .before .before .before .args .remote) (c .before .before .before .args .n))
 
 add-store-hist : tie.Need-add-store-hist
 add-store-hist c = search needs
 
 store-hist-requires : tie.Need-store-hist-requires
-store-hist-requires c κs = omega (arith, long (c .before .before .before .before .before .before .before .args .h) (c .before .before .before .before .before .before .before .args .far) (c .before .before .before .before .before .before .before .args .n), c .before .before .before .put-u8 .kept .0)
+store-hist-requires c κs = omega (arith, long (c .before .before .before .before .before .before .before .args .h) (c .before .before .before .before .before .before .before .args .remote) (c .before .before .before .before .before .before .before .args .n), c .before .before .before .put-u8 .kept .0)
 
 put-u32-requires : tie.Need-put-u32-requires
-put-u32-requires c κs = omega (arith, long (c .before .before .before .before .before .before .before .before .before .before .before .args .h) (c .before .before .before .before .before .before .before .before .before .before .before .args .far) (c .before .before .before .before .before .before .before .before .before .before .before .args .n), c .before .before .before .store-hist .ensures .0, c .before .before .before .store-hist .kept .0, c .before .before .before .before .before .before .before .put-u8 .kept .0)
+put-u32-requires c κs = omega (arith, long (c .before .before .before .before .before .before .before .before .before .before .before .args .h) (c .before .before .before .before .before .before .before .before .before .before .before .args .remote) (c .before .before .before .before .before .before .before .before .before .before .before .args .n), c .before .before .before .store-hist .ensures .0, c .before .before .before .store-hist .kept .0, c .before .before .before .before .before .before .before .put-u8 .kept .0)
 
 add-result : tie.Need-add-result
-add-result c = omega (arith, long (c .before .before .before .before .before .before .before .before .before .before .before .before .before .before .args .h) (c .before .before .before .before .before .before .before .before .before .before .before .before .before .before .args .far) (c .before .before .before .before .before .before .before .before .before .before .before .before .before .before .args .n), c .before .before .before .before .before .before .store-hist .ensures .0)
+add-result c = omega (arith, long (c .before .before .before .before .before .before .before .before .before .before .before .before .before .before .args .h) (c .before .before .before .before .before .before .before .before .before .before .before .before .before .before .args .remote) (c .before .before .before .before .before .before .before .before .before .before .before .before .before .before .args .n), c .before .before .before .before .before .before .store-hist .ensures .0)
 
 same-length : tie.Need-same-length
 same-length c = search needs
@@ -54,8 +54,8 @@ returns : tie.Need-returns
 unfolding frontBytes
 returns c =
     let a = c .before .before .before .before .before .before .before .before .before .before .before .before .before .before .args in (
-      omega (arith, long (a .h) (a .far) (a .n), c .before .before .before .before .before .before .store-hist .ensures .0),
-      stored (a .buf .now) _ _ _ (a .at) _ (flagOf (a .h .count) (a .far)) _ (a .n) (histBytes (a .h)) (c .before .before .before .before .before .before .before .before .before .before .before .before .flag-of .ensures) (c .before .before .before .before .before .before .before .before .before .before .put-u8 .ensures) (c .before .before .before .before .before .before .store-hist .ensures .1) (c .before .before .before .before .before .before .store-hist .ensures .0) (c .before .before .put-u32 .ensures),
+      omega (arith, long (a .h) (a .remote) (a .n), c .before .before .before .before .before .before .store-hist .ensures .0),
+      stored (a .buf .now) _ _ _ (a .at) _ (flagOf (a .h .count) (a .remote)) _ (a .n) (histBytes (a .h)) (c .before .before .before .before .before .before .before .before .before .before .before .before .flag-of .ensures) (c .before .before .before .before .before .before .before .before .before .before .put-u8 .ensures) (c .before .before .before .before .before .before .store-hist .ensures .1) (c .before .before .before .before .before .before .store-hist .ensures .0) (c .before .before .put-u32 .ensures),
     )
 
 pub store-front-spec : {M : Type 1} → statement M

@@ -20,13 +20,14 @@ use Rattle.values.proofs.write_index_key.Reads as reads
 use Rattle.values.proofs.write_index_key.Lts as lts
 use Rattle.lengths.proofs.size.Reads as size-reads
 use Rattle.lengths.proofs.write.Reads as write-reads
+use Rattle.frames.specs.Limits.{maxKey}
 use Rattle.spans.proofs.copy.Reads as copy-reads
 use Rattle.spans.proofs.room.Reads as room-reads
 
 returns : tie.Need-returns
 returns c =
     let a = c .before .before .before .args in
-    stored-not (leb (length (a .rest .now)) 4096) (a .buf .now) (a .at) (indexKey (a .rest .now)) (lt-leb (length (a .rest .now)) 4096 (c .if1 .taken))
+    stored-not (leb (length (a .rest .now)) maxKey) (a .buf .now) (a .at) (indexKey (a .rest .now)) (lt-leb (length (a .rest .now)) maxKey (c .if1 .taken))
 
 cast-size : tie.Need-cast-size
 cast-size c = search needs
@@ -70,14 +71,14 @@ returns-2 c =
     let r = a .rest .now in
     let h = leb-true (a .at + (c .before .before .before .before .before .before .before .before .before .before .size .result + length r)) (length (a .buf .now)) (sym (c .before .before .before .before .before .before .before .before .before .room .ensures) ∙ c .before .before .before .before .before .before .before .before .if2 .taken) in
     let k = stored-count true (a .buf .now) (a .at) (uleb (length r)) _ _ (c .before .before .before .before .before .before .write .ensures) refl (omega (arith, h, c .before .before .before .before .before .before .before .before .before .before .size .ensures)) in
-    stored-room (leb (length r) 4096) (a .buf .now) (a .at) (indexKey r) _ _ (le-leb (length r) 4096 (c .before .before .before .before .before .before .before .before .before .before .before .if1 .left)) (omega (arith, h, c .before .before .before .before .before .before .before .before .before .before .size .ensures, length-indexKey r)) (omega (arith, c .before .before .before .before .before .before .before .before .before .before .size .ensures, length-indexKey r)) (put-chain (a .buf .now) (a .at) (uleb (length r)) r (stored-bytes true (a .buf .now) (a .at) (uleb (length r)) _ _ (c .before .before .before .before .before .before .write .ensures) refl (omega (arith, h, c .before .before .before .before .before .before .before .before .before .before .size .ensures))) (c .before .before .copy .ensures) (ap (λ (m : ℕ). a .at + m) k))
+    stored-room (leb (length r) maxKey) (a .buf .now) (a .at) (indexKey r) _ _ (le-leb (length r) maxKey (c .before .before .before .before .before .before .before .before .before .before .before .if1 .left)) (omega (arith, h, c .before .before .before .before .before .before .before .before .before .before .size .ensures, length-indexKey r)) (omega (arith, c .before .before .before .before .before .before .before .before .before .before .size .ensures, length-indexKey r)) (put-chain (a .buf .now) (a .at) (uleb (length r)) r (stored-bytes true (a .buf .now) (a .at) (uleb (length r)) _ _ (c .before .before .before .before .before .before .write .ensures) refl (omega (arith, h, c .before .before .before .before .before .before .before .before .before .before .size .ensures))) (c .before .before .copy .ensures) (ap (λ (m : ℕ). a .at + m) k))
 
 returns-3 : tie.Need-returns-3
 returns-3 c =
     let a = c .before .before .before .before .before .before .args in
     let r = a .rest .now in
     let h = leb-false (a .at + (c .before .before .size .result + length r)) (length (a .buf .now)) (sym (c .before .room .ensures) ∙ c .if2 .left) in
-    stored-none (leb (length r) 4096) (a .buf .now) (a .at) (indexKey r) (le-leb (length r) 4096 (c .before .before .before .if1 .left)) (omega (arith, h, c .before .before .size .ensures, length-indexKey r))
+    stored-none (leb (length r) maxKey) (a .buf .now) (a .at) (indexKey r) (le-leb (length r) maxKey (c .before .before .before .if1 .left)) (omega (arith, h, c .before .before .size .ensures, length-indexKey r))
 
 pub write-index-key-spec : {M : Type 1} → statement M
 write-index-key-spec =

@@ -19,13 +19,14 @@ use Rattle.values.proofs.write_leaf_front.Tie as tie
 use Rattle.values.proofs.write_leaf_front.Reads as reads
 use Rattle.values.proofs.write_leaf_front.Lts as lts
 use Rattle.lengths.proofs.size.Reads as size-reads
+use Rattle.frames.specs.Limits.{maxKey}
 use Rattle.spans.proofs.room.Reads as room-reads
 use Rattle.values.proofs.store_leaf_front.Reads as store-leaf-front-reads
 
 returns : tie.Need-returns
 returns c =
     let a = c .before .before .args in
-    stored-not (leb (a .n) 4096) (a .buf .now) (a .at) (leafFront (a .v) (a .n)) (lt-leb (a .n) 4096 (c .if1 .taken))
+    stored-not (leb (a .n) maxKey) (a .buf .now) (a .at) (leafFront (a .v) (a .n)) (lt-leb (a .n) maxKey (c .if1 .taken))
 
 add-size : tie.Need-add-size
 add-size c = search needs
@@ -58,13 +59,13 @@ returns-2 : tie.Need-returns-2
 returns-2 c =
     let a = c .before .before .before .before .before .before .before .before .before .args in
     let h = leb-true (a .at + (c .before .before .before .before .before .before .size .result + 12)) (length (a .buf .now)) (sym (c .before .before .before .before .before .room .ensures) ∙ c .before .before .before .before .if2 .taken) in
-    stored-room (leb (a .n) 4096) (a .buf .now) (a .at) (leafFront (a .v) (a .n)) _ _ (le-leb (a .n) 4096 (c .before .before .before .before .before .before .before .if1 .left)) (omega (arith, h, c .before .before .before .before .before .before .size .ensures, length-leafFront (a .v) (a .n))) (omega (arith, c .before .before .store-leaf-front .ensures .0)) (c .before .before .store-leaf-front .ensures .1)
+    stored-room (leb (a .n) maxKey) (a .buf .now) (a .at) (leafFront (a .v) (a .n)) _ _ (le-leb (a .n) maxKey (c .before .before .before .before .before .before .before .if1 .left)) (omega (arith, h, c .before .before .before .before .before .before .size .ensures, length-leafFront (a .v) (a .n))) (omega (arith, c .before .before .store-leaf-front .ensures .0)) (c .before .before .store-leaf-front .ensures .1)
 
 returns-3 : tie.Need-returns-3
 returns-3 c =
     let a = c .before .before .before .before .before .args in
     let h = leb-false (a .at + (c .before .before .size .result + 12)) (length (a .buf .now)) (sym (c .before .room .ensures) ∙ c .if2 .left) in
-    stored-none (leb (a .n) 4096) (a .buf .now) (a .at) (leafFront (a .v) (a .n)) (le-leb (a .n) 4096 (c .before .before .before .if1 .left)) (omega (arith, h, c .before .before .size .ensures, length-leafFront (a .v) (a .n)))
+    stored-none (leb (a .n) maxKey) (a .buf .now) (a .at) (leafFront (a .v) (a .n)) (le-leb (a .n) maxKey (c .before .before .before .if1 .left)) (omega (arith, h, c .before .before .size .ensures, length-leafFront (a .v) (a .n)))
 
 pub write-leaf-front-spec : {M : Type 1} → statement M
 write-leaf-front-spec =

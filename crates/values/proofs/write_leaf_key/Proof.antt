@@ -19,6 +19,7 @@ use Rattle.values.proofs.write_leaf_key.Tie as tie
 use Rattle.values.proofs.write_leaf_key.Reads as reads
 use Rattle.values.proofs.write_leaf_key.Lts as lts
 use Rattle.lengths.proofs.size.Reads as size-reads
+use Rattle.frames.specs.Limits.{maxKey}
 use Rattle.spans.proofs.copy.Reads as copy-reads
 use Rattle.spans.proofs.room.Reads as room-reads
 use Rattle.values.proofs.store_leaf_front.Reads as store-leaf-front-reads
@@ -26,7 +27,7 @@ use Rattle.values.proofs.store_leaf_front.Reads as store-leaf-front-rea
 returns : tie.Need-returns
 returns c =
     let a = c .before .before .before .args in
-    stored-not (leb (length (a .rest .now)) 4096) (a .buf .now) (a .at) (leafKey (a .v) (a .rest .now)) (lt-leb (length (a .rest .now)) 4096 (c .if1 .taken))
+    stored-not (leb (length (a .rest .now)) maxKey) (a .buf .now) (a .at) (leafKey (a .v) (a .rest .now)) (lt-leb (length (a .rest .now)) maxKey (c .if1 .taken))
 
 add-size : tie.Need-add-size
 add-size c = search needs
@@ -67,14 +68,14 @@ returns-2 c =
     let a = c .before .before .before .before .before .before .before .before .before .before .before .before .before .before .args in
     let r = a .rest .now in
     let h = leb-true (a .at + (c .before .before .before .before .before .before .before .before .before .before .size .result + 12 + length r)) (length (a .buf .now)) (sym (c .before .before .before .before .before .before .before .before .before .room .ensures) ∙ c .before .before .before .before .before .before .before .before .if2 .taken) in
-    stored-room (leb (length r) 4096) (a .buf .now) (a .at) (leafKey (a .v) r) _ _ (le-leb (length r) 4096 (c .before .before .before .before .before .before .before .before .before .before .before .if1 .left)) (omega (arith, h, c .before .before .before .before .before .before .before .before .before .before .size .ensures, length-leafKey (a .v) r)) (omega (arith, c .before .before .before .before .before .before .before .before .before .before .size .ensures, length-leafKey (a .v) r)) (put-chain (a .buf .now) (a .at) (leafFront (a .v) (length r)) r (c .before .before .before .before .before .before .store-leaf-front .ensures .1) (c .before .before .copy .ensures) (c .before .before .before .before .before .before .store-leaf-front .ensures .0))
+    stored-room (leb (length r) maxKey) (a .buf .now) (a .at) (leafKey (a .v) r) _ _ (le-leb (length r) maxKey (c .before .before .before .before .before .before .before .before .before .before .before .if1 .left)) (omega (arith, h, c .before .before .before .before .before .before .before .before .before .before .size .ensures, length-leafKey (a .v) r)) (omega (arith, c .before .before .before .before .before .before .before .before .before .before .size .ensures, length-leafKey (a .v) r)) (put-chain (a .buf .now) (a .at) (leafFront (a .v) (length r)) r (c .before .before .before .before .before .before .store-leaf-front .ensures .1) (c .before .before .copy .ensures) (c .before .before .before .before .before .before .store-leaf-front .ensures .0))
 
 returns-3 : tie.Need-returns-3
 returns-3 c =
     let a = c .before .before .before .before .before .before .args in
     let r = a .rest .now in
     let h = leb-false (a .at + (c .before .before .size .result + 12 + length r)) (length (a .buf .now)) (sym (c .before .room .ensures) ∙ c .if2 .left) in
-    stored-none (leb (length r) 4096) (a .buf .now) (a .at) (leafKey (a .v) r) (le-leb (length r) 4096 (c .before .before .before .if1 .left)) (omega (arith, h, c .before .before .size .ensures, length-leafKey (a .v) r))
+    stored-none (leb (length r) maxKey) (a .buf .now) (a .at) (leafKey (a .v) r) (le-leb (length r) maxKey (c .before .before .before .if1 .left)) (omega (arith, h, c .before .before .size .ensures, length-leafKey (a .v) r))
 
 pub write-leaf-key-spec : {M : Type 1} → statement M
 write-leaf-key-spec =

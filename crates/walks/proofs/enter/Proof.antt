@@ -30,17 +30,17 @@ returns-2 c = simp (ne-eqb _ _ (c .before .before .before .before .if1 .left), �
 cast-slot : tie.Need-cast-slot
 cast-slot c = search needs
 
-cast-past-over : tie.Need-cast-past-over
-cast-past-over c = search needs
+cast-older-on : tie.Need-cast-older-on
+cast-older-on c = search needs
 
-past-over-requires : tie.Need-past-over-requires
-past-over-requires c κs =
+older-on-requires : tie.Need-older-on-requires
+older-on-requires c κs =
     let h = history-inside (now (c .before .before .before .before .before .before .before .before .before .before .before .before .args .s)) (c .before .before .before .before .before .before .before .before .before .before .before .before .args .h .page) (c .before .before .before .before .before .b .given .0 .0) (sym (c .before .before .before .before .before .before .before .history-at .ensures) ∙ c .before .before .before .before .before .b .given .1) in
     omega (arith, front-few (now (c .before .before .before .before .before .before .before .before .before .before .before .before .args .s)) (c .before .before .before .before .before .b .given .0 .0) (h .inside), c .before .before .before .before .before .before .before .before .before .before .before .before .good)
 
 returns-3 : tie.Need-returns-3
 unfolding enterAt
-returns-3 c = simp (ne-eqb _ _ (c .before .before .before .before .before .before .before .before .before .before .if1 .left), ← c .before .before .before .before .before .before .before .before .history-at .ensures, c .before .before .before .before .before .before .b .given .1, lt-ltb _ _ (c .before .before .if2 .taken), c .past-over .ensures)
+returns-3 c = simp (ne-eqb _ _ (c .before .before .before .before .before .before .before .before .before .before .if1 .left), ← c .before .before .before .before .before .before .before .before .history-at .ensures, c .before .before .before .before .before .before .b .given .1, lt-ltb _ _ (c .before .before .if2 .taken), c .older-on .ensures)
 
 returns-4 : tie.Need-returns-4
 unfolding enterAt
@@ -56,7 +56,7 @@ enter-spec =
     enum-told
     returns-2
     cast-slot
-    cast-past-over
-    past-over-requires
+    cast-older-on
+    older-on-requires
     returns-3
     returns-4)

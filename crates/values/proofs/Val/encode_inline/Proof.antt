@@ -9,6 +9,7 @@ use lib.ListN.{length}
 use Rattle.spans.specs.Span.{put}
 use Rattle.spans.proofs.Put.{stored-room, stored-none, stored-not, stored-count, stored-bytes, put-chain}
 use Rattle.lengths.specs.Leb128.{uleb}
+use Rattle.frames.specs.Limits.{maxValue}
 use Rattle.numbers.specs.Number.{le}
 use mathlib.Core.Bool.{false}
 use borrow.Author.Tests.{eqb-true}
@@ -28,7 +29,7 @@ use Rattle.values.proofs.store_front.Reads as store-front-reads
 returns : tie.Need-returns
 returns c =
     let a = c .before .before .before .args in
-    stored-not (leb (length (a .v .now)) 65536) (a .buf .now) (a .at) (inlineBytes (a .h) (a .v .now)) (lt-leb (length (a .v .now)) 65536 (c .if1 .taken))
+    stored-not (leb (length (a .v .now)) maxValue) (a .buf .now) (a .at) (inlineBytes (a .h) (a .v .now)) (lt-leb (length (a .v .now)) maxValue (c .if1 .taken))
 
 front-size-requires : tie.Need-front-size-requires
 front-size-requires c κs = search needs
@@ -63,14 +64,14 @@ returns-2 c =
     let a = c .before .before .before .before .before .before .before .before .before .before .before .before .before .before .args in
     let v = a .v .now in
     let h = leb-true (a .at + (c .before .before .before .before .before .before .before .before .before .before .front-size .result + length v)) (length (a .buf .now)) (sym (c .before .before .before .before .before .before .before .before .before .room .ensures) ∙ c .before .before .before .before .before .before .before .before .if2 .taken) in
-    stored-room (leb (length v) 65536) (a .buf .now) (a .at) (inlineBytes (a .h) v) _ _ (le-leb (length v) 65536 (c .before .before .before .before .before .before .before .before .before .before .before .if1 .left)) (omega (arith, h, c .before .before .before .before .before .before .before .before .before .before .front-size .ensures, length-inline (a .h) v)) (omega (arith, c .before .before .before .before .before .before .before .before .before .before .front-size .ensures, length-inline (a .h) v)) (put-chain (a .buf .now) (a .at) (frontBytes (a .h) false (length v)) v (c .before .before .before .before .before .before .store-front .ensures .1) (c .before .before .copy .ensures) (c .before .before .before .before .before .before .store-front .ensures .0))
+    stored-room (leb (length v) maxValue) (a .buf .now) (a .at) (inlineBytes (a .h) v) _ _ (le-leb (length v) maxValue (c .before .before .before .before .before .before .before .before .before .before .before .if1 .left)) (omega (arith, h, c .before .before .before .before .before .before .before .before .before .before .front-size .ensures, length-inline (a .h) v)) (omega (arith, c .before .before .before .before .before .before .before .before .before .before .front-size .ensures, length-inline (a .h) v)) (put-chain (a .buf .now) (a .at) (frontBytes (a .h) false (length v)) v (c .before .before .before .before .before .before .store-front .ensures .1) (c .before .before .copy .ensures) (c .before .before .before .before .before .before .store-front .ensures .0))
 
 returns-3 : tie.Need-returns-3
 returns-3 c =
     let a = c .before .before .before .before .before .before .args in
     let v = a .v .now in
     let h = leb-false (a .at + (c .before .before .front-size .result + length v)) (length (a .buf .now)) (sym (c .before .room .ensures) ∙ c .if2 .left) in
-    stored-none (leb (length v) 65536) (a .buf .now) (a .at) (inlineBytes (a .h) v) (le-leb (length v) 65536 (c .before .before .before .if1 .left)) (omega (arith, h, c .before .before .front-size .ensures, length-inline (a .h) v))
+    stored-none (leb (length v) maxValue) (a .buf .now) (a .at) (inlineBytes (a .h) v) (le-leb (length v) maxValue (c .before .before .before .if1 .left)) (omega (arith, h, c .before .before .front-size .ensures, length-inline (a .h) v))
 
 pub encode-inline-spec : {M : Type 1} → statement M
 encode-inline-spec =

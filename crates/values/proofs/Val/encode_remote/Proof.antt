@@ -9,6 +9,7 @@ use lib.ListN.{length}
 use Rattle.spans.specs.Span.{put}
 use Rattle.spans.proofs.Put.{stored-room, stored-none, stored-not, stored-count, stored-bytes, put-chain}
 use Rattle.lengths.specs.Leb128.{uleb}
+use Rattle.frames.specs.Limits.{maxValue}
 use Rattle.numbers.specs.Number.{le}
 use mathlib.Core.Bool.{false}
 use borrow.Author.Tests.{eqb-true}
@@ -28,7 +29,7 @@ use Rattle.values.proofs.store_front.Reads as store-front-reads
 returns : tie.Need-returns
 returns c =
     let a = c .before .before .args in
-    stored-not (leb (a .n) 65536) (a .buf .now) (a .at) (remoteBytes (a .h) (a .n) (a .a .0)) (lt-leb (a .n) 65536 (c .if1 .taken))
+    stored-not (leb (a .n) maxValue) (a .buf .now) (a .at) (remoteBytes (a .h) (a .n) (a .a .0)) (lt-leb (a .n) maxValue (c .if1 .taken))
 
 front-size-requires : tie.Need-front-size-requires
 front-size-requires c κs = search needs
@@ -62,13 +63,13 @@ unfolding remoteBytes
 returns-2 c =
     let a = c .before .before .before .before .before .before .before .before .before .before .before .before .before .args in
     let h = leb-true (a .at + (c .before .before .before .before .before .before .before .before .before .before .front-size .result + 8)) (length (a .buf .now)) (sym (c .before .before .before .before .before .before .before .before .before .room .ensures) ∙ c .before .before .before .before .before .before .before .before .if2 .taken) in
-    stored-room (leb (a .n) 65536) (a .buf .now) (a .at) (remoteBytes (a .h) (a .n) (a .a .0)) _ _ (le-leb (a .n) 65536 (c .before .before .before .before .before .before .before .before .before .before .before .if1 .left)) (omega (arith, h, c .before .before .before .before .before .before .before .before .before .before .front-size .ensures, length-remote (a .h) (a .n) (a .a .0))) (omega (arith, c .before .before .before .before .before .before .before .before .before .before .front-size .ensures, length-remote (a .h) (a .n) (a .a .0))) (put-chain (a .buf .now) (a .at) (frontBytes (a .h) true (a .n)) (le 8 (a .a .0)) (c .before .before .before .before .before .before .store-front .ensures .1) (c .before .before .put-u64 .ensures) (c .before .before .before .before .before .before .store-front .ensures .0))
+    stored-room (leb (a .n) maxValue) (a .buf .now) (a .at) (remoteBytes (a .h) (a .n) (a .a .0)) _ _ (le-leb (a .n) maxValue (c .before .before .before .before .before .before .before .before .before .before .before .if1 .left)) (omega (arith, h, c .before .before .before .before .before .before .before .before .before .before .front-size .ensures, length-remote (a .h) (a .n) (a .a .0))) (omega (arith, c .before .before .before .before .before .before .before .before .before .before .front-size .ensures, length-remote (a .h) (a .n) (a .a .0))) (put-chain (a .buf .now) (a .at) (frontBytes (a .h) true (a .n)) (le 8 (a .a .0)) (c .before .before .before .before .before .before .store-front .ensures .1) (c .before .before .put-u64 .ensures) (c .before .before .before .before .before .before .store-front .ensures .0))
 
 returns-3 : tie.Need-returns-3
 returns-3 c =
     let a = c .before .before .before .before .before .args in
     let h = leb-false (a .at + (c .before .before .front-size .result + 8)) (length (a .buf .now)) (sym (c .before .room .ensures) ∙ c .if2 .left) in
-    stored-none (leb (a .n) 65536) (a .buf .now) (a .at) (remoteBytes (a .h) (a .n) (a .a .0)) (le-leb (a .n) 65536 (c .before .before .before .if1 .left)) (omega (arith, h, c .before .before .front-size .ensures, length-remote (a .h) (a .n) (a .a .0)))
+    stored-none (leb (a .n) maxValue) (a .buf .now) (a .at) (remoteBytes (a .h) (a .n) (a .a .0)) (le-leb (a .n) maxValue (c .before .before .before .if1 .left)) (omega (arith, h, c .before .before .front-size .ensures, length-remote (a .h) (a .n) (a .a .0)))
 
 pub encode-remote-spec : {M : Type 1} → statement M
 encode-remote-spec =

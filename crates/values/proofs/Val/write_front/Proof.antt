@@ -9,6 +9,7 @@ use lib.ListN.{length}
 use Rattle.spans.specs.Span.{put}
 use Rattle.spans.proofs.Put.{stored-room, stored-none, stored-not, stored-count, stored-bytes, put-chain}
 use Rattle.lengths.specs.Leb128.{uleb}
+use Rattle.frames.specs.Limits.{maxValue}
 use Rattle.numbers.specs.Number.{le}
 use mathlib.Core.Bool.{false}
 use borrow.Author.Tests.{eqb-true}
@@ -27,7 +28,7 @@ use Rattle.values.proofs.store_front.Reads as store-front-reads
 returns : tie.Need-returns
 returns c =
     let a = c .before .before .args in
-    stored-not (leb (a .n) 65536) (a .buf .now) (a .at) (frontBytes (a .h) (a .far) (a .n)) (lt-leb (a .n) 65536 (c .if1 .taken))
+    stored-not (leb (a .n) maxValue) (a .buf .now) (a .at) (frontBytes (a .h) (a .remote) (a .n)) (lt-leb (a .n) maxValue (c .if1 .taken))
 
 front-size-requires : tie.Need-front-size-requires
 front-size-requires c κs = search needs
@@ -42,7 +43,7 @@ store-front-requires : tie.Need-store-front-requires
 store-front-requires c κs =
     let a = c .before .before .before .before .before .before .args in
     let h = leb-true (a .at + c .before .before .before .front-size .result) (length (a .buf .now)) (sym (c .before .before .room .ensures) ∙ c .before .if2 .taken) in
-    omega (arith, h, c .before .before .before .front-size .ensures, length-front (a .h) (a .far) (a .n))
+    omega (arith, h, c .before .before .before .front-size .ensures, length-front (a .h) (a .remote) (a .n))
 
 sub-result : tie.Need-sub-result
 sub-result c = search needs
@@ -54,13 +55,13 @@ returns-2 : tie.Need-returns-2
 returns-2 c =
     let a = c .before .before .before .before .before .before .before .before .before .args in
     let h = leb-true (a .at + c .before .before .before .before .before .before .front-size .result) (length (a .buf .now)) (sym (c .before .before .before .before .before .room .ensures) ∙ c .before .before .before .before .if2 .taken) in
-    stored-room (leb (a .n) 65536) (a .buf .now) (a .at) (frontBytes (a .h) (a .far) (a .n)) _ _ (le-leb (a .n) 65536 (c .before .before .before .before .before .before .before .if1 .left)) (omega (arith, h, c .before .before .before .before .before .before .front-size .ensures, length-front (a .h) (a .far) (a .n))) (omega (arith, c .before .before .store-front .ensures .0)) (c .before .before .store-front .ensures .1)
+    stored-room (leb (a .n) maxValue) (a .buf .now) (a .at) (frontBytes (a .h) (a .remote) (a .n)) _ _ (le-leb (a .n) maxValue (c .before .before .before .before .before .before .before .if1 .left)) (omega (arith, h, c .before .before .before .before .before .before .front-size .ensures, length-front (a .h) (a .remote) (a .n))) (omega (arith, c .before .before .store-front .ensures .0)) (c .before .before .store-front .ensures .1)
 
 returns-3 : tie.Need-returns-3
 returns-3 c =
     let a = c .before .before .before .before .before .args in
     let h = leb-false (a .at + c .before .before .front-size .result) (length (a .buf .now)) (sym (c .before .room .ensures) ∙ c .if2 .left) in
-    stored-none (leb (a .n) 65536) (a .buf .now) (a .at) (frontBytes (a .h) (a .far) (a .n)) (le-leb (a .n) 65536 (c .before .before .before .if1 .left)) (omega (arith, h, c .before .before .front-size .ensures, length-front (a .h) (a .far) (a .n)))
+    stored-none (leb (a .n) maxValue) (a .buf .now) (a .at) (frontBytes (a .h) (a .remote) (a .n)) (le-leb (a .n) maxValue (c .before .before .before .if1 .left)) (omega (arith, h, c .before .before .front-size .ensures, length-front (a .h) (a .remote) (a .n)))
 
 pub write-front-spec : {M : Type 1} → statement M
 write-front-spec =

@@ -49,8 +49,8 @@ returns-2 c = simp (← c .before .before .before .before .before .before .befor
 enter-requires : tie.Need-enter-requires
 enter-requires c κs = search needs
 
-enum-known-past : tie.Need-enum-known-past
-enum-known-past c = search needs
+enum-known-older : tie.Need-enum-known-older
+enum-known-older c = search needs
 
 enum-told-2 : tie.Need-enum-told-2
 enum-told-2 c = search needs
@@ -76,7 +76,7 @@ on-requires-2 c κs =
 
 returns-4 : tie.Need-returns-4
 unfolding headStep
-returns-4 c = simp (← c .before .before .before .before .before .before .before .before .before .before .before .before .before .before .kind-of .ensures, ← c .before .before .before .before .before .before .before .before .before .before .before .before .before .read .ensures, c .before .before .before .before .before .before .before .before .before .before .before .r .given .1, ne-eqb _ _ (c .before .before .before .before .before .before .before .before .if1 .left), ← c .before .before .before .before .before .before .enter .ensures, c .before .before .before .before .past .given .1, c .before .item-of .ensures, c .on2 .ensures)
+returns-4 c = simp (← c .before .before .before .before .before .before .before .before .before .before .before .before .before .before .kind-of .ensures, ← c .before .before .before .before .before .before .before .before .before .before .before .before .before .read .ensures, c .before .before .before .before .before .before .before .before .before .before .before .r .given .1, ne-eqb _ _ (c .before .before .before .before .before .before .before .before .if1 .left), ← c .before .before .before .before .before .before .enter .ensures, c .before .before .before .before .older .given .1, c .before .item-of .ensures, c .on2 .ensures)
 
 pub head-spec : {M : Type 1} → statement M
 head-spec =
@@ -91,7 +91,7 @@ head-spec =
     on-requires
     returns-2
     enter-requires
-    enum-known-past
+    enum-known-older
     enum-told-2
     returns-3
     item-of-requires
