@@ -305,7 +305,7 @@ fn put_head(
     at + n
 }
 
-// The records of all heads; the address past them. History stands from first on; the first new remote frame of a head stands at far.
+// The records of all heads; the address past them. History stands from first on; the first new remote frame of a head stands at remote.
 pub fn head_recs(
     a: &mut [u8],
     ground: usize,

@@ -102,7 +102,7 @@ module _ (l w : List ℕ) (b : Bool) (c : Cursor) (i : EntryAt) (d : Cursor) (g 
         → Writing a₀ ground whole a′ (to + 4) (oldSlots limit (off + (12 + x)) (take (k - 1) (only b (entries l w d))))
     slot-turn a′ x e ex = rw ex (wrote-le a₀ ground whole a to _ 4 off _ h (slots-found limit off) a′ (to + 4) e refl)
 
--- records: the arena's low part is still that of a₀
+-- records: the ground is still that of a₀
 module _ (l a₀ : List ℕ) (ground : ℕ) (b : Bool) (c : Cursor) (i : EntryAt) (d : Cursor) (g : Chosen l (take ground a₀) b c i d) (k : ℕ) (p : 0 < k) (whole a : List ℕ) (to : ℕ) where
   module _ (limit remote : ℕ) (h : Writing a₀ ground whole a to (oldRecs limit remote (take k (only b (entries l (take ground a₀) c))))) where
     pub recs-asks : (ground ≤ to) × (Placed l (take ground a) i × (to + length (oldRec limit remote (entryOf l (take ground a) i)) ≤ length a))

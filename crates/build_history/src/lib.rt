@@ -109,7 +109,7 @@ pub fn copy_part(
     }
 }
 
-// A value with its history reference: its bytes, or the address of its remote, which is far where it takes a new frame.
+// A value with its history reference: its bytes, or the address of its remote, which is `remote` where it takes a new frame.
 pub fn put_val(
     a: &mut [u8],
     ground: usize,
@@ -197,7 +197,7 @@ fn old_slots(
     }
 }
 
-// Their records; a new remote frame's address is far, and then behind it.
+// Their records; a new remote frame stands at `remote`, the next one behind it.
 fn old_recs(
     a: &mut [u8],
     ground: usize,
@@ -233,7 +233,7 @@ fn old_recs(
     }
 }
 
-// The remote frame of a value of n bytes, which stands in the lent slice, or in the arena below low.
+// The remote frame of a value of n bytes, which stands in the lent slice, or in the arena below ground.
 pub fn remote_frame(
     a: &mut [u8],
     ground: usize,

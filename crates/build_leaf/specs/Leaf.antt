@@ -43,7 +43,7 @@ unfoldable pub leafFront : Call → Totals → Boundaries → List ℕ → List 
 unfolding leafHead headSlots
 leafFront m t e lo hi es = leafHead m t e ++ (headSlots (m .limit) (e .prefix) (recsAt t e) es ++ (lo ++ hi))
 
--- the hints of a leaf whose history stands from `first` on and whose heads' remote frames stand from `far` on
+-- the hints of a leaf whose history stands from `first` on and whose heads' remote frames stand from `remote` on
 unfoldable pub hintBytes : Call → ℕ → ℕ → ℕ → List Entry → List ℕ
 unfolding starts histAddrs remoteAddrs hints only cutsFrom costsOf
 hintBytes m room first remote es =

@@ -335,7 +335,7 @@ fn leaf_back(
     spans::zeros(a, w, remote - w);
 }
 
-// The leaf's frame at this address; history stands from first on, the heads' remote frames from far on.
+// The leaf's frame at this address; history stands from first on, the heads' remote frames from remote on.
 fn leaf_frame(
     a: &mut [u8],
     ground: usize,

@@ -182,7 +182,7 @@ module _ (l w : List ℕ) where
   unfolding after
   odd c e = (rw e at (step c), rw e at (well c))
 
--- the same from a call's words: its answer r, of a low part w′ that is still w
+-- the same from a call's words: its answer r, of a ground w′ that is still w
 module _ (l w w′ : List ℕ) (c : Cursor) (r : EntryRead) (e : w′ ≡ w) (p : r ≡ nextOf l w′ c) where
   still : r ≡ nextOf l w c
   still = p ∙ ap (λ (v : List ℕ). nextOf l v c) e
@@ -213,7 +213,7 @@ pub none : (l w : List ℕ) (b : Bool) (c₀ c : Cursor) → only b (entries l w
 unfolding only
 none l w b c₀ c h e = sym h ∙ rw e
 
--- from a call's words: its answer r, of a low part w′ that is still w
+-- from a call's words: its answer r, of a ground w′ that is still w
 chosen-is : (l w : List ℕ) (b : Bool) (c : Cursor) (r : Pick) (i : EntryAt) (d : Cursor) → ChosenBy l w b c r → r ≡ One i d → Chosen l w b c i d
 chosen-is l w b c r i d p q = rw q at p
 

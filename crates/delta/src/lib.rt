@@ -126,7 +126,7 @@ fn put_head(a: &mut [u8], at: usize, m: Call, node: u8, k: usize, v: usize)
     numbers::put_u32(a, p + 4, v as u32);
 }
 
-// A leaf delta's frame; far is its remote frame's address.
+// A leaf delta's frame; its remote frame stands at remote.
 fn put_leaf(a: &mut [u8], at: usize, m: Call, remote: usize, ver: Ver, key: &[u8], v: &[u8])
     requires { ⌜ (length (now key) ≤ maxKey) × (length (now v) ≤ maxValue) × (m .limit ≤ maxLimit) ⌝ }
     requires { ⌜ at + length (leafFrame m remote ver (now key) (now v)) ≤ length (now a) ⌝ }

@@ -124,7 +124,7 @@ impl BoxHeader {
         }
     }
 
-    // Whether the header is as laid out for a frame at this address of an arena of this length.
+    // Whether the header is as laid out for a frame at this address of an arena of this length. `plain` asks the same of leaf and index pages, for speed.
     fn ok(self, at: usize, len: usize) -> bool
         requires { ⌜ (at ≤ len) × (len < 2 ^ 63) ⌝ }
         ensures { λ r. ⌜ r ≡ boxOk self at len ⌝ }
@@ -239,7 +239,7 @@ impl BaseHeader {
             + (self.hi_len as u64)
     }
 
-    // Whether the header is as laid out in the payload of a base frame with the header h.
+    // Whether the header is as laid out in the payload of a base frame with the header h. `plain` asks the same of leaf and index pages, for speed.
     fn ok(self, h: BoxHeader) -> bool
         ensures { λ r. ⌜ r ≡ baseOk h self ⌝ }
     {
@@ -419,7 +419,8 @@ fn body_of(a: Addr, x: BoxHeader, h: BaseHeader) -> Body
     }
 }
 
-// Whether both headers are those of a leaf or an index page: in fewer tests than `ok` of both, since flag and link are 0 there.
+// Whether both headers are those of a leaf or an index page: in fewer tests than `ok` of both, since flag and link are 0 there. A second text, for
+// speed: `plain-ok` (proofs/Judged.antt) proves that its yes is that of both.
 fn plain(x: BoxHeader, h: BaseHeader, at: usize, len: usize) -> bool
     requires { ⌜ (at ≤ len) × (len < 2 ^ 63) ⌝ }
     ensures { λ r. ⌜ (r ≡ true → (boxOk x at len ≡ true) × (x .«box_kind» ≡ boxBase) × (baseOk x h ≡ true)) ⌝ }

@@ -90,7 +90,7 @@ fn by_fours(a: &[u8], b: &[u8], from: usize) -> Order
     by_twos(a, b, from + 4)
 }
 
-// Two byte strings, a proper prefix first: eight equal bytes are passed at a time, a plain load each; then four, two and one decide.
+// Two byte strings, a proper prefix first. Strings of one length are also told apart by `order_pair::pair_of`, for speed. Eight equal bytes are passed at a time, a plain load each; then four, two and one decide.
 pub fn compare(a: &[u8], b: &[u8]) -> Order
     ensures { λ r. ⌜ r ≡ cmpBytes (now (a .entry)) (now (b .entry)) ⌝ }
 {

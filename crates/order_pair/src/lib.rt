@@ -1,4 +1,5 @@
-// Two strings of one length, told apart by two numbers: what a search asks of a key at every turn.
+// Two strings of one length, told apart by two numbers: what a search asks of a key at every turn. A second text of `order::compare`, for speed:
+// `StandsAs` says that the numbers stand as the strings do.
 ghost use mathlib.Core.Path.{_≡_};
 ghost use Prim.Native.Nat.{_+_, _≤_};
 ghost use lib.ListN.{length, take};

@@ -124,7 +124,8 @@ fn old_in(s: &[u8], b: Body, a: Addr, i: usize) -> OldRead
     }
 }
 
-// The old version at a slot of a history page, or, behind its last slot, the first of the page that it links to.
+// The old version at a slot of a history page, or, behind its last slot, the first of the page that it links to. A walk reads it from the page that it
+// carries (`walks::OldPlace::next`), for speed.
 pub fn old_at(s: &[u8], a: Addr, i: usize) -> OldRead
     ensures { λ r. ⌜ r ≡ oldAt (now (s .entry)) a i ⌝ }
 {

@@ -57,7 +57,7 @@ pub enum RecRead {
     Bad,
 }
 
-// Where the record of slot i starts.
+// Where the record of slot i starts. `sst::marked_at` has a second text of this, for speed.
 fn slot_at(s: &[u8], b: Body, i: usize) -> SlotRead
     requires { ⌜ Inside (now s) b ⌝ }
     ensures { λ r. ⌜ r ≡ slotAt (now (s .entry)) b i ⌝ }
@@ -245,7 +245,7 @@ fn rec_in(s: &[u8], b: Body, p: usize) -> RecRead
     })
 }
 
-// The record of slot i.
+// The record of slot i. `quick_head` and `quick_old` read the common record by a second text, for speed.
 pub fn rec_at(s: &[u8], b: Body, i: usize) -> RecRead
     requires { ⌜ Inside (now s) b ⌝ }
     ensures { λ r. ⌜ r ≡ recAt (now (s .entry)) b i ⌝ }
@@ -431,7 +431,7 @@ fn old_in(s: &[u8], b: Body, p: usize) -> RecRead
     RecRead::Bad
 }
 
-// The head of slot i of a leaf.
+// The head of slot i of a leaf: a second text of `rec_at`, for speed, that may answer "not read here". `Quickly` says that what it reads is the same.
 pub fn quick_head(s: &[u8], b: Body, i: usize) -> RecRead
     requires { ⌜ Inside (now s) b ⌝ }
     requires { ⌜ b .kind ≡ 0 ⌝ }
@@ -443,7 +443,7 @@ pub fn quick_head(s: &[u8], b: Body, i: usize) -> RecRead
     head_in(s, b, p)
 }
 
-// The old version of slot i of a history page.
+// The old version of slot i of a history page, likewise.
 pub fn quick_old(s: &[u8], b: Body, i: usize) -> RecRead
     requires { ⌜ Inside (now s) b ⌝ }
     requires { ⌜ b .kind ≡ 2 ⌝ }

@@ -380,7 +380,7 @@ impl OldPlace {
         Turned::Is(older_on(d, 0, self.left), link)
     }
 
-    // The old version there.
+    // The old version there: what `pages::old_at` reads (`next-old`, proofs/Steps.antt), without judging the headers again.
     fn next(self, s: &[u8], key: Place) -> OldStep
         requires { ⌜ 0 < self .left ⌝ }
         ensures { λ r. ⌜ r ≡ nextOld (now (s .entry)) key self ⌝ }
