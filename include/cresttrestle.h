@@ -36,8 +36,10 @@ enum ct_refusal {
     CT_NO_ROOM = 9       /* next plus all frames exceeds the arena */
 };
 
-/* The default budget of a history page. */
-#define CT_HIST_PAGE_BUDGET 131072
+/* The budget of a history page that a caller without an opinion passes; and the Rust's (mace's), for whoever wants its pages. Any budget of
+ * 256..131,072 will do. */
+#define CT_HIST_PAGE_BUDGET 32768
+#define CT_RUST_HIST_PAGE_BUDGET 131072
 
 /* Words of a walk, the most words that any call but ct_steps writes to `out`, and the words of a record: ct_steps writes one word and these
  * for each record. */

@@ -26,6 +26,14 @@ budgetOk budget = leb minBudget budget && leb budget maxBudget
 abbrev pub limitsOk : ℕ → ℕ → Bool
 limitsOk limit budget = limitOk limit && budgetOk budget
 
+-- "The default budget goes from 131,072 to 32,768" (order 2)
+abbrev pub defaultBudget : ℕ
+defaultBudget = 32768
+
+-- "Whoever wants the old pages, the comparison with the Rust first of all, passes 131,072 by name"
+abbrev pub rustBudget : ℕ
+rustBudget = 131072
+
 -- 2 BAD ARENA: "next free address below 8, not a multiple of 8, or above the arena's length"
 abbrev pub nextOk : ℕ → ℕ → Bool
 nextOk len next = leb 8 next && eqb (next % 8) 0 && leb next len

@@ -11,7 +11,7 @@ ghost use Rattle.spans.specs.Span.{put};
 ghost use Rattle.frames.specs.Layout.{slotsAt};
 ghost use Rattle.frames.specs.Limits.{maxValue};
 ghost use Rattle.frames.specs.Stored.{pageBytes};
-ghost use Rattle.build_image.specs.Call.{larger, callOf, limitOk, budgetOk, limitsOk, nextOk};
+ghost use Rattle.build_image.specs.Call.{larger, callOf, limitOk, budgetOk, limitsOk, defaultBudget, rustBudget, nextOk};
 ghost use Rattle.build_image.specs.Sizes.{remoteLen};
 ghost use Rattle.build_image.specs.Image.{pageBox, remoteAddr};
 
@@ -71,6 +71,19 @@ pub fn limits_ok(limit: usize, budget: usize) -> bool
     let inline = limit_ok(limit);
     let paged = budget_ok(budget);
     inline & paged
+}
+
+// The two budgets that have a name, for whoever builds from Rattle: a caller's without an opinion, and the Rust's. Number 1 accepts both (`named-budgets`).
+pub fn default_budget() -> usize
+    ensures { λ r. ⌜ r ≡ defaultBudget ⌝ }
+{
+    BaseHeader::HIST_PAGE_BUDGET
+}
+
+pub fn rust_budget() -> usize
+    ensures { λ r. ⌜ r ≡ rustBudget ⌝ }
+{
+    BaseHeader::RUST_HIST_PAGE_BUDGET
 }
 
 // "next free address below 8, not a multiple of 8, or above the arena's length" is BAD ARENA.

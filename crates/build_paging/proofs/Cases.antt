@@ -16,6 +16,11 @@ pub p8 : (cuts 256 (replicate 7 (inlineCost 52)) ≡ 2 ∷ 2 ∷ 2 ∷ 1 ∷ [])
 unfolding cutsFrom fits total
 p8 = (refl, refl, refl)
 
+-- order 2, at the default budget: "9 of 4,070 bytes: 8 in 32,768 exactly", and 9 in one page at the Rust's
+pub default-budget : (cuts 32768 (replicate 9 (inlineCost 4070)) ≡ 8 ∷ 1 ∷ []) × (baseLen + total (replicate 8 (inlineCost 4070)) ≡ 32768) × (cuts 131072 (replicate 9 (inlineCost 4070)) ≡ 9 ∷ [])
+unfolding cutsFrom fits total
+default-budget = (refl, refl, refl)
+
 -- "a too large old value closes the page being filled, stands alone, and the next one starts a fresh page"
 pub alone : cuts 256 (30 ∷ 30 ∷ 300 ∷ 30 ∷ 30 ∷ []) ≡ 2 ∷ 1 ∷ 2 ∷ []
 unfolding cutsFrom fits

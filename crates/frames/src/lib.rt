@@ -163,8 +163,10 @@ impl BaseHeader {
     pub const HDR_LEN: usize = 40;
     // Where a page's slots stand in its frame: behind both headers.
     pub const SLOTS_AT: usize = BoxHeader::HDR_LEN + BaseHeader::HDR_LEN;
-    // The default of what a history page may hold.
-    pub const HIST_PAGE_BUDGET: usize = BaseHeader::MAX_BUDGET;
+    // The budget of a history page that a caller without an opinion passes; and the Rust's, for whoever wants its pages.
+    pub const HIST_PAGE_BUDGET: usize = 32768;
+
+    pub const RUST_HIST_PAGE_BUDGET: usize = 131072;
     // Document 01's table of refusals: a key or boundary, a value, the inline limit, the budget, entries, size with hint room.
     pub const MAX_KEY: usize = 4096;
 

@@ -1,12 +1,12 @@
 //! The pages that are timed: keys of the aircraft (6 bytes) or long ones (64), every third with two older versions, values of eight bytes.
 
-use cresttrestle::sys::CT_HIST_PAGE_BUDGET;
+use cresttrestle::sys::CT_RUST_HIST_PAGE_BUDGET;
 use oracle::answer::{Bounds, Built, Stamp};
 use oracle::arena::Arena;
 use oracle::list::{self, Child, Entry};
 
 pub const LIMIT: usize = 64;
-pub const BUDGET: usize = CT_HIST_PAGE_BUDGET as usize;
+pub const BUDGET: usize = CT_RUST_HIST_PAGE_BUDGET as usize;
 pub const STAMP: Stamp = Stamp { txid: 1, group: 0, lsn: 0, checkpoint: 0 };
 pub const BOUNDS: Bounds = Bounds { lo: &[], hi: &[], sibling: 0 };
 pub const PROBES: usize = 4096;

@@ -1,11 +1,13 @@
 //! This library, called through its C interface, beside the Rust (sst.rs, BaseIter, BaseRevIter, base.rs) and two databases in one run:
 //! the same pages, the same probes in the same order, warmed alike, rounds in turn. `tools/bench` builds and runs it and writes
-//! docs/BENCH.md and docs/bench.svg; `--print` only prints, `--only WORD` times the calls whose name has the word.
+//! docs/BENCH.md and docs/bench.svg; `--print` only prints, `--only WORD` times the calls whose name has the word. `--season` prints what the
+//! two named budgets of a history page cost instead.
 
 mod cases;
 mod others;
 mod plot;
 mod report;
+mod season;
 mod timing;
 
 use cases::{BOUNDS, BUDGET, Case, LIMIT, PROBES, STAMP};
@@ -23,6 +25,9 @@ const NONE: [u8; 0] = [];
 
 fn main() {
     let args: Vec<String> = std::env::args().skip(1).collect();
+    if args.iter().any(|a| a == "--season") {
+        return season::print();
+    }
     let only = args
         .iter()
         .position(|a| a == "--only")

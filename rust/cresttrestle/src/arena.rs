@@ -43,8 +43,10 @@ pub struct Build {
 }
 
 impl Build {
-    /// The default budget of a history page.
+    /// The default budget of a history page: small, since whoever wants one old row reads its whole page.
     pub const HIST_PAGE_BUDGET: u64 = sys::CT_HIST_PAGE_BUDGET;
+    /// The budget of the Rust that this library comes from, four times as large, for whoever wants its pages.
+    pub const RUST_HIST_PAGE_BUDGET: u64 = sys::CT_RUST_HIST_PAGE_BUDGET;
 }
 
 impl Default for Build {

@@ -12,7 +12,8 @@ pub const CT_WRONG_PREFIX: u32 = 7;
 pub const CT_TOO_BIG: u32 = 8;
 pub const CT_NO_ROOM: u32 = 9;
 
-pub const CT_HIST_PAGE_BUDGET: u64 = 131_072;
+pub const CT_HIST_PAGE_BUDGET: u64 = 32_768;
+pub const CT_RUST_HIST_PAGE_BUDGET: u64 = 131_072;
 
 pub const CT_WALK_WORDS: usize = 18;
 pub const CT_OUT_WORDS: usize = 10;

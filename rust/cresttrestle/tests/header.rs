@@ -1,12 +1,15 @@
 //! src/sys.rs declares what include/cresttrestle.h declares: the same calls with the same parameters in the same order, the same
 //! constants. The linker compares names only, so a parameter of another type would be undefined behaviour and nobody would say so.
-//! Both texts are read strictly: a statement of a form that is not known here fails the test, so that none is passed over.
+//! Both texts are read strictly: a statement of a form that is not known here fails the test, so that none is passed over. The budgets
+//! that have a name are constants of Rattle (crates/frames); the header's and the crate's are held to those.
 
+use cresttrestle::Build;
 use std::collections::BTreeMap;
 use std::path::Path;
 
 const HEADER: &str = include_str!("../../../include/cresttrestle.h");
 const SYS: &str = include_str!("../src/sys.rs");
+const RATTLE: &str = include_str!("../../../crates/frames/src/lib.rt");
 
 /// Each declared name with its value, or with its parameters and result as Rust writes them: `fn(at: u64) -> u32`.
 type Declared = BTreeMap<String, String>;
@@ -129,6 +132,32 @@ fn sys_is_the_header() {
     assert!(
         header["ct_overlay"].ends_with("key_len: usize, out: *mut u64, out_len: usize) -> u32")
     );
+}
+
+/// The value of an associated constant of Rattle, which declares each once.
+fn of_rattle(source: &str, name: &str) -> u64 {
+    let front = format!("pub const {name}: usize =");
+    let values: Vec<&str> =
+        source.lines().filter_map(|line| line.trim().strip_prefix(&front)).collect();
+    let [value] = values[..] else { panic!("{name} is declared {} times", values.len()) };
+    number(value.strip_suffix(';').expect(value)).parse().expect(value)
+}
+
+#[test]
+fn budgets_are_rattles() {
+    let (header, sys) = (of_c(HEADER), of_rust(SYS));
+    for (name, crates) in [
+        ("HIST_PAGE_BUDGET", Build::HIST_PAGE_BUDGET),
+        ("RUST_HIST_PAGE_BUDGET", Build::RUST_HIST_PAGE_BUDGET),
+    ] {
+        let rattle = of_rattle(RATTLE, name);
+        assert_eq!(crates, rattle, "{name} of the crate");
+        let (c, raw) = (&header[&format!("CT_{name}")], &sys[&format!("CT_{name}")]);
+        assert_eq!((c, raw), (&rattle.to_string(), &rattle.to_string()), "{name} of C and sys.rs");
+    }
+    assert_eq!(Build::default().budget, Build::HIST_PAGE_BUDGET);
+    let small = "    pub const A: usize = 1_800;\n    pub const AB: usize = 7;\n";
+    assert_eq!((of_rattle(small, "A"), of_rattle(small, "AB")), (1800, 7));
 }
 
 const SMALL_C: &str = r#"/* words; */

@@ -2,10 +2,11 @@
 
 use oracle::answer::Stamp;
 use oracle::sample::Row;
+use oracle::upstream::RUST_HIST_PAGE_BUDGET;
 
 use crate::case::{At, Case, List, Next, Op, Place, Read, Sizes};
 
-const SIZES: Sizes = Sizes { limit: 65_536, budget: 131_072 };
+const SIZES: Sizes = Sizes { limit: 65_536, budget: RUST_HIST_PAGE_BUDGET as u64 };
 
 fn row(n: u32, value: usize) -> Row {
     Row { key: n.to_be_bytes().to_vec(), txid: 7, cmd: 0, value: vec![n as u8; value] }

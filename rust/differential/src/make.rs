@@ -3,9 +3,11 @@
 
 use oracle::answer::Stamp;
 use oracle::image::{self, Item};
+use oracle::judge::{HIST_PAGE_BUDGET, MAX_BUDGET, MIN_BUDGET};
 use oracle::list::Child;
 use oracle::prng::Prng;
 use oracle::sample::{self, Row};
+use oracle::upstream::RUST_HIST_PAGE_BUDGET;
 
 use crate::case::{At, Case, List, Next, Op, Place, Read, Sizes};
 use crate::theirs::{bounds, entry};
@@ -16,7 +18,7 @@ pub fn case(seed: u64, n: u64) -> Case {
         Prng::new(seed.wrapping_mul(0x9e37_79b9_7f4a_7c15) ^ n.wrapping_mul(0xd1b5_4a32_d192_ed03));
     rng.number();
     let mut make = Make { rng, ops: Vec::new(), names: 0 };
-    let (kind, len): (_, fn(&mut Make) -> usize) = match make.rng.below(20) {
+    let (kind, len): (_, fn(&mut Make) -> usize) = match make.rng.below(21) {
         0..=4 => ("leaf", Make::leaf_case),
         5 | 6 => ("index", Make::index_case),
         7..=10 => ("merge", Make::merge_case),
@@ -24,6 +26,7 @@ pub fn case(seed: u64, n: u64) -> Case {
         13..=15 => ("refused", Make::refused_case),
         16 => ("large", Make::large_case),
         17 => ("noise", Make::noise_case),
+        18 => ("history", Make::history_case),
         _ => ("damaged", Make::damaged_case),
     };
     let len = len(&mut make);
@@ -85,10 +88,15 @@ impl Make {
 
     fn budget(&mut self) -> u64 {
         match self.rng.below(5) {
-            0 | 1 => 256,
-            2 => 131_072,
+            0 | 1 => MIN_BUDGET,
+            2 => self.named_budget(),
             _ => self.rng.between(256, 900) as u64,
         }
+    }
+
+    /// The default, or the Rust's.
+    fn named_budget(&mut self) -> u64 {
+        self.rng.pick(&[HIST_PAGE_BUDGET, RUST_HIST_PAGE_BUDGET as u64])
     }
 
     /// Boundaries that share the prefix, mostly.
@@ -457,6 +465,44 @@ impl Make {
         262_144
     }
 
+    /// Old versions of one key that fill two history pages to the byte, or miss it by one, and begin a third.
+    fn long_history(&mut self, key: &[u8], budget: u64) -> Vec<Row> {
+        let a_page = self.rng.pick(&[1, 2, 3, 7, 1000]);
+        // 40, then 12 + value size + 4 for each: an inline value of n has size 5 + n
+        let most = (budget as usize - 40) / a_page;
+        let len = (most + self.rng.below(3)).saturating_sub(22).min(65_535);
+        let count = 2 * a_page as u32 + 1 + self.rng.below(2) as u32;
+        (0..=count)
+            .rev()
+            .map(|cmd| Row { key: key.to_vec(), txid: 7, cmd, value: vec![cmd as u8; len] })
+            .collect()
+    }
+
+    /// Two pages with long histories and their merge, each at a budget of its own: a named one, the least, or any.
+    fn history_case(&mut self) -> usize {
+        let mut end = 0;
+        let mut pages = Vec::new();
+        for key in [b"p", b"q"] {
+            let budget = match self.rng.below(4) {
+                0 | 1 => self.named_budget(),
+                2 => MIN_BUDGET,
+                _ => self.rng.between(MIN_BUDGET as usize, MAX_BUDGET as usize) as u64,
+            };
+            let (sizes, place) = (Sizes { limit: 65_536, budget }, Place::default());
+            let rows = self.long_history(key, budget);
+            end += leaf_end(sizes, &place, &rows);
+            let at = self.build_leaf(Next::Free, sizes, place, rows.clone());
+            pages.push((at, sizes, rows));
+        }
+        let keys = vec![b"p".to_vec(), b"q".to_vec()];
+        let rows = pages.iter().flat_map(|page| page.2.clone()).collect();
+        let sizes = self.rng.pick(&[pages[0].1, pages[1].1]);
+        let at = self.merge(pages[0].0, pages[1].0, sizes);
+        self.ask(&Page { at, index: false, prefix: Vec::new(), keys, rows }, 3);
+        // for the merge twice as much: it may have more pages than the two, each with its headers and hint
+        3 * end + 8192
+    }
+
     /// Inputs that a build, merge or delta must refuse, and their neighbours that it must not.
     fn refused_case(&mut self) -> usize {
         let prefix = sample::prefix(&mut self.rng);
@@ -479,7 +525,16 @@ impl Make {
         for _ in 0..self.rng.between(1, 2) {
             match self.rng.below(9) {
                 0 => sizes.limit = self.rng.pick(&[0, 65_536, 65_537, u64::MAX]),
-                1 => sizes.budget = self.rng.pick(&[0, 255, 256, 131_072, 131_073, u64::MAX]),
+                1 => {
+                    sizes.budget = self.rng.pick(&[
+                        0,
+                        MIN_BUDGET - 1,
+                        MIN_BUDGET,
+                        MAX_BUDGET,
+                        MAX_BUDGET + 1,
+                        u64::MAX,
+                    ])
+                }
                 2 => place.lo = vec![0x70; self.rng.pick(&[4096, 4097, 8192])],
                 3 => place.hi = vec![0x70; self.rng.pick(&[4096, 4097])],
                 4 => next = Next::Raw(self.next()),

@@ -36,6 +36,8 @@ pub const MAX_VALUE: usize = 65_536;
 pub const MAX_LIMIT: u64 = 65_536;
 pub const MIN_BUDGET: u64 = 256;
 pub const MAX_BUDGET: u64 = 131_072;
+/// What a caller without an opinion passes (order 2); the Rust's own is `upstream::RUST_HIST_PAGE_BUDGET`.
+pub const HIST_PAGE_BUDGET: u64 = 32_768;
 pub const MAX_ENTRIES: usize = 65_535;
 pub const MAX_PAYLOAD: usize = 16_777_216;
 

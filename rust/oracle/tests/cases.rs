@@ -8,9 +8,11 @@ use oracle::judge;
 use oracle::list;
 use oracle::model;
 use oracle::sample::{Row, index_list_of, list_of, row};
+use oracle::upstream::RUST_HIST_PAGE_BUDGET;
 
 const STAMP: Stamp = Stamp { txid: 5, group: 0, lsn: 0, checkpoint: 0 };
 const NONE: Bounds = Bounds { sibling: 0, lo: &[], hi: &[] };
+const RUST_BUDGET: u64 = RUST_HIST_PAGE_BUDGET as u64;
 
 fn arena(len: usize) -> Both {
     // old bytes that must not show through
@@ -58,11 +60,11 @@ fn p3_prefixes() {
 fn p5_p6_one_record() {
     let rows = [row(b"a", 5, 0, b"xy")];
     let mut both = arena(112);
-    assert_eq!(leaf(&mut both, 64, 131_072, &rows), Ok(Built { addr: 8, next: 112 }));
+    assert_eq!(leaf(&mut both, 64, RUST_BUDGET, &rows), Ok(Built { addr: 8, next: 112 }));
     assert_eq!(u32_at(&both, 8 + 32), 65); // size
     assert_eq!(u32_at(&both, 8 + 32 + 40), 44); // slot
     let mut both = arena(111);
-    assert_eq!(leaf(&mut both, 64, 131_072, &rows), Err(9));
+    assert_eq!(leaf(&mut both, 64, RUST_BUDGET, &rows), Err(9));
     assert!(both.arena.bytes().iter().all(|&b| b == 0xa5));
 }
 
@@ -118,6 +120,47 @@ fn p8_budgets() {
     assert_eq!(u32_at(&both, 8), 256);
 }
 
+/// Order 2: which history pages (records, size) a key with so many old versions has, and where its leaf and the arena's end then are. The
+/// numbers are those of the order's decided points.
+#[test]
+fn named_budgets() {
+    assert_eq!((judge::HIST_PAGE_BUDGET, RUST_BUDGET), (32_768, 131_072));
+    type Worked = (usize, usize, u64, u64, &'static [(u16, u32)], Option<(u64, u64)>);
+    let worked: [Worked; 7] = [
+        (
+            271,
+            100,
+            512,
+            judge::HIST_PAGE_BUDGET,
+            &[(270, 32_710), (1, 161)],
+            Some((32_952, 33_192)),
+        ),
+        (271, 100, 512, RUST_BUDGET, &[(271, 32_831)], Some((32_872, 33_104))),
+        (270, 100, 512, judge::HIST_PAGE_BUDGET, &[(270, 32_710)], None),
+        (9, 4_070, 65_536, judge::HIST_PAGE_BUDGET, &[(8, 32_768), (1, 4_131)], None),
+        (1, 32_707, 65_536, judge::HIST_PAGE_BUDGET, &[(1, 32_768)], None),
+        (1, 32_708, 65_536, judge::HIST_PAGE_BUDGET, &[(1, 32_769)], None),
+        (1_200, 100, 512, RUST_BUDGET, &[(1_082, 130_962), (118, 14_318)], None),
+    ];
+    for (count, len, limit, budget, pages, ends) in worked {
+        let mut rows = vec![row(b"k", 9, 0, b"")];
+        rows.extend((0..count).rev().map(|cmd| row(b"k", 8, cmd as u32, &vec![7; len])));
+        let mut both = arena(200_000);
+        let built = leaf(&mut both, limit, budget, &rows).unwrap();
+        let sizes = both.history_hints(built.addr).unwrap().unwrap();
+        let sizes = sizes.iter().map(|&page| u32_at(&both, page as usize + 32));
+        let sizes: Vec<u32> = sizes.collect();
+        let found: Vec<(u16, u32)> = cuts(&mut both, built.addr).into_iter().zip(sizes).collect();
+        assert_eq!(found, pages, "{count} of {len} at {budget}");
+        if let Some((addr, next)) = ends {
+            assert_eq!(built, Built { addr, next });
+        }
+    }
+    let one = [row(b"k", 9, 0, b"")];
+    assert_eq!(leaf(&mut arena(200), 64, judge::MAX_BUDGET, &one).map(|b| b.addr), Ok(8));
+    assert_eq!(leaf(&mut arena(200), 64, judge::MAX_BUDGET + 1, &one), Err(1));
+}
+
 #[test]
 fn p9_floors() {
     let mut both = arena(512);
@@ -167,10 +210,10 @@ fn number_8_by_entries() {
         list_of(&rows)
     };
     assert_eq!(
-        judge::leaf(1 << 24, 8, 64, 131_072, &NONE, &entries(65_535)).map(|e| e.len()),
+        judge::leaf(1 << 24, 8, 64, RUST_BUDGET, &NONE, &entries(65_535)).map(|e| e.len()),
         Ok(65_535)
     );
-    assert_eq!(judge::leaf(1 << 24, 8, 64, 131_072, &NONE, &entries(65_536)), Err(8));
+    assert_eq!(judge::leaf(1 << 24, 8, 64, RUST_BUDGET, &NONE, &entries(65_536)), Err(8));
     let children = |n: u32| -> Vec<u8> {
         let children: Vec<_> = (0..n).map(|i| (i.to_be_bytes().to_vec(), 1)).collect();
         index_list_of(&children)
@@ -183,7 +226,7 @@ fn number_8_by_entries() {
 fn the_largest_pages_are_built() {
     let rows: Vec<Row> = (0..65_535u32).map(|i| row(&i.to_be_bytes(), 1, 0, b"")).collect();
     let mut both = arena(4 << 20);
-    let built = leaf(&mut both, 64, 131_072, &rows).unwrap();
+    let built = leaf(&mut both, 64, RUST_BUDGET, &rows).unwrap();
     assert_eq!(both.check(built.addr), Ok(()));
     let (found, reads) = both.search(built.addr, &70u32.to_be_bytes()).unwrap();
     assert_eq!(found.unwrap().pos, 70);
@@ -210,7 +253,7 @@ fn number_8_by_size() {
         entries.push(list::Entry { key: &KEYS[255..], txid: 1, cmd: 0, value: &last });
         let list = list::write_entries(&entries);
         let mut both = arena(16_777_216 + 64);
-        let built = both.leaf(8, 65_536, 131_072, &STAMP, &NONE, &list);
+        let built = both.leaf(8, 65_536, RUST_BUDGET, &STAMP, &NONE, &list);
         assert_eq!(built.map(|b| b.addr), if over == 0 { Ok(8) } else { Err(8) });
     }
 }

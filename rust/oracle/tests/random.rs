@@ -3,11 +3,12 @@
 use oracle::answer::{Bounds, Stamp};
 use oracle::arena::Arena;
 use oracle::both::Both;
-use oracle::judge::Number;
+use oracle::judge::{self, Number};
 use oracle::list::{Child, Entry};
 use oracle::model;
 use oracle::prng::Prng;
 use oracle::sample::{self, Row, index_list_of, list_of};
+use oracle::upstream::RUST_HIST_PAGE_BUDGET;
 
 fn stamp(rng: &mut Prng) -> Stamp {
     Stamp {
@@ -25,7 +26,7 @@ fn limit(rng: &mut Prng) -> usize {
 fn budget(rng: &mut Prng) -> u64 {
     match rng.below(5) {
         0 | 1 => 256,
-        2 => 131_072,
+        2 => rng.pick(&[judge::HIST_PAGE_BUDGET, RUST_HIST_PAGE_BUDGET as u64]),
         _ => rng.between(256, 900) as u64,
     }
 }

@@ -1,5 +1,6 @@
 //! Runs the program itself: what it prints, its exit status by number, and what it does to the file.
 
+use cresttrestle::Build;
 use oracle::prng::Prng;
 use std::fs;
 use std::path::{Path, PathBuf};
@@ -102,6 +103,21 @@ fn p7_from_rows_to_bytes() {
     assert!(f.ok(&["show", "p7.arena", "8"]).ends_with("as laid out, but no leaf or index page\n"));
     assert_eq!(f.ok(&["frames", "p7.arena"]).lines().count(), 3);
     f.stops(32, "none", &["get", "p7.arena", "b"]);
+}
+
+/// Order 2: without --budget history pages are the default's, 271 old rows of 100 bytes in two; at the Rust's budget they stand in one.
+#[test]
+fn history_pages_of_the_default_budget() {
+    let f = Folder::new("budget");
+    let old = (0..271).map(|cmd| format!("k,8.{cmd},{}\n", "v".repeat(100)));
+    f.write("rows.csv", "k,9,\n".to_string() + &old.collect::<String>());
+    let rust = Build::RUST_HIST_PAGE_BUDGET.to_string();
+    let make = ["make", "small", "rows.csv", "--limit", "512"];
+    assert_eq!(f.ok(&make), "page 32952 next 33192\n");
+    let make = ["make", "large", "rows.csv", "--limit", "512", "--budget", &rust];
+    assert_eq!(f.ok(&make), "page 32872 next 33104\n");
+    assert_eq!(f.ok(&["list", "small", "--all"]), f.ok(&["list", "large", "--all"]));
+    assert!(f.ok(&["help"]).contains(&format!("--budget {} ", Build::HIST_PAGE_BUDGET)));
 }
 
 #[test]

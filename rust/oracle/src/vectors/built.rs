@@ -1,8 +1,10 @@
 //! built.txt: leaf and index builds, byte for byte, each page then read as a whole.
 
 use super::{NONE, Out, index, leaf};
+use crate::judge::{HIST_PAGE_BUDGET, MAX_BUDGET};
 use crate::prng::Prng;
 use crate::sample::{self, Row, index_list_of, list_of, row};
+use crate::upstream::RUST_HIST_PAGE_BUDGET;
 
 const STAMP: &str = "77 3 1000 2000";
 
@@ -17,6 +19,7 @@ pub(super) fn write(out: &mut Out, rng: &mut Prng) {
     index_pages(out, rng);
     several_in_one_arena(out, rng);
     random_leaves(out, rng);
+    default_budget(out, rng);
 }
 
 /// Rests 0 to 19 and 108 to 134, each length a key of its own: of equal bytes, the shorter is less.
@@ -103,8 +106,14 @@ fn value_lengths(out: &mut Out, rng: &mut Prng) {
                         .enumerate()
                         .map(|(i, &n)| row(b"k", 9 - i as u64, 0, &sample::filling(rng, n)))
                         .collect();
-                    let (addr, _) =
-                        out.built(leaf(8, limit, 131_072, STAMP, NONE, &list_of(&rows)));
+                    let (addr, _) = out.built(leaf(
+                        8,
+                        limit,
+                        RUST_HIST_PAGE_BUDGET,
+                        STAMP,
+                        NONE,
+                        &list_of(&rows),
+                    ));
                     out.page(addr, 1);
                 });
                 continue;
@@ -140,7 +149,8 @@ fn value_lengths(out: &mut Out, rng: &mut Prng) {
 }
 
 fn budgets(out: &mut Out, rng: &mut Prng) {
-    for budget in [256usize, 257, 260, 300, 512, 1000, 4096, 131_071, 131_072] {
+    let most = MAX_BUDGET as usize;
+    for budget in [256, 257, 260, 300, 512, 1000, 4096, most - 1, most] {
         out.note(&format!(
             "budget {budget}: forty old versions of several keys, and one too large alone"
         ));
@@ -171,14 +181,15 @@ fn budgets(out: &mut Out, rng: &mut Prng) {
             out.page(addr, 1);
         });
     }
-    out.note("the default budget 131,072 by name: old versions past it, and exactly up to it");
+    out.note("the Rust's budget by name: old versions past it, and exactly up to it");
     for (count, len) in [(200u64, 700usize), (9, 16_358), (9, 16_359), (2, 65_495), (2, 65_496)] {
         out.case(rng, |out, rng| {
             let mut rows = vec![row(b"k", 1000, 0, b"")];
             for i in 0..count {
                 rows.push(row(b"k", 999 - i, 0, &sample::filling(rng, len)));
             }
-            let (addr, _) = out.built(leaf(8, 65_536, 131_072, STAMP, NONE, &list_of(&rows)));
+            let (addr, _) =
+                out.built(leaf(8, 65_536, RUST_HIST_PAGE_BUDGET, STAMP, NONE, &list_of(&rows)));
             out.page(addr, 1);
         });
     }
@@ -346,7 +357,7 @@ fn random_leaves(out: &mut Out, rng: &mut Prng) {
         out.note("a random leaf page");
         out.case(rng, |out, rng| {
             let limit = rng.pick(&[1usize, 4, 8, 16, 64, 64, 300, 4096]);
-            let budget = rng.pick(&[256usize, 256, 300, 512, 1024, 131_072]);
+            let budget = rng.pick(&[256, 256, 300, 512, 1024, RUST_HIST_PAGE_BUDGET]);
             let prefix = sample::prefix(rng);
             let (lo, hi) = sample::bounds(rng, &prefix);
             let count = rng.below(9);
@@ -363,6 +374,32 @@ fn random_leaves(out: &mut Out, rng: &mut Prng) {
                 &list_of(&rows),
             ));
             out.page(addr, keys.len());
+        });
+    }
+}
+
+/// The head `k (9, 0)` with an empty value, and so many old versions of so many bytes: order 2's worked numbers.
+fn default_budget(out: &mut Out, rng: &mut Prng) {
+    for (count, len, limit, budget) in [
+        (271, 100, 512, HIST_PAGE_BUDGET as usize),
+        (271, 100, 512, RUST_HIST_PAGE_BUDGET),
+        (270, 100, 512, HIST_PAGE_BUDGET as usize),
+        (9, 4_070, 65_536, HIST_PAGE_BUDGET as usize),
+        (1, 32_707, 65_536, HIST_PAGE_BUDGET as usize),
+        (1, 32_708, 65_536, HIST_PAGE_BUDGET as usize),
+        (1_200, 100, 512, RUST_HIST_PAGE_BUDGET),
+    ] {
+        out.note(&format!("budget {budget}: {count} old versions of {len} bytes"));
+        out.case(rng, |out, rng| {
+            // most values are one run, so that a list of a thousand stays a short line
+            let mut rows = vec![row(b"k", 9, 0, b"")];
+            for cmd in (0..count).rev() {
+                let value =
+                    if cmd % 100 == 0 { sample::filling(rng, len) } else { vec![cmd as u8; len] };
+                rows.push(row(b"k", 8, cmd, &value));
+            }
+            let (addr, _) = out.built(leaf(8, limit, budget, STAMP, NONE, &list_of(&rows)));
+            out.page(addr, 1);
         });
     }
 }

@@ -3,6 +3,7 @@
 use super::{NONE, Out, index, leaf};
 use crate::prng::Prng;
 use crate::sample::{Row, index_list_of, list_of, row};
+use crate::upstream::RUST_HIST_PAGE_BUDGET;
 
 const STAMP: &str = "5 0 0 0";
 
@@ -27,10 +28,11 @@ pub(super) fn write(out: &mut Out, _rng: &mut Prng) {
         out.note("P5 and P6: size 65, slot 44, new next 112; 112 suffices, 111 is 9");
         out.arena(size, 0xaa);
         if size == 112 {
-            let (addr, _) = out.built(leaf(8, 64, 131_072, STAMP, NONE, &list_of(&p5)));
+            let (addr, _) =
+                out.built(leaf(8, 64, RUST_HIST_PAGE_BUDGET, STAMP, NONE, &list_of(&p5)));
             out.page(addr, 1);
         } else {
-            out.say(leaf(8, 64, 131_072, STAMP, NONE, &list_of(&p5)));
+            out.say(leaf(8, 64, RUST_HIST_PAGE_BUDGET, STAMP, NONE, &list_of(&p5)));
         }
     }
 

@@ -5,6 +5,7 @@ use super::{NONE, Out, index, leaf};
 use crate::prng::Prng;
 use crate::sample::{Row, index_list_of, list_of, row};
 use crate::text;
+use crate::upstream::RUST_HIST_PAGE_BUDGET;
 
 const STAMP: &str = "1 1 1 1";
 
@@ -240,7 +241,8 @@ fn too_many_records(out: &mut Out) {
     }
     // the 256th old version
     rows.push(row(&[254, 0], 100, 0, b""));
-    let (page, next) = out.built(leaf(8, 64, 131_072, STAMP, (0, b"", b"xy"), &list_of(&rows)));
+    let (page, next) =
+        out.built(leaf(8, 64, RUST_HIST_PAGE_BUDGET, STAMP, (0, b"", b"xy"), &list_of(&rows)));
     let (empty, next) = out.built(leaf(next, 64, 256, STAMP, NONE, &list_of(&[])));
     let (one, next) =
         out.built(leaf(next, 64, 256, STAMP, NONE, &list_of(&[row(&[255], 1, 0, b"")])));
@@ -283,7 +285,8 @@ fn too_large(out: &mut Out) {
         rows.push(row(&key, 1000, 0, b""));
         rows.push(row(&key, 900, 0, b""));
     }
-    let (page, history) = out.built(leaf(8, 65_536, 131_072, STAMP, NONE, &list_of(&rows)));
+    let (page, history) =
+        out.built(leaf(8, 65_536, RUST_HIST_PAGE_BUDGET, STAMP, NONE, &list_of(&rows)));
     out.note("a history page of one long record, put by hand; all heads name it");
     let size = (40 + 4 + 12 + 5 + LEN) as u32;
     let mut frame = Vec::new();

@@ -4,6 +4,7 @@ use super::{NONE, Out, index, leaf};
 use crate::prng::Prng;
 use crate::sample::{self, Row, index_list_of, list_of, row};
 use crate::text;
+use crate::upstream::RUST_HIST_PAGE_BUDGET;
 
 const STAMP: &str = "1 1 10 20";
 const AFTER: &str = "99 2 40 30";
@@ -246,7 +247,7 @@ fn random_leaves(out: &mut Out, rng: &mut Prng) {
             let prefix = sample::prefix(rng);
             let (lo, hi) = sample::bounds(rng, &prefix);
             let limits = [4usize, 8, 16, 64, 64, 300];
-            let budgets = [256usize, 256, 300, 1024, 131_072];
+            let budgets = [256, 256, 300, 1024, RUST_HIST_PAGE_BUDGET];
             let count = rng.between(1, 8);
             let keys = sample::keys(rng, &prefix, count);
             let limit = rng.pick(&limits);

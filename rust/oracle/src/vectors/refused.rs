@@ -2,6 +2,7 @@
 //! The arena must be unchanged after each.
 
 use super::{NONE, Out, dleaf, index, leaf};
+use crate::judge::{MAX_BUDGET, MIN_BUDGET};
 use crate::prng::Prng;
 use crate::sample::{Row, index_list_of, list_of, row};
 use crate::text;
@@ -37,7 +38,7 @@ fn limits(out: &mut Out) {
         out.say(format!("leaf 8 {limit} 256 {STAMP} 0 - - {}", text::write(&good())));
         out.say(format!("dleaf 8 {limit} 1 1 1 5 5 6b 76"));
     }
-    for budget in [0, 255, 256, 131_072, 131_073, u64::MAX] {
+    for budget in [0, MIN_BUDGET - 1, MIN_BUDGET, MAX_BUDGET, MAX_BUDGET + 1, u64::MAX] {
         out.say(format!("leaf 8 64 {budget} {STAMP} 0 - - {}", text::write(&good())));
     }
     for (lo, hi) in [(4096, 0), (4097, 0), (0, 4096), (0, 4097), (4096, 4096), (4097, 4097)] {
@@ -291,7 +292,8 @@ fn merges(out: &mut Out) {
 
     out.note("1 and 2, on index pages too");
     for (left, right) in [(a, b), (tree, tree2), (a, tree), (0, 0)] {
-        for (limit, budget) in [(0, 256), (65_537, 256), (64, 255), (64, 131_073)] {
+        for (limit, budget) in [(0, 256), (65_537, 256), (64, MIN_BUDGET - 1), (64, MAX_BUDGET + 1)]
+        {
             out.say(format!("merge {end} {limit} {budget} {STAMP} {left} {right}"));
             out.say(format!("merge 7 {limit} {budget} {STAMP} {left} {right}"));
         }
