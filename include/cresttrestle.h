@@ -31,7 +31,7 @@ enum ct_refusal {
     CT_BAD_FRAME = 4,    /* no frame at the address, bytes not as laid out, a position outside the page */
     CT_MIXED_KINDS = 5,  /* merging a leaf with an index page */
     CT_OUT_OF_ORDER = 6, /* an entry not above the one before */
-    CT_WRONG_PREFIX = 7, /* a key or probe does not begin with the page's prefix */
+    CT_WRONG_PREFIX = 7, /* building or merging: a key does not begin with the page's prefix */
     CT_TOO_BIG = 8,      /* over 65,535 entries, or size plus hint room over 16,777,216 */
     CT_NO_ROOM = 9       /* next plus all frames exceeds the arena */
 };
@@ -100,7 +100,8 @@ uint32_t ct_remote_hints(const uint8_t *arena, size_t arena_len, uint64_t addr, 
  * out: [0] the address, 0 behind the last and outside the arena */
 uint32_t ct_hint(const uint8_t *arena, size_t arena_len, uint64_t at, uint64_t count, uint64_t k, uint64_t *out, size_t out_len);
 
-/* ---- searching: `reads` is the number of keys read ---- */
+/* ---- searching: `reads` is the number of keys read. Any key may be asked for: one that does not begin with the page's prefix is not there,
+ * and no key is read. These calls are refused with CT_BAD_FRAME alone ---- */
 
 /* search_ver_val_by_raw: the newest row of a key in a leaf.
  * out: [0] 1 found, 0 none, [1] slot, [2] txid, [3] cmd, [4] [5] the value (index, bytes),

@@ -196,6 +196,14 @@ int main(void) {
     mark();
     MUST(ct_floor(ARENA, intl, (const uint8_t *)"c", 1, out, 0) == 0 && wrote(0));
 
+    /* ---- a key without the page's prefix is not there, and no key is read: "b" above the prefix "a", the empty key below it */
+    MUST(ct_new_leaf(ARENA, next, rows, sizeof rows, (const uint8_t *)"a", 1, (const uint8_t *)"ab", 2, 0, 64, 256, 0, 0, 0, 0, OUT) == 0);
+    uint64_t prefixed = out[0];
+    MUST(ct_search(ARENA, prefixed, (const uint8_t *)"b", 1, OUT) == 0 && out[0] == 0 && out[9] == 0);
+    MUST(ct_as_of(ARENA, prefixed, (const uint8_t *)"b", 1, 9, 0, OUT) == 0 && out[0] == 0 && out[6] == 0);
+    MUST(ct_lower_bound(ARENA, prefixed, (const uint8_t *)"b", 1, 9, 0, OUT) == 0 && out[0] == 0 && out[1] == 1 && out[2] == 0);
+    MUST(ct_lower_bound(ARENA, prefixed, NONE, 9, 0, OUT) == 0 && out[0] == 1 && out[1] == 0 && out[2] == 0);
+
     /* ---- a refusal changes nothing, and the lowest number wins */
     static uint8_t before[sizeof arena];
     memcpy(before, arena, sizeof arena);

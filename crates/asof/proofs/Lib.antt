@@ -1,3 +1,4 @@
 -- The crate's laws.
 pub mod Olds
 pub mod Decided
+pub mod Numbers

@@ -69,8 +69,7 @@ abbrev pub headPick : List ℕ → Ver → Body → ℕ → Ver → ℕ → ℕ 
 headPick s v b i ver at n true = olderAsOf s v i n b at
 headPick s v b i ver at n false = handedOf i ver n (recAt s b i)
 
--- "4 and 7 as for a search, 7 judged after an empty page": the head is the one that a search finds, by its halving; "or the key is
--- absent, the answer is none"
+-- "4 .. as for a search": the head is the one that a search finds, by its halving; "or the key is absent, the answer is none"
 abbrev pub asOfHead : List ℕ → Ver → Head → AsOf
 asOfHead s v (Head.Is b i ver at n) = headPick s v b i ver at n (newerThan ver v)
 asOfHead s v (Head.Nothing n) = AsOf.Nothing n

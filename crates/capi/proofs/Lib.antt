@@ -2,3 +2,4 @@ pub mod Told
 pub mod Decided
 pub mod Looping
 pub mod Batches
+pub mod Readers

@@ -17,7 +17,7 @@ use Rattle.records.specs.Records.{slotAt, keyIn, keyAtSlot, valIn, recIn, recAt
 use Rattle.records.specs.Parts.{prefixIn}
 use Rattle.pages.specs.Boundaries.{partIn}
 use Rattle.sst.specs.Halve.{halve}
-use Rattle.sst.specs.Search.{newerAt, keyCmp, rightKind, fitsPrefix, readyAt, halved, outcomeAt}
+use Rattle.sst.specs.Search.{newerAt, keyCmp, rightKind, readyAt, fitsPrefix, halved, elsewhere, probed, outcomeAt}
 use Rattle.build_image.specs.Sizes.{pad, remoteLen}
 use Rattle.build_image.specs.Image.{remoteFrame}
 use Rattle.build_image.specs.declared.Built.{Built}
@@ -87,5 +87,5 @@ laidRow s t Laid.Nothing = 0 ∷ []
 laidRow s t (Laid.Refused r) = numberOf r ∷ []
 
 unfoldable pub overlay : List ℕ → ℕ → List ℕ → ℕ → List ℕ → List ℕ
-unfolding part partOr ofLe leAt cmpBytes startsWith newerThan dec carry within readLen boxFields boxOk boxAt baseFields baseOk pageAt kindOf bodyOf openAt deltaAt remoteAt skipOf keyAt refAt frontAt valAt verIn slotAt keyIn keyAtSlot valIn recIn recAt prefixIn halve newerAt keyCmp rightKind fitsPrefix readyAt halved outcomeAt deltaIs D.keyIn leafKeyAt D.valIn valueAt headSlot headAt pageValue isProbe deltaValue laidBy laidAt
+unfolding part partOr ofLe leAt cmpBytes startsWith newerThan dec carry within readLen boxFields boxOk boxAt baseFields baseOk pageAt kindOf bodyOf openAt deltaAt remoteAt skipOf keyAt refAt frontAt valAt verIn slotAt keyIn keyAtSlot valIn recIn recAt prefixIn halve newerAt keyCmp rightKind readyAt fitsPrefix halved elsewhere probed outcomeAt deltaIs D.keyIn leafKeyAt D.valIn valueAt headSlot headAt pageValue isProbe deltaValue laidBy laidAt
 overlay s a t d probe = laidRow s t (laidAt s (addr a) t (addr d) probe)

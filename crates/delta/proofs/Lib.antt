@@ -6,3 +6,4 @@ pub mod Exactly
 pub mod Back
 pub mod Returns
 pub mod Decided
+pub mod Numbers

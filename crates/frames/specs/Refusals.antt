@@ -1,6 +1,8 @@
 -- Document 01's numbers of refusal.
 -- Assumes nothing.
 use Prim.Native.Nat.{ℕ}
+use mathlib.Core.Path.{_≡_}
+use mathlib.Core.Logic.{_⊎_}
 use Rattle.frames.specs.declared.Refusal.{Refusal}
 use Rattle.frames.specs.declared.Refusal.the-variants.{BadLimit, BadArena, BadList, BadFrame, MixedKinds, OutOfOrder, WrongPrefix, TooBig, NoRoom}
 use Rattle.frames.specs.declared.FrameRead.{FrameRead}
@@ -19,6 +21,10 @@ numberOf OutOfOrder = 6
 numberOf WrongPrefix = 7
 numberOf TooBig = 8
 numberOf NoRoom = 9
+
+-- what a reader's number can be, 0 where it answers: "7 stays for keys handed to a build or merge only" (order 3), and no other was a reader's
+abbrev pub ZeroOrFour : ℕ → Type 0
+ZeroOrFour n = (n ≡ 0) ⊎ (n ≡ 4)
 
 -- the number of a reader's answer: 4 where an address is no such frame's, 0 where it answers
 

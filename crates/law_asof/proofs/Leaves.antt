@@ -1,20 +1,17 @@
 -- What a leaf page answers as of a version that says a list's groups, over that list.
 -- Assumes nothing.
 use Prim.Native.Nat.{ℕ}
-use mathlib.Core.Path.{_≡_, refl, sym, ap, _∙_}
+use mathlib.Core.Path.{_≡_, refl, ap, _∙_, subst}
 use mathlib.Core.Bool.{Bool, true, false}
 use mathlib.Core.List.{List, _∷_}
-use native.Mathlib.Omega.{arith}
-use lib.ListN.{take}
 use Rattle.order.specs.declared.Ver.{Ver}
-use Rattle.order.specs.Order.{startsWith}
 use Rattle.order.specs.Version.{newerThan}
 use Rattle.frames.specs.declared.Addr.{Addr}
 use Rattle.frames.specs.declared.Refusal.{Refusal}
 use Rattle.values.specs.declared.HistRef.{HistRef}
 use Rattle.pages.specs.declared.Place.{Place}
 use Rattle.pages.specs.Boundaries.{partIn}
-use Rattle.pages.specs.Meaning.{Page, says, oldsFrom, meaning}
+use Rattle.pages.specs.Meaning.{says, oldsFrom, meaning}
 use Rattle.build_sources.specs.Source.{Entry}
 use Rattle.build_sources.specs.Marks.{Each, Marked, Wide}
 use Rattle.build_image.specs.Image.{Borders}
@@ -36,12 +33,12 @@ use Rattle.law_asof.proofs.Searched.{besidePick, besideOf, asFound, Res
 
 -- ---- from what search says to what the lookup says
 
-module _ (s : List ℕ) (p : Page) (es : List Entry) (probe : List ℕ) (v : Ver) where
+module _ (s : List ℕ) (es : List Entry) (probe : List ℕ) (v : Ver) where
   abbrev mine : List Listed
   mine = recordsOf (having keyIs (same probe) es)
 
   -- picked from the key's records, it is picked from the list
-  of-key : (x : AsOf) → Picks s probe v mine x → AsOfSays s p (recordsOf es) probe v x
+  of-key : (x : AsOf) → Picks s probe v mine x → AsOfSays s (recordsOf es) probe v x
   of-key (AsOf.Is i ver x n) h = first-having probe v es ∙ h
   of-key (AsOf.Nothing n) h = first-having probe v es ∙ h
   of-key (AsOf.Refused r) h = absurd h
@@ -57,7 +54,7 @@ module _ (s : List ℕ) (p : Page) (es : List Entry) (probe : List ℕ) (v : Ver
       go true e = picks-next s probe v (record { key = probe; ver = ver; value = partIn s x }) rs e (oldEnter s v i n h) (enter-picks s probe v i n h ver (f .0) (f .1))
       go false e = picks-here s probe v ver x (partIn s x) rs i n e refl
 
-  of-search : (r : Found) → Resolves s r → SearchSays s p es probe r → AsOfSays s p (recordsOf es) probe v (besideOf s v r)
+  of-search : (r : Found) → Resolves s r → SearchSays s es probe r → AsOfSays s (recordsOf es) probe v (besideOf s v r)
   unfolding first recordsOf
   of-search (Found.Is i ver h x n) f e = of-key (besideOf s v (Found.Is i ver h x n)) (rw e (head-or-history i ver h x n f))
   of-search (Found.Nothing n) f e = first-having probe v es ∙ ap (λ (l : List Entry). first (noNewer v) (recordsOf l)) e
@@ -66,27 +63,19 @@ module _ (s : List ℕ) (p : Page) (es : List Entry) (probe : List ℕ) (v : Ver
 -- ---- a page that says the list's groups
 
 module _ (s : List ℕ) (a : Addr) (b : Borders) (es : List Entry) (means : meaning s a ≡ says (leafPage b es)) (marks : Marked es) (probe : List ℕ) where
-  abbrev pre : List ℕ
-  pre = take (b .prefix) (b .lo)
-
   beside : (v : Ver) → asOfAt s a probe v ≡ besideOf s v (searchAt s a probe)
   unfolding leafPage
   beside v = as-of-beside s a (leafPage b es) means probe (grouped es) refl v
 
   -- THE LAW: the first record of the key in the list whose version is not newer, or the list has none
-  pub as-of-list : (v : Ver) → AsOfSays s (leafPage b es) (recordsOf es) probe v (asOfAt s a probe v)
+  pub as-of-list : (v : Ver) → AsOfSays s (recordsOf es) probe v (asOfAt s a probe v)
   as-of-list v =
       rw (beside v)
-      (of-search s (leafPage b es) es probe v (searchAt s a probe) (search-resolves s a (leafPage b es) means probe) (search-list s a b es means marks probe))
+      (of-search s es probe v (searchAt s a probe) (search-resolves s a (leafPage b es) means probe) (search-list s a b es means marks probe))
 
-  -- a probe that begins with the page's prefix is answered
-  pub as-of-answers : startsWith pre probe ≡ true → (v : Ver) (r : Refusal) → asOfAt s a probe v ≡ AsOf.Refused r → ⊥
-  unfolding leafPage
-  as-of-answers h v r e =
-      let l : AsOfSays s (leafPage b es) (recordsOf es) probe v (AsOf.Refused r) = rw e at (as-of-list v) in
-      let z : true ≡ false = sym h ∙ l .1 .lacks in
-      let y : _≡_ {A = ℕ} 0 1 = cc in
-      omega arith
+  -- every probe is answered
+  pub as-of-answers : (v : Ver) (r : Refusal) → asOfAt s a probe v ≡ AsOf.Refused r → ⊥
+  as-of-answers v r e = subst (AsOfSays s (recordsOf es) probe v) e (as-of-list v)
 
   -- ---- as of the largest version it is what search finds
 
@@ -94,7 +83,7 @@ module _ (s : List ℕ) (a : Addr) (b : Borders) (es : List Entry) (means : mean
   unfolding leafPage
   as-of-largest wide = beside largest ∙ go (searchAt s a probe) (search-says s a (leafPage b es) means probe (grouped es) refl)
     where
-      go : (r : Found) → FoundSays s (leafPage b es) (grouped es) probe r → besideOf s largest r ≡ asFound r
+      go : (r : Found) → FoundSays s (grouped es) probe r → besideOf s largest r ≡ asFound r
       go (Found.Is i ver h x n) f = let e : newerThan ver largest ≡ false = ap (λ (u : Ver). newerThan u largest) (f .ver) ∙ heads-plain es wide i in rw e refl
       go (Found.Nothing n) f = refl
       go (Found.Refused r) f = refl

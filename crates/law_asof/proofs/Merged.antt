@@ -2,11 +2,8 @@
 -- Assumes nothing.
 use Prim.Native.Nat.{ℕ}
 use mathlib.Core.Path.{_≡_, subst}
-use mathlib.Core.Bool.{true}
 use mathlib.Core.List.{List}
-use lib.ListN.{take}
 use Rattle.order.specs.declared.Ver.{Ver}
-use Rattle.order.specs.Order.{startsWith}
 use Rattle.frames.specs.declared.Addr.{Addr}
 use Rattle.frames.specs.declared.Refusal.{Refusal}
 use Rattle.build_sources.specs.Source.{Entry}
@@ -18,7 +15,7 @@ use Rattle.asof.specs.declared.AsOf.{AsOf}
 use Rattle.asof.specs.AsOf.{asOfAt}
 use Rattle.law_list.specs.Asked.{recordsOf, largest}
 use Rattle.law_merged.specs.Trees.{Tree, Made}
-use Rattle.law_merged.specs.Joined.{entriesIn, boundsOf, recordList, leafOf}
+use Rattle.law_merged.specs.Joined.{entriesIn, boundsOf, recordList}
 use Rattle.law_merged.proofs.Lists.{one-records, one-marked, one-wide}
 use Rattle.law_merged.proofs.Trees.{leaf-made, leaf-wide}
 use Rattle.law_asof.specs.Asked.{AsOfSays}
@@ -33,12 +30,12 @@ module _ (t : Tree) (s : List ℕ) (mark : ℕ) (p : Addr) (made : Made newAnswe
   all = entriesIn 0 t
 
   -- from whatever list the record came
-  pub merged-as-of : (v : Ver) → AsOfSays s (leafOf t) (recordsOf all) probe v (asOfAt s p probe v)
+  pub merged-as-of : (v : Ver) → AsOfSays s (recordsOf all) probe v (asOfAt s p probe v)
   merged-as-of v =
-      subst (λ (rs : List Listed). AsOfSays s (leafOf t) rs probe v (asOfAt s p probe v)) (one-records all)
+      subst (λ (rs : List Listed). AsOfSays s rs probe v (asOfAt s p probe v)) (one-records all)
       (as-of-list s p b (recordList t) (leaf-made t s mark p made) (one-marked all) probe v)
 
-  pub merged-as-of-answers : startsWith (take (b .prefix) (b .lo)) probe ≡ true → (v : Ver) (r : Refusal) → asOfAt s p probe v ≡ AsOf.Refused r → ⊥
+  pub merged-as-of-answers : (v : Ver) (r : Refusal) → asOfAt s p probe v ≡ AsOf.Refused r → ⊥
   merged-as-of-answers = as-of-answers s p b (recordList t) (leaf-made t s mark p made) (one-marked all) probe
 
   pub merged-as-of-largest : asOfAt s p probe largest ≡ asFound (searchAt s p probe)

@@ -3,13 +3,11 @@
 -- Assumes nothing.
 use Prim.Native.Nat.{ℕ, _^_, _≤_, _<_}
 use mathlib.Core.Path.{_≡_, refl}
-use mathlib.Core.Bool.{true}
 use mathlib.Core.List.{List}
 use native.Mathlib.Omega.{arith}
 use lib.ListN.{length, take}
 use Rattle.numbers.specs.Number.{Bytes}
 use Rattle.order.specs.declared.Ver.{Ver}
-use Rattle.order.specs.Order.{startsWith}
 use Rattle.frames.specs.declared.Addr.{Addr}
 use Rattle.frames.specs.declared.Refusal.{Refusal}
 use Rattle.pages.specs.Meaning.{says, meaning}
@@ -19,7 +17,6 @@ use Rattle.build_sources.specs.Marks.{Marked}
 use Rattle.build_sources.proofs.Marked.{list-wide, marked}
 use Rattle.build_image.specs.declared.Call.{Call}
 use Rattle.build_image.specs.declared.Built.{Built}
-use Rattle.build_image.specs.Prefix.{common}
 use Rattle.build_image.specs.Image.{Borders}
 use Rattle.base.specs.Calls.{boundsFrom, listed, newAnswer, newArena}
 use Rattle.sst.specs.Search.{searchAt}
@@ -49,10 +46,10 @@ module _ (a : List ℕ) (next : ℕ) (l : List ℕ) (m : Call) (lo hi : List ℕ
   marks : Marked es
   marks = marked l (take next a) (firstOf 0) refl
 
-  pub new-as-of : (v : Ver) → AsOfSays s (leafPage b es) (recordsOf es) probe v (asOfAt s p probe v)
+  pub new-as-of : (v : Ver) → AsOfSays s (recordsOf es) probe v (asOfAt s p probe v)
   new-as-of = as-of-list s p b es means marks probe
 
-  pub new-as-of-answers : startsWith (take (common lo hi) lo) probe ≡ true → (v : Ver) (r : Refusal) → asOfAt s p probe v ≡ AsOf.Refused r → ⊥
+  pub new-as-of-answers : (v : Ver) (r : Refusal) → asOfAt s p probe v ≡ AsOf.Refused r → ⊥
   new-as-of-answers = as-of-answers s p b es means marks probe
 
   pub new-as-of-largest : asOfAt s p probe largest ≡ asFound (searchAt s p probe)

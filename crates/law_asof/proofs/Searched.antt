@@ -1,4 +1,4 @@
--- The lookup beside search: wherever search does not refuse the page with 4, the answer is a function of what search finds; its slot and
+-- The lookup beside search: wherever search does not refuse the page, the answer is a function of what search finds; its slot and
 -- its keys read are search's.
 -- Assumes nothing.
 use Prim.Native.Nat.{ℕ, _+_}
@@ -37,9 +37,8 @@ use Rattle.sst.specs.declared.Found.{Found}
 use Rattle.sst.specs.declared.Halved.{Halved}
 use Rattle.sst.specs.declared.Outcome.{Outcome}
 use Rattle.sst.specs.Search.{leaves, outcomeAt, foundRec, headIn, searchOf, searchAt}
-use Rattle.sst.specs.Says.{Lacks}
 use Rattle.sst.proofs.Opens.{outcome-ready, leaf-kind}
-use Rattle.sst.proofs.Answers.{search-seven, search-not-four}
+use Rattle.sst.proofs.Answers.{search-answers}
 use Rattle.search_head.specs.Head.{headSlot, headOf, headAt}
 use Rattle.asof.specs.declared.AsOf.{AsOf}
 use Rattle.asof.specs.AsOf.{headPick, oldEnter, olderVal, olderAsOf, asOfHead, asOfAt}
@@ -118,13 +117,13 @@ module _ (s : List ℕ) (a : Addr) (probe : List ℕ) (v : Ver) where
 
   of-outcome : (o : Outcome) → outcomeAt s a probe leaves ≡ o → (searchOf s o ≡ Found.Refused Refusal.BadFrame → ⊥) → asOfHead s v (headOf s o) ≡ besideOf s v (searchOf s o)
   unfolding headIn
-  of-outcome (Outcome.Halves b (Halved.At i n)) q f =
+  of-outcome (Outcome.Stands b (Halved.At i n)) q f =
       let g = outcome-ready s a probe leaves b (Halved.At i n) q .0 in
       of-record b i n (g .inside) (leaf-kind (b .kind) (g .right)) (recAt s b i) refl f
-  of-outcome (Outcome.Halves b (Halved.End p n)) q f = refl
-  of-outcome (Outcome.Halves b Halved.Bad) q f = absurd (f refl)
+  of-outcome (Outcome.Stands b (Halved.End p n)) q f = refl
+  of-outcome (Outcome.Stands b Halved.Bad) q f = absurd (f refl)
   of-outcome Outcome.Empty q f = refl
-  of-outcome (Outcome.Refused r) q f = refl
+  of-outcome Outcome.Bad q f = absurd (f refl)
 
   pub as-of-searched : (searchAt s a probe ≡ Found.Refused Refusal.BadFrame → ⊥) → asOfAt s a probe v ≡ besideOf s v (searchAt s a probe)
   unfolding asOfAt headAt searchAt
@@ -140,11 +139,7 @@ asFound (Found.Refused r) = AsOf.Refused r
 
 module _ (s : List ℕ) (a : Addr) (p : Page) (m : meaning s a ≡ says p) (probe : List ℕ) (hs : List Head) (e : p .rows ≡ leaf hs) (v : Ver) where
   pub as-of-beside : asOfAt s a probe v ≡ besideOf s v (searchAt s a probe)
-  as-of-beside = as-of-searched s a probe v (search-not-four s a p m probe hs e)
-
-  -- "7 .. as for a search"
-  pub as-of-seven : Lacks p probe → asOfAt s a probe v ≡ AsOf.Refused Refusal.WrongPrefix
-  as-of-seven l = as-of-beside ∙ ap (besideOf s v) (search-seven s a p m probe l hs e)
+  as-of-beside = as-of-searched s a probe v (search-answers s a p m probe Refusal.BadFrame hs e)
 
 -- the history of what search found there is sound
 abbrev pub Resolves : List ℕ → Found → Type 0
@@ -163,13 +158,13 @@ module _ (s : List ℕ) (a : Addr) (p : Page) (m : meaning s a ≡ says p) (prob
 
   resolves : (o : Outcome) → outcomeAt s a probe leaves ≡ o → Resolves s (searchOf s o)
   unfolding headIn
-  resolves (Outcome.Halves b (Halved.At i n)) q =
+  resolves (Outcome.Stands b (Halved.At i n)) q =
       let g = outcome-ready s a probe leaves b (Halved.At i n) q .0 in
       of-sound b i n (g .opened) (leaf-kind (b .kind) (g .right)) (recAt s b i) refl
-  resolves (Outcome.Halves b (Halved.End j n)) q = tt
-  resolves (Outcome.Halves b Halved.Bad) q = tt
+  resolves (Outcome.Stands b (Halved.End j n)) q = tt
+  resolves (Outcome.Stands b Halved.Bad) q = tt
   resolves Outcome.Empty q = tt
-  resolves (Outcome.Refused r) q = tt
+  resolves Outcome.Bad q = tt
 
   pub search-resolves : Resolves s (searchAt s a probe)
   unfolding searchAt

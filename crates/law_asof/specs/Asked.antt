@@ -6,10 +6,7 @@ use mathlib.Core.Bool.{Bool, not, _&&_, cond}
 use mathlib.Core.List.{List, [], _∷_}
 use Rattle.order.specs.declared.Ver.{Ver}
 use Rattle.order.specs.Version.{newerThan}
-use Rattle.frames.specs.declared.Refusal.{Refusal}
 use Rattle.pages.specs.Boundaries.{partIn}
-use Rattle.pages.specs.Meaning.{Page}
-use Rattle.sst.specs.Says.{Lacks}
 use Rattle.walks.specs.Listed.{Entry as Listed}
 use Rattle.asof.specs.declared.AsOf.{AsOf}
 use Rattle.law_list.specs.Asked.{same}
@@ -27,8 +24,8 @@ abbrev pub wanted : List ℕ → Ver → Listed → Bool
 wanted probe v r = same probe (r .key) && noNewer v r
 
 -- the answer over the records of the list: "the newest record of that key that is no newer", with its own version and its value's bytes;
--- none "if all are newer or the key is absent"; 7 "as for a search", and nothing else is refused
-abbrev pub AsOfSays : List ℕ → Page → List Listed → List ℕ → Ver → AsOf → Type 0
-AsOfSays s p rs probe v (AsOf.Is i ver x n) = first (wanted probe v) rs ≡ (record { key = probe; ver = ver; value = partIn s x }) ∷ []
-AsOfSays s p rs probe v (AsOf.Nothing n) = first (wanted probe v) rs ≡ []
-AsOfSays s p rs probe v (AsOf.Refused r) = (r ≡ Refusal.WrongPrefix) × Lacks p probe
+-- none "if all are newer or the key is absent"; never a refusal
+abbrev pub AsOfSays : List ℕ → List Listed → List ℕ → Ver → AsOf → Type 0
+AsOfSays s rs probe v (AsOf.Is i ver x n) = first (wanted probe v) rs ≡ (record { key = probe; ver = ver; value = partIn s x }) ∷ []
+AsOfSays s rs probe v (AsOf.Nothing n) = first (wanted probe v) rs ≡ []
+AsOfSays s rs probe v (AsOf.Refused r) = ⊥

@@ -10,7 +10,6 @@ use lib.ListN.{length, take}
 use Rattle.spans.specs.Span.{put}
 use Rattle.numbers.specs.Number.{Bytes}
 use Rattle.order.specs.declared.Ver.{Ver}
-use Rattle.order.specs.Order.{startsWith}
 use Rattle.frames.specs.declared.Addr.{Addr}
 use Rattle.frames.specs.Layout.{addr}
 use Rattle.pages.specs.declared.Checked.{Checked}
@@ -97,13 +96,13 @@ module _ (a : List ℕ) (next : ℕ) (l : List ℕ) (m : Call) (lo hi : List ℕ
       abbrev pre : List ℕ
       pre = take (common lo hi) lo
 
-      -- walked whole; between two lower bounds; floor
+      -- walked whole; between any two lower bounds; floor
       pub index-lists : Leads s pre (forwardAt s p 0 (length es)) (childrenOf es)
       index-lists = leads-all s p b es index-says
 
-      pub index-range : (v : Ver) (x y : List ℕ) → startsWith pre x ≡ true → startsWith pre y ≡ true
+      pub index-range : (v : Ver) (x y : List ℕ)
           → Leads s pre (forwardAt s p (posOf (lowerAt s p x v)) (posOf (lowerAt s p y v))) (childrenOf (having keyIs (between x y) es))
-      index-range v x y f g = leads-range s p b es index-says v x y f g
+      index-range v x y = leads-range s p b es index-says v x y
 
-      pub index-floor : (probe : List ℕ) → FloorSays (indexPage b es) (childrenOf es) probe (floorAt s p probe)
+      pub index-floor : (probe : List ℕ) → FloorSays (childrenOf es) probe (floorAt s p probe)
       index-floor probe = floor-list s p b es index-says probe

@@ -10,7 +10,6 @@ use lib.IntN.{pos}
 use lib.ListN.{length, take}
 use Rattle.spans.specs.Span.{put}
 use Rattle.numbers.specs.Number.{Bytes}
-use Rattle.order.specs.Order.{startsWith}
 use Rattle.frames.specs.declared.Addr.{Addr}
 use Rattle.frames.specs.Layout.{addr}
 use Rattle.pages.specs.Meaning.{Page, says, meaning}
@@ -106,15 +105,15 @@ module _ (a : List ℕ) (next : ℕ) (l : List ℕ) (m : Call) (lo hi : List ℕ
       pub leaf-all-back : 0 < length (heads es) → Lists s pre (backwardAt s p (pos (length (heads es) - 1)) (pos 0)) (entriesOf (reverse (grouped es)))
       leaf-all-back l = lists-all-back s p b es leaf-says (fit .marks) l
 
-      -- between two lower bounds, the list's records of that range, either way
-      pub leaf-range : (x y : List ℕ) → startsWith pre x ≡ true → startsWith pre y ≡ true
+      -- between any two lower bounds, the list's records of that range, either way
+      pub leaf-range : (x y : List ℕ)
           → Lists s pre (forwardAt s p (posOf (lowerAt s p x largest)) (posOf (lowerAt s p y largest))) (recordsOf (having keyIs (between x y) es))
-      leaf-range x y f g = lists-range s p b es leaf-says (fit .marks) wide x y f g
+      leaf-range x y = lists-range s p b es leaf-says (fit .marks) wide x y
 
-      pub leaf-back : (x y : List ℕ) → startsWith pre x ≡ true → startsWith pre y ≡ true → posOf (lowerAt s p x largest) < posOf (lowerAt s p y largest)
+      pub leaf-back : (x y : List ℕ) → posOf (lowerAt s p x largest) < posOf (lowerAt s p y largest)
           → Lists s pre (backwardAt s p (pos (posOf (lowerAt s p y largest) - 1)) (pos (posOf (lowerAt s p x largest)))) (entriesOf (reverse (grouped (having keyIs (between x y) es))))
-      leaf-back x y f g h = lists-back s p b es leaf-says (fit .marks) wide x y f g h
+      leaf-back x y h = lists-back s p b es leaf-says (fit .marks) wide x y h
 
       -- a search finds the key's first record in the list with all its older versions, or the list has none
-      pub leaf-search : (probe : List ℕ) → SearchSays s (leafPage b es) es probe (searchAt s p probe)
+      pub leaf-search : (probe : List ℕ) → SearchSays s es probe (searchAt s p probe)
       leaf-search probe = search-list s p b es leaf-says (fit .marks) probe

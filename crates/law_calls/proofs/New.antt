@@ -8,7 +8,6 @@ use mathlib.Core.List.{List, reverse}
 use lib.IntN.{pos}
 use lib.ListN.{length, take}
 use Rattle.numbers.specs.Number.{Bytes}
-use Rattle.order.specs.Order.{startsWith}
 use Rattle.frames.specs.declared.Addr.{Addr}
 use Rattle.frames.proofs.Frames.{and-l, and-r}
 use Rattle.pages.specs.declared.Checked.{Checked}
@@ -84,18 +83,18 @@ module _ (a : List ℕ) (next : ℕ) (l : List ℕ) (m : Call) (lo hi : List ℕ
   unfolding newAnswer newArena leafEnd leafAt
   new-all-back = leaf-all-back a next l m lo hi sibling bytes word numbers id ok (limits m lo hi) p end built (newArena a next l m b) refl s long same
 
-  -- between two lower bounds, the list's records of that range, either way
-  pub new-range : (x y : List ℕ) → startsWith pre x ≡ true → startsWith pre y ≡ true
+  -- between any two lower bounds, the list's records of that range, either way
+  pub new-range : (x y : List ℕ)
       → Lists s pre (forwardAt s p (posOf (lowerAt s p x largest)) (posOf (lowerAt s p y largest))) (recordsOf (having keyIs (between x y) es))
   unfolding newAnswer newArena leafEnd leafAt
   new-range = leaf-range a next l m lo hi sibling bytes word numbers id ok (limits m lo hi) p end built (newArena a next l m b) refl s long same
 
-  pub new-back : (x y : List ℕ) → startsWith pre x ≡ true → startsWith pre y ≡ true → posOf (lowerAt s p x largest) < posOf (lowerAt s p y largest)
+  pub new-back : (x y : List ℕ) → posOf (lowerAt s p x largest) < posOf (lowerAt s p y largest)
       → Lists s pre (backwardAt s p (pos (posOf (lowerAt s p y largest) - 1)) (pos (posOf (lowerAt s p x largest)))) (entriesOf (reverse (grouped (having keyIs (between x y) es))))
   unfolding newAnswer newArena leafEnd leafAt
   new-back = leaf-back a next l m lo hi sibling bytes word numbers id ok (limits m lo hi) p end built (newArena a next l m b) refl s long same
 
   -- a search finds the key's first record in the list with all its older versions, or the list has none
-  pub new-search : (probe : List ℕ) → SearchSays s (leafPage b es) es probe (searchAt s p probe)
+  pub new-search : (probe : List ℕ) → SearchSays s es probe (searchAt s p probe)
   unfolding newAnswer newArena leafEnd leafAt
   new-search = leaf-search a next l m lo hi sibling bytes word numbers id ok (limits m lo hi) p end built (newArena a next l m b) refl s long same

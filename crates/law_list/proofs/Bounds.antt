@@ -10,10 +10,10 @@ use lib.ListN.{getD}
 use lib.Dec.{eqb}
 use Rattle.order.specs.declared.Order.{Order}
 use Rattle.order.specs.declared.Ver.{Ver}
-use Rattle.order.specs.Order.{cmpBytes, startsWith}
+use Rattle.order.specs.Order.{cmpBytes}
 use Rattle.order.specs.Version.{newerThan}
 use Rattle.pages.specs.Sound.{isLess}
-use Rattle.pages.specs.Meaning.{Head, Child, Page, Rows, leaf, index}
+use Rattle.pages.specs.Meaning.{Head, Child, Rows, leaf, index}
 use Rattle.build_sources.specs.Source.{Entry}
 use Rattle.build_sources.specs.Marks.{Each, Wide}
 use Rattle.sst.specs.declared.Bound.{Bound}
@@ -63,7 +63,7 @@ earlier-less Order.Less = refl
 earlier-less Order.Equal = refl
 earlier-less Order.Greater = refl
 
--- where the probe begins with the prefix, the bound is a position, and the rows below it are those with a lesser key
+-- the bound is a position, and the rows below it are those with a lesser key
 pub record Cuts (rows : Rows) (v : Ver) (probe : List ℕ) (q : ℕ) : Type 0 where
   pub inside : q ≤ rowCount rows
   pub before : (i : ℕ) → i < q → isLess (cmpBytes (rowKey rows i) probe) ≡ true
@@ -80,13 +80,10 @@ cuts-first rows v probe q n l f =
       behind = λ i h m. sym (less-row rows v probe i (n i)) ∙ f .behind i h m;
     }
 
-no : {A : Type 0} → true ≡ false → A
-no e = absurd (let z : _≡_ {A = ℕ} 0 1 = cc in omega arith)
-
-pub bound-cuts : (p : Page) (probe : List ℕ) (v : Ver) → ((i : ℕ) → rowNewer (p .rows) v i ≡ false) → startsWith (p .prefix) probe ≡ true → (r : Bound) → BoundSays p probe v r → Cuts (p .rows) v probe (posOf r)
-bound-cuts p probe v n h (Bound.At q k) f = cuts-first (p .rows) v probe q n (omega (arith, f .0)) (f .1)
-bound-cuts p probe v n h (Bound.PastEnd q k) f = cuts-first (p .rows) v probe q n (omega (arith, f .0)) (f .1)
-bound-cuts p probe v n h (Bound.Refused r) f = no (sym h ∙ f .1 .lacks)
+pub bound-cuts : (rows : Rows) (probe : List ℕ) (v : Ver) → ((i : ℕ) → rowNewer rows v i ≡ false) → (r : Bound) → BoundSays rows probe v r → Cuts rows v probe (posOf r)
+bound-cuts rows probe v n (Bound.At q k) f = cuts-first rows v probe q n (omega (arith, f .0)) (f .1)
+bound-cuts rows probe v n (Bound.PastEnd q k) f = cuts-first rows v probe q n (omega (arith, f .0)) (f .1)
+bound-cuts rows probe v n (Bound.Refused r) f = absurd f
 
 -- of a leaf's heads, of an index page's children
 pub heads-cut : (hs : List Head) (v : Ver) (probe : List ℕ) (q : ℕ) → Cuts (leaf hs) v probe q → CutAt keyed probe q hs

@@ -8,7 +8,6 @@ use native.Mathlib.Omega.{arith}
 use lib.ListN.{length, take, drop}
 use lib.Seq.{take-length}
 use Rattle.order.specs.declared.Ver.{Ver}
-use Rattle.order.specs.Order.{startsWith}
 use Rattle.frames.specs.declared.Addr.{Addr}
 use Rattle.pages.specs.Meaning.{Child, index, says, meaning}
 use Rattle.build_sources.specs.Source.{Entry}
@@ -53,28 +52,28 @@ module _ (s : List ℕ) (a : Addr) (b : Borders) (es : List Entry) (means : mean
       subst (λ (n : ℕ). Leads s pre (forwardAt s a 0 n) cs) (children-many es)
       (subst (λ (l : List Child). Leads s pre (forwardAt s a 0 (length cs)) l) e (forward-leads s a (indexPage b es) means cs refl 0 (length cs) (omega arith)))
 
-  -- ---- a range between two lower bounds, with any version
+  -- ---- a range between any two lower bounds, with any version
 
-  module _ (v : Ver) (lo hi : List ℕ) (has-lo : startsWith pre lo ≡ true) (has-hi : startsWith pre hi ≡ true) where
+  module _ (v : Ver) (lo hi : List ℕ) where
     abbrev i : ℕ
     i = posOf (lowerAt s a lo v)
 
     abbrev j : ℕ
     j = posOf (lowerAt s a hi v)
 
-    cuts : (probe : List ℕ) → startsWith pre probe ≡ true → Cuts (index cs) v probe (posOf (lowerAt s a probe v))
+    cuts : (probe : List ℕ) → Cuts (index cs) v probe (posOf (lowerAt s a probe v))
     unfolding indexPage
-    cuts probe h = bound-cuts (indexPage b es) probe v (λ n. refl) h (lowerAt s a probe v) (lower-says s a (indexPage b es) means probe v)
+    cuts probe = bound-cuts (index cs) probe v (λ n. refl) (lowerAt s a probe v) (lower-says s a (indexPage b es) means probe v)
 
     pub leads-range : Leads s pre (forwardAt s a i j) (childrenOf (having keyIs (between lo hi) es))
     unfolding indexPage
     leads-range =
         subst (λ (l : List Child). Leads s pre (forwardAt s a i j) l)
-        (sym (having-range childKey lo hi cs i j (children-cut cs v lo i (cuts lo has-lo)) (children-cut cs v hi j (cuts hi has-hi))) ∙ children-having (between lo hi) es)
-        (forward-leads s a (indexPage b es) means cs refl i j (cuts hi has-hi .inside))
+        (sym (having-range childKey lo hi cs i j (children-cut cs v lo i (cuts lo)) (children-cut cs v hi j (cuts hi))) ∙ children-having (between lo hi) es)
+        (forward-leads s a (indexPage b es) means cs refl i j (cuts hi .inside))
 
   -- ---- floor: the greatest key of the list not above the probe, or the first
 
-  pub floor-list : (probe : List ℕ) → FloorSays (indexPage b es) (childrenOf es) probe (floorAt s a probe)
+  pub floor-list : (probe : List ℕ) → FloorSays (childrenOf es) probe (floorAt s a probe)
   unfolding indexPage
   floor-list probe = floor-says s a (indexPage b es) means probe cs refl

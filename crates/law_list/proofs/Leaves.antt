@@ -10,7 +10,7 @@ use lib.ListN.{length, take, drop, getD}
 use lib.Seq.{take-length}
 use Rattle.order.specs.declared.Order.{Order}
 use Rattle.order.specs.declared.Ver.{Ver}
-use Rattle.order.specs.Order.{cmpBytes, isEqual, startsWith}
+use Rattle.order.specs.Order.{cmpBytes, isEqual}
 use Rattle.order.proofs.Laws.{case-order, cmp-same, cmp-eq, cmp-less}
 use Rattle.frames.specs.declared.Addr.{Addr}
 use Rattle.values.specs.declared.HistRef.{HistRef}
@@ -82,28 +82,28 @@ module _ (s : List ℕ) (a : Addr) (b : Borders) (es : List Entry) (means : mean
       (ap (λ (k : ℕ). take k hs) z ∙ take-length hs)
       (backward-lists s a (leafPage b es) means hs refl (length (heads es) - 1) 0 (omega arith) (omega (arith, n)))
 
-  -- ---- a range between two lower bounds
+  -- ---- a range between any two lower bounds
 
-  module _ (sized : Each Wide es) (lo hi : List ℕ) (has-lo : startsWith pre lo ≡ true) (has-hi : startsWith pre hi ≡ true) where
+  module _ (sized : Each Wide es) (lo hi : List ℕ) where
     abbrev i : ℕ
     i = posOf (lowerAt s a lo largest)
 
     abbrev j : ℕ
     j = posOf (lowerAt s a hi largest)
 
-    cuts : (probe : List ℕ) → startsWith pre probe ≡ true → Cuts (leaf hs) largest probe (posOf (lowerAt s a probe largest))
+    cuts : (probe : List ℕ) → Cuts (leaf hs) largest probe (posOf (lowerAt s a probe largest))
     unfolding leafPage
-    cuts probe h = bound-cuts (leafPage b es) probe largest (heads-plain es sized) h (lowerAt s a probe largest) (lower-says s a (leafPage b es) means probe largest)
+    cuts probe = bound-cuts (leaf hs) probe largest (heads-plain es sized) (lowerAt s a probe largest) (lower-says s a (leafPage b es) means probe largest)
 
     range : having keyed (between lo hi) hs ≡ take (j - i) (drop i hs)
-    range = having-range keyed lo hi hs i j (heads-cut hs largest lo i (cuts lo has-lo)) (heads-cut hs largest hi j (cuts hi has-hi))
+    range = having-range keyed lo hi hs i j (heads-cut hs largest lo i (cuts lo)) (heads-cut hs largest hi j (cuts hi))
 
     -- walked forward: exactly the list's records from lo on and below hi, in the list's order
     pub lists-range : Lists s pre (forwardAt s a i j) (recordsOf (having keyIs (between lo hi) es))
     unfolding leafPage
     lists-range =
         subst (λ (l : List Listed). Lists s pre (forwardAt s a i j) l) (ap entriesOf (sym range) ∙ flat-having (between lo hi) es marks)
-        (forward-lists s a (leafPage b es) means hs refl i j (cuts hi has-hi .inside))
+        (forward-lists s a (leafPage b es) means hs refl i j (cuts hi .inside))
 
     -- walked backward: their groups, the last key first, each group newest first
     pub lists-back : i < j → Lists s pre (backwardAt s a (pos (j - 1)) (pos i)) (entriesOf (reverse (grouped (having keyIs (between lo hi) es))))
@@ -112,7 +112,7 @@ module _ (s : List ℕ) (a : Addr) (b : Borders) (es : List Entry) (means : mean
         let z : j - 1 - i + 1 ≡ j - i = omega arith in
         subst (λ (x : List Head). Lists s pre (backwardAt s a (pos (j - 1)) (pos i)) (entriesOf (reverse x)))
         (ap (λ (n : ℕ). take n (drop i hs)) z ∙ sym range ∙ sym (grouped-having (between lo hi) es marks))
-        (backward-lists s a (leafPage b es) means hs refl (j - 1) i (omega arith) (omega (arith, cuts hi has-hi .inside)))
+        (backward-lists s a (leafPage b es) means hs refl (j - 1) i (omega arith) (omega (arith, cuts hi .inside)))
 
   -- ---- a search
 
@@ -143,11 +143,11 @@ module _ (s : List ℕ) (a : Addr) (b : Borders) (es : List Entry) (means : mean
         records-nil (having keyIs (same probe) es)
         (sym (flat-having (same probe) es marks) ∙ ap entriesOf (having-none keyed (same probe) noHead hs (λ i l. unequal ((getD hs i noHead) .key) probe (f i l))))
 
-    pub search-list : SearchSays s (leafPage b es) es probe (searchAt s a probe)
+    pub search-list : SearchSays s es probe (searchAt s a probe)
     unfolding leafPage
     search-list = go (searchAt s a probe) (search-says s a (leafPage b es) means probe hs refl)
       where
-        go : (r : Found) → FoundSays s (leafPage b es) hs probe r → SearchSays s (leafPage b es) es probe r
+        go : (r : Found) → FoundSays s hs probe r → SearchSays s es probe r
         go (Found.Is i v h x n) f = found i v h x f
         go (Found.Nothing n) f = missing f
         go (Found.Refused r) f = f

@@ -7,14 +7,12 @@ use mathlib.Core.List.{List, [], _∷_}
 use Rattle.order.specs.declared.Ver.{Ver}
 use Rattle.order.specs.Order.{cmpBytes, isEqual}
 use Rattle.order.specs.Version.{verOf}
-use Rattle.frames.specs.declared.Refusal.{Refusal}
 use Rattle.pages.specs.Sound.{isLess}
 use Rattle.pages.specs.Boundaries.{partIn}
-use Rattle.pages.specs.Meaning.{Page, oldsFrom}
+use Rattle.pages.specs.Meaning.{oldsFrom}
 use Rattle.build_sources.specs.Source.{Entry}
 use Rattle.sst.specs.declared.Bound.{Bound}
 use Rattle.sst.specs.declared.Found.{Found}
-use Rattle.sst.specs.Says.{Lacks}
 use Rattle.walks.specs.Listed.{Entry as Listed, olderEntries}
 
 -- the records of a list, as a walk lists them: whole key, version, value
@@ -47,9 +45,9 @@ posOf (Bound.At q n) = q
 posOf (Bound.PastEnd q n) = q
 posOf (Bound.Refused r) = 0
 
--- a search's answer over the list: the first record of the key with all its older versions behind it in order, or the list has none
-abbrev pub SearchSays : List ℕ → Page → List Entry → List ℕ → Found → Type 0
-SearchSays s p es probe (Found.Is i v h x n) =
+-- a search's answer over the list, never a refusal: the first record of the key with all its older versions behind it in order, or the list has none
+abbrev pub SearchSays : List ℕ → List Entry → List ℕ → Found → Type 0
+SearchSays s es probe (Found.Is i v h x n) =
     recordsOf (having keyIs (same probe) es) ≡ (record { key = probe; ver = v; value = partIn s x }) ∷ olderEntries probe (oldsFrom s (h .count) (h .page) (h .slot))
-SearchSays s p es probe (Found.Nothing n) = having keyIs (same probe) es ≡ []
-SearchSays s p es probe (Found.Refused r) = (r ≡ Refusal.WrongPrefix) × Lacks p probe
+SearchSays s es probe (Found.Nothing n) = having keyIs (same probe) es ≡ []
+SearchSays s es probe (Found.Refused r) = ⊥

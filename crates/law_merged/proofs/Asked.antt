@@ -3,12 +3,10 @@
 -- Assumes nothing.
 use Prim.Native.Nat.{ℕ, _-_, _<_}
 use mathlib.Core.Path.{_≡_, subst}
-use mathlib.Core.Bool.{true}
 use mathlib.Core.List.{List, reverse}
 use lib.IntN.{pos}
 use lib.ListN.{length, take}
 use Rattle.order.specs.declared.Ver.{Ver}
-use Rattle.order.specs.Order.{startsWith}
 use Rattle.frames.specs.declared.Addr.{Addr}
 use Rattle.pages.specs.declared.Checked.{Checked}
 use Rattle.pages.specs.Meaning.{says, meaning, checkOf}
@@ -68,19 +66,19 @@ module _ (t : Tree) (s : List ℕ) (mark : ℕ) (p : Addr) (made : Made newAnswe
   pub merged-all-back : 0 < length (heads es) → Lists s pre (backwardAt s p (pos (length (heads es) - 1)) (pos 0)) (entriesOf (reverse (grouped es)))
   merged-all-back h = lists-all-back s p b es merged-says marks h
 
-  -- between two lower bounds, the records of that range, either way
-  pub merged-range : (x y : List ℕ) → startsWith pre x ≡ true → startsWith pre y ≡ true
+  -- between any two lower bounds, the records of that range, either way
+  pub merged-range : (x y : List ℕ)
       → Lists s pre (forwardAt s p (posOf (lowerAt s p x largest)) (posOf (lowerAt s p y largest))) (recordsOf (having keyIs (between x y) all))
-  merged-range x y f g =
+  merged-range x y =
       subst (λ (l : List Listed). Lists s pre (forwardAt s p (posOf (lowerAt s p x largest)) (posOf (lowerAt s p y largest))) l)
-      (same-having (between x y) es all (one-records all)) (lists-range s p b es merged-says marks wide x y f g)
+      (same-having (between x y) es all (one-records all)) (lists-range s p b es merged-says marks wide x y)
 
-  pub merged-back : (x y : List ℕ) → startsWith pre x ≡ true → startsWith pre y ≡ true → posOf (lowerAt s p x largest) < posOf (lowerAt s p y largest)
+  pub merged-back : (x y : List ℕ) → posOf (lowerAt s p x largest) < posOf (lowerAt s p y largest)
       → Lists s pre (backwardAt s p (pos (posOf (lowerAt s p y largest) - 1)) (pos (posOf (lowerAt s p x largest)))) (entriesOf (reverse (grouped (having keyIs (between x y) es))))
-  merged-back x y f g h = lists-back s p b es merged-says marks wide x y f g h
+  merged-back x y h = lists-back s p b es merged-says marks wide x y h
 
   -- a search finds the key's first record with all its older versions, from whatever list, or no list has one
-  pub merged-search : (probe : List ℕ) → SearchSays s (leafOf t) es probe (searchAt s p probe)
+  pub merged-search : (probe : List ℕ) → SearchSays s es probe (searchAt s p probe)
   merged-search probe = search-list s p b es merged-says marks probe
 
 -- ---- index pages
@@ -101,9 +99,9 @@ module _ (t : Tree) (s : List ℕ) (mark : ℕ) (p : Addr) (made : Made newIndex
   pub branches-lists : Leads s front (forwardAt s p 0 (length (entriesIn 1 t))) (childrenOf (entriesIn 1 t))
   branches-lists = leads-all s p c (entriesIn 1 t) branches-says
 
-  pub branches-range : (v : Ver) (x y : List ℕ) → startsWith front x ≡ true → startsWith front y ≡ true
+  pub branches-range : (v : Ver) (x y : List ℕ)
       → Leads s front (forwardAt s p (posOf (lowerAt s p x v)) (posOf (lowerAt s p y v))) (childrenOf (having keyIs (between x y) (entriesIn 1 t)))
-  branches-range v x y f g = leads-range s p c (entriesIn 1 t) branches-says v x y f g
+  branches-range v x y = leads-range s p c (entriesIn 1 t) branches-says v x y
 
-  pub branches-floor : (probe : List ℕ) → FloorSays (indexOf t) (childrenOf (entriesIn 1 t)) probe (floorAt s p probe)
+  pub branches-floor : (probe : List ℕ) → FloorSays (childrenOf (entriesIn 1 t)) probe (floorAt s p probe)
   branches-floor probe = floor-list s p c (entriesIn 1 t) branches-says probe

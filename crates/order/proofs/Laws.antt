@@ -1,9 +1,9 @@
 -- The order of byte strings is total, equal only on the same bytes, and puts a proper prefix first.
 -- Assumes nothing.
-use mathlib.Core.Path.{_≡_, refl, sym, ap, ap₂, _∙_}
+use mathlib.Core.Path.{_≡_, refl, sym, ap, ap₂, _∙_, subst}
 use mathlib.Core.List.{List, [], _∷_, _++_}
 use mathlib.Core.Bool.{Bool, true, false, cond}
-use Prim.Native.Nat.{ℕ, zero, suc, _≤_, _<_}
+use Prim.Native.Nat.{ℕ, zero, suc, _≤_, _<_, suc-le-suc, zero-le}
 use native.Mathlib.Nat.{lt-of-not-le, le-antisymm}
 use native.Mathlib.Decide.{decLe}
 use native.Mathlib.Omega.{arith}
@@ -107,6 +107,20 @@ cmp-prefix (x ∷ xs) y ys = is-same x x (cmpBytes xs (xs ++ y ∷ ys)) refl ∙
 
 -- ---- a beginning
 
+-- where p is no beginning of x, what stands behind p does not count
+pub cmp-beside : (p r x : List ℕ) → startsWith p x ≡ false → cmpBytes (p ++ r) x ≡ cmpBytes p x
+unfolding startsWith cmpBytes
+cmp-beside [] r x e = absurd (let z : _≡_ {A = ℕ} 0 1 = cc in omega arith)
+cmp-beside (c ∷ p) r [] e = refl
+cmp-beside (c ∷ p) r (y ∷ x) e =
+    case-order c y
+    (λ h. is-less c y (cmpBytes (p ++ r) x) h ∙ sym (is-less c y (cmpBytes p x) h))
+    (λ h.
+    is-same c y (cmpBytes (p ++ r) x) h
+    ∙ cmp-beside p r x (sym (ap (λ (b : Bool). cond b (startsWith p x) false) (eq-eqb c y h)) ∙ e)
+    ∙ sym (is-same c y (cmpBytes p x) h))
+    (λ h. is-greater c y (cmpBytes (p ++ r) x) h ∙ sym (is-greater c y (cmpBytes p x) h))
+
 pub starts-cmp : (p s : List ℕ) → length p ≤ length s → startsWith p s ≡ isEqual (cmpBytes p (take (length p) s))
 unfolding startsWith cmpBytes
 starts-cmp [] s h = refl
@@ -129,6 +143,23 @@ starts-short (x ∷ p) (y ∷ s) h =
     (λ l. ap (λ (b : Bool). cond b (startsWith p s) false) (eq-eqb x y l) ∙ starts-short p s (omega arith))
     (λ l. ap (λ (b : Bool). cond b (startsWith p s) false) (ne-eqb x y (λ e. omega arith)))
 
+-- a prefix is no longer than what it begins
+pub starts-length : (p y : List ℕ) → startsWith p y ≡ true → length p ≤ length y
+unfolding startsWith
+starts-length [] y e = zero-le
+starts-length (x ∷ xs) [] e = absurd (let z : _≡_ {A = ℕ} 0 1 = cc in omega arith)
+starts-length (x ∷ xs) (y ∷ ys) e = suc-le-suc (starts-length xs ys (go (eqb x y) e))
+  where
+    go : (b : Bool) → cond b (startsWith xs ys) false ≡ true → startsWith xs ys ≡ true
+    go true q = q
+    go false q = absurd (let z : _≡_ {A = ℕ} 0 1 = cc in omega arith)
+
+-- no bytes begin everything
+pub starts-none : (p y : List ℕ) → length p ≡ 0 → startsWith p y ≡ true
+unfolding startsWith
+starts-none [] y e = refl
+starts-none (x ∷ xs) y e = absurd (omega arith)
+
 -- what begins with p is p and a rest, and the other way round
 pub starts-append : (p r : List ℕ) → startsWith p (p ++ r) ≡ true
 unfolding startsWith
@@ -146,3 +177,15 @@ starts-split (x ∷ p) (y ∷ s) e =
     ap₂ (λ (a : ℕ) (r : List ℕ). a ∷ r) (sym l)
     (starts-split p s (sym (ap (λ (b : Bool). cond b (startsWith p s) false) (eq-eqb x y l)) ∙ e)))
     (λ l. let f : cond (eqb x y) (startsWith p s) false ≡ false = ap (λ (b : Bool). cond b (startsWith p s) false) (ne-eqb x y (λ q. omega arith)) in absurd (let z : _≡_ {A = ℕ} 0 1 = cc in omega arith))
+
+pub starts-self : (p : List ℕ) → startsWith p p ≡ true
+unfolding startsWith
+starts-self [] = refl
+starts-self (x ∷ p) = ap (λ (b : Bool). cond b (startsWith p p) false) (eq-eqb x x refl) ∙ starts-self p
+
+-- what does not begin with p is below it or above
+pub cmp-apart : (p x : List ℕ) → startsWith p x ≡ false → cmpBytes p x ≡ Equal → ⊥
+cmp-apart p x e q =
+    let f : startsWith p x ≡ true = subst (λ (y : List ℕ). startsWith p y ≡ true) (cmp-eq p x q) (starts-self p) in
+    let z : _≡_ {A = ℕ} 0 1 = cc in
+    omega arith

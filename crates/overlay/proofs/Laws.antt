@@ -55,7 +55,7 @@ module _ (s : List ℕ) (a : Addr) (t : List ℕ) (d : Addr) (probe : List ℕ) 
     unfolding laidAt
     on = rw k refl
 
-    -- the page's side refuses: 4 for the page, 7 for the probe
+    -- the page's side refuses: 4
     pub bad-page : (r : Refusal) → headAt s a probe ≡ Head.Refused r → laidAt s a t d probe ≡ Laid.Refused r
     unfolding laidBy
     bad-page r e = on ∙ rw e refl
@@ -99,11 +99,11 @@ none-searched s a probe n e = go (outcomeAt s a probe leaves) e
     rec i m RecRead.Bad e′ = let z : _≡_ {A = ℕ} 0 1 = cc in omega arith
 
     go : (o : Outcome) → searchOf s o ≡ Found.Nothing n → headOf s o ≡ Head.Nothing n
-    go (Outcome.Halves b (Halved.At i m)) e′ = absurd (rec i m (recAt s b i) e′)
-    go (Outcome.Halves b (Halved.End p m)) e′ = cc
-    go (Outcome.Halves b Halved.Bad) e′ = absurd (let z : _≡_ {A = ℕ} 0 1 = cc in omega arith)
+    go (Outcome.Stands b (Halved.At i m)) e′ = absurd (rec i m (recAt s b i) e′)
+    go (Outcome.Stands b (Halved.End p m)) e′ = cc
+    go (Outcome.Stands b Halved.Bad) e′ = absurd (let z : _≡_ {A = ℕ} 0 1 = cc in omega arith)
     go Outcome.Empty e′ = cc
-    go (Outcome.Refused r) e′ = absurd (let z : _≡_ {A = ℕ} 0 1 = cc in omega arith)
+    go Outcome.Bad e′ = absurd (let z : _≡_ {A = ℕ} 0 1 = cc in omega arith)
 
 pub page-searched : (s : List ℕ) (a : Addr) (probe : List ℕ) (b : Body) (i : ℕ) (v w : Ver) (h : HistRef) (p : Place) (at m j n : ℕ)
     → headAt s a probe ≡ Head.Is b i v at m → searchAt s a probe ≡ Found.Is j w h p n → pageValue s b i ≡ Laid.Page p

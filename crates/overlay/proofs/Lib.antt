@@ -1,3 +1,4 @@
 pub mod Laws
 pub mod Searched
 pub mod Decided
+pub mod Numbers

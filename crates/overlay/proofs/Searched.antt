@@ -1,4 +1,4 @@
--- The overlay beside search: wherever search does not refuse the page with 4, the overlay's answer is a function of what search finds; so
+-- The overlay beside search: wherever search does not refuse the page, the overlay's answer is a function of what search finds; so
 -- on a sound page it is what document 01 says of the page's own heads.
 -- Assumes nothing.
 use mathlib.Core.Path.{_≡_, refl}
@@ -22,7 +22,7 @@ use Rattle.sst.specs.declared.Outcome.{Outcome}
 use Rattle.sst.specs.Search.{leaves, outcomeAt, foundRec, headIn, searchOf, searchAt}
 use Rattle.sst.specs.Says.{FoundSays}
 use Rattle.sst.proofs.Opens.{outcome-ready}
-use Rattle.sst.proofs.Answers.{search-says, search-not-four}
+use Rattle.sst.proofs.Answers.{search-says, search-answers}
 use Rattle.search_head.specs.Head.{headOf, headSlot, headAt}
 use Rattle.delta.specs.declared.LeafKey.{LeafKey}
 use Rattle.delta.specs.Read.{leafKeyAt}
@@ -45,18 +45,18 @@ module _ (s : List ℕ) (a : Addr) (t : List ℕ) (d : Addr) (probe : List ℕ) 
 
   of-outcome : (o : Outcome) → outcomeAt s a probe leaves ≡ o → (searchOf s o ≡ Found.Refused Refusal.BadFrame → ⊥) → laidBy s t d mine ver (headOf s o) ≡ beside t d mine ver (searchOf s o)
   unfolding laidBy headIn
-  of-outcome (Outcome.Halves b (Halved.At i n)) q f = of-record b i n (outcome-ready s a probe leaves b (Halved.At i n) q .0 .inside) (recAt s b i) refl f
-  of-outcome (Outcome.Halves b (Halved.End p n)) q f = refl
-  of-outcome (Outcome.Halves b Halved.Bad) q f = absurd (f refl)
+  of-outcome (Outcome.Stands b (Halved.At i n)) q f = of-record b i n (outcome-ready s a probe leaves b (Halved.At i n) q .0 .inside) (recAt s b i) refl f
+  of-outcome (Outcome.Stands b (Halved.End p n)) q f = refl
+  of-outcome (Outcome.Stands b Halved.Bad) q f = absurd (f refl)
   of-outcome Outcome.Empty q f = refl
-  of-outcome (Outcome.Refused r) q f = refl
+  of-outcome Outcome.Bad q f = absurd (f refl)
 
 module _ (s : List ℕ) (a : Addr) (t : List ℕ) (d : Addr) (probe : List ℕ) (ver : Ver) (key : Place) (k : leafKeyAt t d ≡ LeafKey.Is ver key) where
   pub overlay-searched : (searchAt s a probe ≡ Found.Refused Refusal.BadFrame → ⊥) → laidAt s a t d probe ≡ beside t d (isProbe t key probe) ver (searchAt s a probe)
   unfolding laidAt headAt searchAt
   overlay-searched f = rw k (of-outcome s a t d probe (isProbe t key probe) ver (outcomeAt s a probe leaves) refl f)
 
-  -- on a sound leaf page: what search finds is the page's head of that key, none, or 7
+  -- on a sound leaf page: what search finds is the page's head of that key, or none
   pub overlay-says : (p : Page) → meaning s a ≡ says p → (hs : List Head) → p .rows ≡ leaf hs
-      → (laidAt s a t d probe ≡ beside t d (isProbe t key probe) ver (searchAt s a probe)) × FoundSays s p hs probe (searchAt s a probe)
-  overlay-says p m hs e = (overlay-searched (search-not-four s a p m probe hs e), search-says s a p m probe hs e)
+      → (laidAt s a t d probe ≡ beside t d (isProbe t key probe) ver (searchAt s a probe)) × FoundSays s hs probe (searchAt s a probe)
+  overlay-says p m hs e = (overlay-searched (search-answers s a p m probe Refusal.BadFrame hs e), search-says s a p m probe hs e)

@@ -54,7 +54,8 @@ laidBy s t d mine ver (Head.Is b i v at n) = cond (mine && not (newerThan v ver)
 laidBy s t d mine ver (Head.Nothing n) = cond mine (deltaValue t d) Laid.Nothing
 laidBy s t d mine ver (Head.Refused r) = Laid.Refused r
 
--- "Both frames' headers and the delta's key are judged for 4 before the probe for 7": the delta's key first, then the page and the probe
+-- "Both frames' headers and the delta's key are judged for 4": the delta's key first, then the page. A probe without the page's prefix "is no key
+-- of the page" (order 3)
 abbrev pub laidOf : List ℕ → Addr → List ℕ → Addr → List ℕ → LeafKey → Laid
 laidOf s a t d probe (LeafKey.Is ver key) = laidBy s t d (isProbe t key probe) ver (headAt s a probe)
 laidOf s a t d probe (LeafKey.Refused r) = Laid.Refused r

@@ -5,3 +5,4 @@ pub mod Given
 pub mod Rows
 pub mod Says
 pub mod Decided
+pub mod Numbers

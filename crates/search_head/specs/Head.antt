@@ -28,9 +28,9 @@ headIn s b (Halved.End p n) = Head.Nothing n
 headIn s b Halved.Bad = Head.Refused Refusal.BadFrame
 
 abbrev pub headOf : List ℕ → Outcome → Head
-headOf s (Outcome.Halves b h) = headIn s b h
+headOf s (Outcome.Stands b h) = headIn s b h
 headOf s Outcome.Empty = Head.Nothing 0
-headOf s (Outcome.Refused r) = Head.Refused r
+headOf s Outcome.Bad = Head.Refused Refusal.BadFrame
 
 unfoldable pub headAt : List ℕ → Addr → List ℕ → Head
 headAt s a probe = headOf s (outcomeAt s a probe leaves)

@@ -74,8 +74,8 @@ pub fn head_at(s: &[u8], a: Addr, probe: &[u8]) -> Head
         ver: Ver::new(0, 0),
     };
     match sst::halve_at(s, a, probe, w) {
-        Outcome::Refused(r) => Head::Refused(r),
+        Outcome::Bad => Head::Refused(Refusal::BadFrame),
         Outcome::Empty => Head::Nothing { reads: 0 },
-        Outcome::Halves(b, h) => head_in(s, b, h),
+        Outcome::Stands(b, h) => head_in(s, b, h),
     }
 }

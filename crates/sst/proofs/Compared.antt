@@ -19,7 +19,7 @@ use Rattle.sst.specs.Halve.{asked, lowered}
 use Rattle.sst.specs.Search.{newerAt, cmpRead, keyCmp}
 use Rattle.sst.specs.Narrow.{equalAt}
 
-twice : (t : Bool) (x : Cmp) → cond t x x ≡ x
+pub twice : (t : Bool) (x : Cmp) → cond t x x ≡ x
 twice true x = refl
 twice false x = refl
 

@@ -9,12 +9,15 @@ use borrow.Author.Tests.{lt-ltb, le-ltb, ltb-true, ltb-false}
 use lib.ListN.{length}
 use lib.Dec.{ltb}
 use Rattle.order.specs.declared.Ver.{Ver}
+use Rattle.order.specs.Order.{cmpBytes}
 use Rattle.frames.specs.declared.Addr.{Addr}
 use Rattle.frames.specs.declared.Body.{Body}
 use Rattle.frames.specs.declared.Opened.{Opened}
 use Rattle.frames.specs.Layout.{openAt}
 use Rattle.records.specs.declared.RecRead.{RecRead}
 use Rattle.records.specs.Records.{recAt}
+use Rattle.records.specs.Parts.{prefixIn}
+use Rattle.pages.specs.Sound.{isLess}
 use Rattle.sst.specs.declared.Cmp.{Cmp}
 use Rattle.sst.specs.declared.Cmp.the-variants.{Less, Equal, Greater, Refuse}
 use Rattle.sst.specs.declared.Halved.{Halved}
@@ -22,7 +25,7 @@ use Rattle.sst.specs.declared.Want.{Want}
 use Rattle.sst.specs.declared.Outcome.{Outcome}
 use Rattle.sst.specs.declared.Bound.{Bound}
 use Rattle.sst.specs.Halve.{mid, halve, steps}
-use Rattle.sst.specs.Search.{halved, outcomeAt, bound, boundIn, lowerOf, lowerAt, indexes, pageRec, pageIn, floorIn, floorOf, floorAt, leaves, foundRec, headIn, foundIn, searchOf, searchAt}
+use Rattle.sst.specs.Search.{fitsPrefix, halved, elsewhere, probed, outcomeAt, bound, boundIn, lowerOf, lowerAt, indexes, pageRec, pageIn, floorIn, floorOf, floorAt, leaves, foundRec, headIn, foundIn, searchOf, searchAt}
 use Rattle.sst.specs.Says.{boundReads, floorReads, foundReads}
 use Rattle.sst.proofs.Turns.{halve-less, halve-equal, halve-greater, halve-refuse, halve-end}
 use Rattle.sst.proofs.Halving.{readsOf, reads-few}
@@ -66,38 +69,43 @@ found-reads s b Halved.Bad = zero-le
 
 -- "at most the bit length of elems": a number of k bits is below 2 ^ k
 module _ (s : List ℕ) (a : Addr) (probe : List ℕ) (k : ℕ) (few : (b : Body) → openAt s a ≡ Opened.Is b → b .elems < 2 ^ k) where
-  halves-few : (w : Want) (b : Body) (x : Halved) → outcomeAt s a probe w ≡ Outcome.Halves b x → readsOf x ≤ k
-  unfolding halved
-  halves-few w b x e =
+  stands-few : (w : Want) (b : Body) (x : Halved) → outcomeAt s a probe w ≡ Outcome.Stands b x → readsOf x ≤ k
+  unfolding halved elsewhere probed
+  stands-few w b x e =
       let g = outcome-ready s a probe w b x e in
-      subst (λ (y : Halved). readsOf y ≤ k) (g .1) (reads-few _ (b .elems) k (few b (g .0 .opened)))
+      subst (λ (y : Halved). readsOf y ≤ k) (g .1) (by (fitsPrefix s b probe) (isLess (cmpBytes probe (prefixIn s b))) (few b (g .0 .opened)))
+    where
+      by : (f l : Bool) → b .elems < 2 ^ k → readsOf (cond f (halved s b probe w) (cond l (Halved.End 0 0) (Halved.End (b .elems) 0))) ≤ k
+      by true l h = reads-few _ (b .elems) k h
+      by false true h = zero-le
+      by false false h = zero-le
 
   pub lower-few : (v : Ver) → boundReads (lowerAt s a probe v) ≤ k
   unfolding lowerAt
   lower-few v = go (outcomeAt s a probe (bound v)) refl
     where
       go : (o : Outcome) → outcomeAt s a probe (bound v) ≡ o → boundReads (lowerOf o) ≤ k
-      go (Outcome.Halves b x) q = omega (arith, bound-reads (b .elems) x, halves-few (bound v) b x q)
+      go (Outcome.Stands b x) q = omega (arith, bound-reads (b .elems) x, stands-few (bound v) b x q)
       go Outcome.Empty q = zero-le
-      go (Outcome.Refused r) q = zero-le
+      go Outcome.Bad q = zero-le
 
   pub floor-few : floorReads (floorAt s a probe) ≤ k
   unfolding floorAt
   floor-few = go (outcomeAt s a probe indexes) refl
     where
       go : (o : Outcome) → outcomeAt s a probe indexes ≡ o → floorReads (floorOf s o) ≤ k
-      go (Outcome.Halves b x) q = omega (arith, floor-reads s b x, halves-few indexes b x q)
+      go (Outcome.Stands b x) q = omega (arith, floor-reads s b x, stands-few indexes b x q)
       go Outcome.Empty q = zero-le
-      go (Outcome.Refused r) q = zero-le
+      go Outcome.Bad q = zero-le
 
   pub search-few : foundReads (searchAt s a probe) ≤ k
   unfolding searchAt
   search-few = go (outcomeAt s a probe leaves) refl
     where
       go : (o : Outcome) → outcomeAt s a probe leaves ≡ o → foundReads (searchOf s o) ≤ k
-      go (Outcome.Halves b x) q = omega (arith, found-reads s b x, halves-few leaves b x q)
+      go (Outcome.Stands b x) q = omega (arith, found-reads s b x, stands-few leaves b x q)
       go Outcome.Empty q = zero-le
-      go (Outcome.Refused r) q = zero-le
+      go Outcome.Bad q = zero-le
 
 -- the keys read are the halving's steps, one each
 module _ (f : ℕ → Cmp) (k lo hi : ℕ) where

@@ -11,3 +11,4 @@ pub mod Answers
 pub mod Only
 pub mod Places
 pub mod Decided
+pub mod Numbers

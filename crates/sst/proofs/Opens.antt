@@ -1,9 +1,9 @@
 -- What a page that is ready for a search tells.
 -- Assumes nothing.
-use Prim.Native.Nat.{ℕ, _+_, _*_, _-_, _≤_, suc-le-suc, zero-le}
+use Prim.Native.Nat.{ℕ, _+_, _*_, _-_, _≤_}
 use mathlib.Core.Path.{_≡_, refl, sym, ap, _∙_}
 use mathlib.Core.Bool.{Bool, true, false, cond, _||_}
-use mathlib.Core.List.{List, [], _∷_}
+use mathlib.Core.List.{List}
 use native.Mathlib.Omega.{arith}
 use borrow.Author.Tests.{eq-eqb, ne-eqb, eqb-true, eqb-false}
 use lib.ListN.{length, take, drop, length-drop}
@@ -12,11 +12,10 @@ use lib.Dec.{eqb}
 use Rattle.spans.proofs.Part.{length-part}
 use Rattle.spans.proofs.Tests.{ask, dont}
 use Rattle.order.specs.declared.Ver.{Ver}
-use Rattle.order.specs.Order.{startsWith}
+use Rattle.order.proofs.Laws.{starts-length, starts-none}
 use Rattle.frames.specs.declared.Addr.{Addr}
 use Rattle.frames.specs.declared.Body.{Body}
 use Rattle.frames.specs.declared.Opened.{Opened}
-use Rattle.frames.specs.declared.Refusal.{Refusal}
 use Rattle.frames.specs.Layout.{baseLen, openAt, Inside}
 use Rattle.frames.proofs.Frames.{open-inside}
 use Rattle.values.specs.declared.KeyRead.{KeyRead}
@@ -28,25 +27,9 @@ use Rattle.sst.specs.declared.Want.{Want}
 use Rattle.sst.specs.declared.Halved.{Halved}
 use Rattle.sst.specs.declared.Ended.{Ended}
 use Rattle.sst.specs.declared.Outcome.{Outcome}
-use Rattle.sst.specs.Search.{Searchable, ready, empty, refused, rightKind, fitsPrefix, readyOf, readyAt, halved, outcomeOf, outcomeAt, endOf, endedIn, indexes, leaves}
+use Rattle.sst.specs.Search.{Searchable, ready, empty, bad, rightKind, readyOf, readyAt, fitsPrefix, halved, elsewhere, probed, outcomeOf, outcomeAt, endOf, endedIn, indexes, leaves}
 
 -- ---- laws that belong to lower crates
-
--- a prefix is no longer than what it begins (`order`)
-pub starts-length : (p y : List ℕ) → startsWith p y ≡ true → length p ≤ length y
-unfolding startsWith
-starts-length [] y e = zero-le
-starts-length (x ∷ xs) [] e = absurd (let z : _≡_ {A = ℕ} 0 1 = cc in omega arith)
-starts-length (x ∷ xs) (y ∷ ys) e = suc-le-suc (starts-length xs ys (go (eqb x y) e))
-  where
-    go : (b : Bool) → cond b (startsWith xs ys) false ≡ true → startsWith xs ys ≡ true
-    go true q = q
-    go false q = absurd (let z : _≡_ {A = ℕ} 0 1 = cc in omega arith)
-
-pub starts-none : (p y : List ℕ) → length p ≡ 0 → startsWith p y ≡ true
-unfolding startsWith
-starts-none [] y e = refl
-starts-none (x ∷ xs) y e = absurd (omega arith)
 
 -- the key of a slot lies in the page (`records`)
 pub key-at-inside : (s : List ℕ) (b : Body) (i v r n : ℕ) → Inside s b → keyAtSlot s b i ≡ KeyRead.Key v r n → KeyInside b v r n
@@ -69,14 +52,12 @@ tail-part s k = take-all (length s - k) (drop k s) (omega (arith, length-drop k 
 
 -- ---- a page that is ready
 
--- it was opened, it is of a kind that the search takes and has keys, and the probe has its prefix
-pub record IsReady (s : List ℕ) (a : Addr) (probe : List ℕ) (w : Want) (b : Body) : Type 0 where
+-- it was opened, it is of a kind that the search takes, and has keys
+pub record IsReady (s : List ℕ) (a : Addr) (w : Want) (b : Body) : Type 0 where
   pub opened : openAt s a ≡ Opened.Is b
   pub inside : Inside s b
   pub right : rightKind (b .kind) w ≡ true
   pub some : b .elems ≡ 0 → ⊥
-  pub fits : fitsPrefix s b probe ≡ true
-  pub long : b .«prefix_len» ≤ length probe
 
 pub fits-long : (s : List ℕ) (b : Body) (probe : List ℕ) → Inside s b → fitsPrefix s b probe ≡ true → b .«prefix_len» ≤ length probe
 unfolding fitsPrefix
@@ -87,42 +68,31 @@ pub fits-none : (s : List ℕ) (b : Body) (probe : List ℕ) → Inside s b → 
 unfolding fitsPrefix
 fits-none s b probe i e = starts-none (prefixIn s b) probe (prefix-length s b i ∙ e)
 
-pub ready-inside : (s : List ℕ) (a : Addr) (probe : List ℕ) (w : Want) (b : Body) → readyAt s a probe w ≡ ready b → IsReady s a probe w b
+pub ready-inside : (s : List ℕ) (a : Addr) (w : Want) (b : Body) → readyAt s a w ≡ ready b → IsReady s a w b
 unfolding readyAt
-ready-inside s a probe w b e = go (openAt s a) refl e
+ready-inside s a w b e = go (openAt s a) refl e
   where
-    go : (o : Opened) → openAt s a ≡ o → readyOf s probe w o ≡ ready b → IsReady s a probe w b
+    go : (o : Opened) → openAt s a ≡ o → readyOf w o ≡ ready b → IsReady s a w b
     go (Opened.Is d) q e′ =
-        let a1 = ask (rightKind (d .kind) w) _ (refused Refusal.BadFrame) (ready b) (λ n. let z : _≡_ {A = ℕ} 0 1 = cc in omega arith) e′ in
-        let a2 = dont (eqb (d .elems) 0) empty _ (ready b) (λ n. let z : _≡_ {A = ℕ} 0 1 = cc in omega arith) (a1 .1) in
-        let a3 = ask (fitsPrefix s d probe) _ (refused Refusal.WrongPrefix) (ready b) (λ n. let z : _≡_ {A = ℕ} 0 1 = cc in omega arith) (a2 .1) in
+        let a1 = ask (rightKind (d .kind) w) _ bad (ready b) (λ n. let z : _≡_ {A = ℕ} 0 1 = cc in omega arith) e′ in
+        let a2 = dont (eqb (d .elems) 0) empty (ready d) (ready b) (λ n. let z : _≡_ {A = ℕ} 0 1 = cc in omega arith) (a1 .1) in
         let x : d ≡ b = cc in
-        let i = open-inside s a d q .0 in
-        rw (← x) (record { opened = q; inside = i; right = a1 .0; some = eqb-false (d .elems) 0 (a2 .0); fits = a3 .0; long = fits-long s d probe i (a3 .0) })
+        rw (← x) (record { opened = q; inside = open-inside s a d q .0; right = a1 .0; some = eqb-false (d .elems) 0 (a2 .0) })
     go Opened.Bad q e′ = absurd (let z : _≡_ {A = ℕ} 0 1 = cc in omega arith)
 
--- opening a page for a search, by what its headers and its prefix say
-module _ (s : List ℕ) (a : Addr) (probe : List ℕ) (w : Want) (b : Body) (o : openAt s a ≡ Opened.Is b) where
-  pub open-wrong : rightKind (b .kind) w ≡ false → readyAt s a probe w ≡ refused Refusal.BadFrame
+-- opening a page for a search, by what its headers say
+module _ (s : List ℕ) (a : Addr) (w : Want) (b : Body) (o : openAt s a ≡ Opened.Is b) (k : rightKind (b .kind) w ≡ true) where
+  pub open-empty : b .elems ≡ 0 → readyAt s a w ≡ empty
   unfolding readyAt
-  open-wrong k = rw (o, k)
+  open-empty e = rw (o, k, eq-eqb _ _ e)
 
-  module _ (k : rightKind (b .kind) w ≡ true) where
-    pub open-empty : b .elems ≡ 0 → readyAt s a probe w ≡ empty
-    unfolding readyAt
-    open-empty e = rw (o, k, eq-eqb _ _ e)
-
-    pub open-fits : (b .elems ≡ 0 → ⊥) → fitsPrefix s b probe ≡ true → readyAt s a probe w ≡ ready b
-    unfolding readyAt
-    open-fits e f = rw (o, k, ne-eqb _ _ e, f)
-
-    pub open-other : (b .elems ≡ 0 → ⊥) → fitsPrefix s b probe ≡ false → readyAt s a probe w ≡ refused Refusal.WrongPrefix
-    unfolding readyAt
-    open-other e f = rw (o, k, ne-eqb _ _ e, f)
+  pub open-ready : (b .elems ≡ 0 → ⊥) → readyAt s a w ≡ ready b
+  unfolding readyAt
+  open-ready e = rw (o, k, ne-eqb _ _ e)
 
 -- the search of an opened page, by what its header and its prefix say
 module _ (s : List ℕ) (probe : List ℕ) (w : Want) (b : Body) where
-  pub ends-wrong : rightKind (b .kind) w ≡ false → endedIn s b probe w ≡ Ended.Refused Refusal.BadFrame
+  pub ends-wrong : rightKind (b .kind) w ≡ false → endedIn s b probe w ≡ Ended.Bad
   unfolding endedIn
   ends-wrong k = rw k
 
@@ -131,13 +101,13 @@ module _ (s : List ℕ) (probe : List ℕ) (w : Want) (b : Body) where
     unfolding endedIn
     ends-empty e = rw (k, eq-eqb _ _ e)
 
-    pub ends-halves : (b .elems ≡ 0 → ⊥) → fitsPrefix s b probe ≡ true → endedIn s b probe w ≡ Ended.Halves (halved s b probe w)
-    unfolding endedIn
+    pub ends-halves : (b .elems ≡ 0 → ⊥) → fitsPrefix s b probe ≡ true → endedIn s b probe w ≡ Ended.Stands (halved s b probe w)
+    unfolding endedIn probed
     ends-halves e f = rw (k, ne-eqb _ _ e, f)
 
-    pub ends-other : (b .elems ≡ 0 → ⊥) → fitsPrefix s b probe ≡ false → endedIn s b probe w ≡ Ended.Refused Refusal.WrongPrefix
-    unfolding endedIn
-    ends-other e f = rw (k, ne-eqb _ _ e, f)
+    pub ends-elsewhere : (b .elems ≡ 0 → ⊥) → fitsPrefix s b probe ≡ false → endedIn s b probe w ≡ Ended.Stands (elsewhere s b probe)
+    unfolding endedIn probed
+    ends-elsewhere e f = rw (k, ne-eqb _ _ e, f)
 
 -- for a search that looks for no version: its version was made of two zeros
 abbrev pub wants : Bool → Bool → Ver → Want
@@ -148,43 +118,42 @@ end-of s b probe w x r e y h k = ap (endedIn s b probe) (sym y) ∙ sym h ∙ k
 
 -- what it says of the page at an address
 abbrev pub backOf : Body → Ended → Outcome
-backOf b (Ended.Halves h) = Outcome.Halves b h
+backOf b (Ended.Stands h) = Outcome.Stands b h
 backOf b Ended.Empty = Outcome.Empty
-backOf b (Ended.Refused r) = Outcome.Refused r
+backOf b Ended.Bad = Outcome.Bad
 
 pub outcome-ended : (s : List ℕ) (a : Addr) (probe : List ℕ) (w : Want) (b : Body) (e : Ended) → openAt s a ≡ Opened.Is b → endedIn s b probe w ≡ e → outcomeAt s a probe w ≡ backOf b e
 unfolding outcomeAt readyAt endedIn
 outcome-ended s a probe w b e o h =
-    ap (λ (q : Opened). outcomeOf s probe w (readyOf s probe w q)) o
-    ∙ go (rightKind (b .kind) w) (eqb (b .elems) 0) (fitsPrefix s b probe)
+    ap (λ (q : Opened). outcomeOf s probe w (readyOf w q)) o
+    ∙ go (rightKind (b .kind) w) (eqb (b .elems) 0)
     ∙ ap (backOf b) h
   where
-    page : Bool → Bool → Bool → Outcome
-    page k m f = outcomeOf s probe w (cond k (cond m empty (cond f (ready b) (refused Refusal.WrongPrefix))) (refused Refusal.BadFrame))
+    page : Bool → Bool → Outcome
+    page k m = outcomeOf s probe w (cond k (cond m empty (ready b)) bad)
 
-    go : (k m f : Bool) → page k m f ≡ backOf b (endOf (page k m f))
-    go false m f = refl
-    go true true f = refl
-    go true false true = refl
-    go true false false = refl
+    go : (k m : Bool) → page k m ≡ backOf b (endOf (page k m))
+    go false m = refl
+    go true true = refl
+    go true false = refl
 
-pub outcome-bad : (s : List ℕ) (a : Addr) (probe : List ℕ) (w : Want) → openAt s a ≡ Opened.Bad → outcomeAt s a probe w ≡ Outcome.Refused Refusal.BadFrame
+pub outcome-bad : (s : List ℕ) (a : Addr) (probe : List ℕ) (w : Want) → openAt s a ≡ Opened.Bad → outcomeAt s a probe w ≡ Outcome.Bad
 unfolding outcomeAt readyAt
-outcome-bad s a probe w o = ap (λ (q : Opened). outcomeOf s probe w (readyOf s probe w q)) o
+outcome-bad s a probe w o = ap (λ (q : Opened). outcomeOf s probe w (readyOf w q)) o
 
--- ---- a page that was halved
+-- ---- a page that the probe stands in
 
-pub outcome-ready : (s : List ℕ) (a : Addr) (probe : List ℕ) (w : Want) (b : Body) (h : Halved) → outcomeAt s a probe w ≡ Outcome.Halves b h → IsReady s a probe w b × (halved s b probe w ≡ h)
+pub outcome-ready : (s : List ℕ) (a : Addr) (probe : List ℕ) (w : Want) (b : Body) (h : Halved) → outcomeAt s a probe w ≡ Outcome.Stands b h → IsReady s a w b × (probed s b probe w ≡ h)
 unfolding outcomeAt
-outcome-ready s a probe w b h e = go (readyAt s a probe w) refl e
+outcome-ready s a probe w b h e = go (readyAt s a w) refl e
   where
-    go : (r : Searchable) → readyAt s a probe w ≡ r → outcomeOf s probe w r ≡ Outcome.Halves b h → IsReady s a probe w b × (halved s b probe w ≡ h)
+    go : (r : Searchable) → readyAt s a w ≡ r → outcomeOf s probe w r ≡ Outcome.Stands b h → IsReady s a w b × (probed s b probe w ≡ h)
     go (ready d) q e′ =
         let x : d ≡ b = cc in
-        let y : halved s d probe w ≡ h = cc in
-        rw (← x) (ready-inside s a probe w d q, y)
+        let y : probed s d probe w ≡ h = cc in
+        rw (← x) (ready-inside s a w d q, y)
     go empty q e′ = absurd (let z : _≡_ {A = ℕ} 0 1 = cc in omega arith)
-    go (refused r) q e′ = absurd (let z : _≡_ {A = ℕ} 0 1 = cc in omega arith)
+    go bad q e′ = absurd (let z : _≡_ {A = ℕ} 0 1 = cc in omega arith)
 
 -- the kind that floor takes, and the kind that search takes
 pub index-kind : (k : ℕ) → rightKind k indexes ≡ true → k ≡ 1

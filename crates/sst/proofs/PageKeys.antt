@@ -10,9 +10,9 @@ use lib.Dec.{eqb}
 use Rattle.spans.specs.Span.{part}
 use Rattle.order.specs.declared.Order.{Order}
 use Rattle.order.specs.declared.Ver.{Ver}
-use Rattle.order.specs.Order.{cmpBytes, startsWith}
+use Rattle.order.specs.Order.{cmpBytes, flip, startsWith}
 use Rattle.order.specs.Version.{newerThan}
-use Rattle.order.proofs.Laws.{cmp-trans, cmp-front, starts-split}
+use Rattle.order.proofs.Laws.{cmp-flip, cmp-less, cmp-greater, cmp-trans, cmp-front, cmp-beside, cmp-apart, starts-split}
 use Rattle.frames.specs.declared.Addr.{Addr}
 use Rattle.frames.specs.declared.Body.{Body}
 use Rattle.frames.specs.declared.PageRead.{PageRead}
@@ -22,18 +22,20 @@ use Rattle.records.specs.declared.Rec.{Rec}
 use Rattle.records.specs.declared.RecRead.{RecRead}
 use Rattle.records.specs.Records.{recAt}
 use Rattle.records.proofs.Inside.{at-inside, prefix-part}
-use Rattle.pages.specs.Sound.{slotsOk}
+use Rattle.pages.specs.Sound.{isLess, slotsOk}
 use Rattle.pages.specs.Meaning.{Head, Child, Rows, leaf, index, Page, prefixOf, keyOf, headOf, childOf, rowsFrom, headsFrom, childrenFrom, pageSays}
 use Rattle.pages.proofs.Given.{every-slot, keys-rise}
 use Rattle.pages.proofs.Rows.{rows-many}
 use Rattle.sst.specs.declared.Cmp.{Cmp}
+use Rattle.sst.specs.declared.Halved.{Halved}
 use Rattle.sst.specs.declared.Want.{Want}
 use Rattle.sst.specs.Halve.{asked, lowered}
-use Rattle.sst.specs.Search.{newerAt, cmpRead, keyCmp, fitsPrefix, halved}
+use Rattle.sst.specs.Search.{newerAt, cmpRead, keyCmp, fitsPrefix, halved, elsewhere, probed}
 use Rattle.sst.specs.Says.{noHead, noChild, rowCount, rowKey, rowNewer}
 use Rattle.sst.proofs.Halving.{Rises, Finds, halve-finds}
 use Rattle.sst.proofs.Rising.{Sorted, against, rises-same, finds-same}
 use Rattle.sst.proofs.Opens.{prefix-length}
+use Rattle.sst.proofs.Compared.{twice}
 
 -- ---- rows
 
@@ -58,10 +60,6 @@ rowsBy t s b = cond t (index (childrenFrom s b (b .elems) 0)) (leaf (headsFrom s
 pub rows-said : (s : List ℕ) (b : Body) (p : Page) → pageSays s b ≡ p → rowsBy (eqb (b .kind) 1) s b ≡ p .rows
 unfolding pageSays
 rows-said s b p e = ap (λ (q : Page). q .rows) e
-
-pub prefix-said : (s : List ℕ) (b : Body) (p : Page) → pageSays s b ≡ p → prefixOf s b ≡ p .prefix
-unfolding pageSays
-prefix-said s b p e = ap (λ (q : Page). q .prefix) e
 
 module _ (s : List ℕ) (b : Body) (e : slotsOk s b ≡ true) where
   every : (i : ℕ) → i < b .elems → (r : Rec) × (recAt s b i ≡ RecRead.Is r)
@@ -126,18 +124,18 @@ probe-split s b probe i f =
     starts-split (prefixOf s b) probe (sym (fits-said s b probe i) ∙ f)
     ∙ ap (λ (m : ℕ). prefixOf s b ++ drop m probe) (sym (ap length (prefix-part s b i)) ∙ prefix-length s b i)
 
+-- a probe against the whole keys, and in a lower bound against the versions
+abbrev pub rowCmp : List ℕ → Body → List ℕ → Bool → Want → ℕ → Cmp
+rowCmp s b probe t w j =
+    cond (w .lower) (lowered (rowNewer (rowsBy t s b) (w .ver) j) (against (rowKey (rowsBy t s b)) probe j)) (against (rowKey (rowsBy t s b)) probe j)
+
 module _ (s : List ℕ) (b : Body) (i : Inside s b) (e : slotsOk s b ≡ true) (probe : List ℕ) (f : fitsPrefix s b probe ≡ true) where
   rest-says : (t : Bool) (j : ℕ) (l : j < b .elems) (r : Rec) → recAt s b j ≡ RecRead.Is r → cmpBytes (part s (r .«rest_at») (r .«rest_len»)) (drop (b .«prefix_len») probe) ≡ cmpBytes (rowKey (rowsBy t s b) j) probe
   rest-says t j l r q =
       sym (cmp-front (prefixOf s b) (part s (r .«rest_at») (r .«rest_len»)) (drop (b .«prefix_len») probe))
       ∙ ap₂ cmpBytes (sym (key-of s b e j l r q t)) (sym (probe-split s b probe i f))
 
-  -- the whole keys, and in a lower bound the versions
-  abbrev pub rowCmp : Bool → Want → ℕ → Cmp
-  rowCmp t w j =
-      cond (w .lower) (lowered (rowNewer (rowsBy t s b) (w .ver) j) (against (rowKey (rowsBy t s b)) probe j)) (against (rowKey (rowsBy t s b)) probe j)
-
-  pub compares : (t : Bool) → eqb (b .kind) 1 ≡ t → (w : Want) (j : ℕ) → j < b .elems → keyCmp s b (drop (b .«prefix_len») probe) w j ≡ rowCmp t w j
+  compares : (t : Bool) → eqb (b .kind) 1 ≡ t → (w : Want) (j : ℕ) → j < b .elems → keyCmp s b (drop (b .«prefix_len») probe) w j ≡ rowCmp s b probe t w j
   unfolding keyCmp
   compares t k w j l =
       let g = every-slot s b e j l in
@@ -147,12 +145,38 @@ module _ (s : List ℕ) (b : Body) (i : Inside s b) (e : slotsOk s b ≡ true) (
       ap (cmpRead s b (drop (b .«prefix_len») probe) w) x
       ∙ ap₂ (λ (y : Bool) (o : Order). cond (w .lower) (lowered y (asked o)) (asked o)) v c
 
-  pub halved-finds : (t : Bool) → eqb (b .kind) 1 ≡ t → (w : Want) → Rises (rowCmp t w) (b .elems) → Finds (rowCmp t w) (b .elems) (halved s b probe w)
+  halved-finds : (t : Bool) → eqb (b .kind) 1 ≡ t → (w : Want) → Rises (rowCmp s b probe t w) (b .elems) → Finds (rowCmp s b probe t w) (b .elems) (halved s b probe w)
   unfolding halved
   halved-finds t k w u =
-      finds-same (keyCmp s b (drop (b .«prefix_len») probe) w) (rowCmp t w) (b .elems) (compares t k w) (halved s b probe w)
+      finds-same (keyCmp s b (drop (b .«prefix_len») probe) w) (rowCmp s b probe t w) (b .elems) (compares t k w) (halved s b probe w)
       (halve-finds (keyCmp s b (drop (b .«prefix_len») probe) w) (b .elems)
-      (rises-same (keyCmp s b (drop (b .«prefix_len») probe) w) (rowCmp t w) (b .elems) (compares t k w) u))
+      (rises-same (keyCmp s b (drop (b .«prefix_len») probe) w) (rowCmp s b probe t w) (b .elems) (compares t k w) u))
+
+-- a probe without the prefix stands to every key as it stands to the prefix
+module _ (s : List ℕ) (b : Body) (i : Inside s b) (e : slotsOk s b ≡ true) (probe : List ℕ) (f : fitsPrefix s b probe ≡ false) (t : Bool) (w : Want) where
+  beside : (j : ℕ) → j < b .elems → (o : Order) → cmpBytes (prefixOf s b) probe ≡ o → rowCmp s b probe t w j ≡ cond (w .lower) (lowered (rowNewer (rowsBy t s b) (w .ver) j) (asked o)) (asked o)
+  beside j l o c =
+      let g = every-slot s b e j l in
+      let k : cmpBytes (rowKey (rowsBy t s b) j) probe ≡ o = ap (λ (x : List ℕ). cmpBytes x probe) (key-of s b e j l (g .0) (g .1) t) ∙ cmp-beside (prefixOf s b) (part s (g .0 .«rest_at») (g .0 .«rest_len»)) probe (sym (fits-said s b probe i) ∙ f) ∙ c in
+      ap (λ (x : Order). cond (w .lower) (lowered (rowNewer (rowsBy t s b) (w .ver) j) (asked x)) (asked x)) k
+
+  elsewhere-by : (o : Order) → cmpBytes probe (prefixOf s b) ≡ o → Finds (rowCmp s b probe t w) (b .elems) (cond (isLess o) (Halved.End 0 0) (Halved.End (b .elems) 0))
+  elsewhere-by Order.Less c = (omega arith, (λ j l. absurd (omega arith)), (λ j l m. beside j m Order.Greater (cmp-less probe (prefixOf s b) c) ∙ twice (w .lower) Cmp.Greater))
+  elsewhere-by Order.Equal c = absurd (cmp-apart (prefixOf s b) probe (sym (fits-said s b probe i) ∙ f) (cmp-flip probe (prefixOf s b) ∙ ap flip c))
+  elsewhere-by Order.Greater c = (omega arith, (λ j l. beside j l Order.Less (cmp-greater probe (prefixOf s b) c) ∙ twice (w .lower) Cmp.Less), (λ j l m. absurd (omega arith)))
+
+  elsewhere-finds : Finds (rowCmp s b probe t w) (b .elems) (elsewhere s b probe)
+  unfolding elsewhere prefixOf
+  elsewhere-finds = rw (prefix-part s b i) (elsewhere-by (cmpBytes probe (prefixOf s b)) refl)
+
+-- any probe stands where the whole keys say
+pub probed-finds : (s : List ℕ) (b : Body) → Inside s b → slotsOk s b ≡ true → (probe : List ℕ) (t : Bool) → eqb (b .kind) 1 ≡ t → (w : Want) → Rises (rowCmp s b probe t w) (b .elems) → Finds (rowCmp s b probe t w) (b .elems) (probed s b probe w)
+unfolding probed
+probed-finds s b i e probe t k w u = go (fitsPrefix s b probe) refl
+  where
+    go : (f : Bool) → fitsPrefix s b probe ≡ f → Finds (rowCmp s b probe t w) (b .elems) (cond f (halved s b probe w) (elsewhere s b probe))
+    go true f = halved-finds s b i e probe f t k w u
+    go false f = elsewhere-finds s b i e probe f t w
 
 -- ---- the kinds of page
 

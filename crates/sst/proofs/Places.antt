@@ -43,7 +43,7 @@ module _ (s : List ℕ) (a : Addr) (probe : List ℕ) (i : ℕ) (v : Ver) (h : H
   no-nothing : (m : ℕ) → Found.Nothing m ≡ Found.Is i v h x n → ⊥
   no-nothing m e = let z : _≡_ {A = ℕ} 0 1 = cc in omega arith
 
-  head-found : (b : Body) → IsReady s a probe leaves b → (j m : ℕ) → headIn s b j m ≡ Found.Is i v h x n → FoundAt s a i v h x
+  head-found : (b : Body) → IsReady s a leaves b → (j m : ℕ) → headIn s b j m ≡ Found.Is i v h x n → FoundAt s a i v h x
   unfolding headIn
   head-found b g j m e = go (recAt s b j) refl e
     where
@@ -71,12 +71,12 @@ module _ (s : List ℕ) (a : Addr) (probe : List ℕ) (i : ℕ) (v : Ver) (h : H
   unfolding searchAt
   search-found e = go (outcomeAt s a probe leaves) refl e
     where
-      by : (b : Body) → IsReady s a probe leaves b → (y : Halved) → foundIn s b y ≡ Found.Is i v h x n → FoundAt s a i v h x
+      by : (b : Body) → IsReady s a leaves b → (y : Halved) → foundIn s b y ≡ Found.Is i v h x n → FoundAt s a i v h x
       by b g (Halved.At j m) q = head-found b g j m q
       by b g (Halved.End p m) q = absurd (no-nothing m q)
       by b g Halved.Bad q = absurd (no-refusal Refusal.BadFrame q)
 
       go : (o : Outcome) → outcomeAt s a probe leaves ≡ o → searchOf s o ≡ Found.Is i v h x n → FoundAt s a i v h x
-      go (Outcome.Halves b y) q e′ = by b (outcome-ready s a probe leaves b y q .0) y e′
+      go (Outcome.Stands b y) q e′ = by b (outcome-ready s a probe leaves b y q .0) y e′
       go Outcome.Empty q e′ = absurd (no-nothing 0 e′)
-      go (Outcome.Refused r) q e′ = absurd (no-refusal r e′)
+      go Outcome.Bad q e′ = absurd (no-refusal Refusal.BadFrame e′)

@@ -7,14 +7,13 @@ use mathlib.Core.Bool.{Bool, true, false}
 use lib.ListN.{length, getD}
 use Rattle.order.specs.declared.Order.{Order}
 use Rattle.order.specs.declared.Ver.{Ver}
-use Rattle.order.specs.Order.{cmpBytes, startsWith}
+use Rattle.order.specs.Order.{cmpBytes}
 use Rattle.order.specs.Version.{verOf, newerThan}
 use Rattle.frames.specs.declared.PageId.{PageId}
-use Rattle.frames.specs.declared.Refusal.{Refusal}
 use Rattle.frames.specs.Layout.{pageId}
 use Rattle.values.specs.declared.HistRef.{HistRef}
 use Rattle.pages.specs.declared.Place.{Place}
-use Rattle.pages.specs.Meaning.{Head, Child, Rows, leaf, index, Page, oldsFrom}
+use Rattle.pages.specs.Meaning.{Head, Child, Rows, leaf, index, oldsFrom}
 use Rattle.pages.specs.Boundaries.{partIn}
 use Rattle.sst.specs.declared.Bound.{Bound}
 use Rattle.sst.specs.declared.Floor.{Floor}
@@ -53,22 +52,17 @@ earlier newer Order.Greater = false
 abbrev pub rowLess : Rows → List ℕ → Ver → ℕ → Bool
 rowLess rows probe v i = earlier (rowNewer rows v i) (cmpBytes (rowKey rows i) probe)
 
--- ---- the answers
-
--- "a probe does not begin with the page's prefix", and the page has keys
-pub record Lacks (p : Page) (probe : List ℕ) : Type 0 where
-  pub some : rowCount (p .rows) ≡ 0 → ⊥
-  pub lacks : startsWith (p .prefix) probe ≡ false
+-- ---- the answers; none is a refusal, whatever the probe
 
 -- "the first position not less": every row before it is less, none from it on is
 pub record FirstNotLess (rows : Rows) (probe : List ℕ) (v : Ver) (q : ℕ) : Type 0 where
   pub before : (i : ℕ) → i < q → rowLess rows probe v i ≡ true
   pub behind : (i : ℕ) → q ≤ i → i < rowCount rows → rowLess rows probe v i ≡ false
 
-abbrev pub BoundSays : Page → List ℕ → Ver → Bound → Type 0
-BoundSays p probe v (Bound.At q n) = (q < rowCount (p .rows)) × FirstNotLess (p .rows) probe v q
-BoundSays p probe v (Bound.PastEnd q n) = (q ≡ rowCount (p .rows)) × FirstNotLess (p .rows) probe v q
-BoundSays p probe v (Bound.Refused r) = (r ≡ Refusal.WrongPrefix) × Lacks p probe
+abbrev pub BoundSays : Rows → List ℕ → Ver → Bound → Type 0
+BoundSays rows probe v (Bound.At q n) = (q < rowCount rows) × FirstNotLess rows probe v q
+BoundSays rows probe v (Bound.PastEnd q n) = (q ≡ rowCount rows) × FirstNotLess rows probe v q
+BoundSays rows probe v (Bound.Refused r) = ⊥
 
 -- "the greatest key not above, slot 0 below the first": every key behind it is above, and it is not above, or it is the first
 pub record IsFloor (cs : List Child) (probe : List ℕ) (i : ℕ) (page : PageId) : Type 0 where
@@ -77,10 +71,10 @@ pub record IsFloor (cs : List Child) (probe : List ℕ) (i : ℕ) (page : PageId
   pub not-above : (i ≡ 0 → ⊥) → cmpBytes ((getD cs i noChild) .key) probe ≡ Order.Greater → ⊥
   pub leads : page ≡ (getD cs i noChild) .page
 
-abbrev pub FloorSays : Page → List Child → List ℕ → Floor → Type 0
-FloorSays p cs probe (Floor.Is i page n) = IsFloor cs probe i page
-FloorSays p cs probe (Floor.Nothing n) = length cs ≡ 0
-FloorSays p cs probe (Floor.Refused r) = (r ≡ Refusal.WrongPrefix) × Lacks p probe
+abbrev pub FloorSays : List Child → List ℕ → Floor → Type 0
+FloorSays cs probe (Floor.Is i page n) = IsFloor cs probe i page
+FloorSays cs probe (Floor.Nothing n) = length cs ≡ 0
+FloorSays cs probe (Floor.Refused r) = ⊥
 
 -- the key's head: its position, its version, its value's bytes, and where its older versions are
 pub record IsHead (s : List ℕ) (hs : List Head) (probe : List ℕ) (i : ℕ) (v : Ver) (h : HistRef) (x : Place) : Type 0 where
@@ -90,10 +84,10 @@ pub record IsHead (s : List ℕ) (hs : List Head) (probe : List ℕ) (i : ℕ) (
   pub value : partIn s x ≡ (getD hs i noHead) .value
   pub olds : oldsFrom s (h .count) (h .page) (h .slot) ≡ (getD hs i noHead) .olds
 
-abbrev pub FoundSays : List ℕ → Page → List Head → List ℕ → Found → Type 0
-FoundSays s p hs probe (Found.Is i v h x n) = IsHead s hs probe i v h x
-FoundSays s p hs probe (Found.Nothing n) = (i : ℕ) → i < length hs → (getD hs i noHead) .key ≡ probe → ⊥
-FoundSays s p hs probe (Found.Refused r) = (r ≡ Refusal.WrongPrefix) × Lacks p probe
+abbrev pub FoundSays : List ℕ → List Head → List ℕ → Found → Type 0
+FoundSays s hs probe (Found.Is i v h x n) = IsHead s hs probe i v h x
+FoundSays s hs probe (Found.Nothing n) = (i : ℕ) → i < length hs → (getD hs i noHead) .key ≡ probe → ⊥
+FoundSays s hs probe (Found.Refused r) = ⊥
 
 -- an answer that found slot i
 abbrev pub MeetsAt : ℕ → Found → Type 0

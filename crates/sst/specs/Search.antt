@@ -20,6 +20,7 @@ use Rattle.records.specs.declared.RecRead.{RecRead}
 use Rattle.values.specs.Keys.{verIn}
 use Rattle.records.specs.Records.{keyAtSlot, recAt}
 use Rattle.records.specs.Parts.{prefixIn}
+use Rattle.pages.specs.Sound.{isLess}
 use Rattle.pages.specs.Boundaries.{place}
 use Rattle.sst.specs.declared.Cmp.{Cmp}
 use Rattle.sst.specs.declared.Halved.{Halved}
@@ -53,48 +54,54 @@ keyCmp s b rest w i = cmpRead s b rest w (keyAtSlot s b i)
 unfoldable pub rightKind : ℕ → Want → Bool
 rightKind kind w = (w .leaf && eqb kind 0) || (w .index && eqb kind 1)
 
--- whether a probe begins with the page's prefix
-unfoldable pub fitsPrefix : List ℕ → Body → List ℕ → Bool
-fitsPrefix s b probe = startsWith (prefixIn s b) probe
-
--- a page for a search, with a probe that begins with its prefix
+-- a page for a search
 pub data Searchable : Type 0 where
   ready : Body → Searchable
   empty : Searchable
-  refused : Refusal → Searchable
+  bad : Searchable
 
--- "another kind is 4"; "A page without keys answers none .. before the probe is judged"; then "a .. probe does not begin with the
--- page's prefix" is 7
-abbrev pub readyOf : List ℕ → List ℕ → Want → Opened → Searchable
-readyOf s probe w (Opened.Is b) =
-    cond (rightKind (b .kind) w)
-    (cond (eqb (b .elems) 0) empty (cond (fitsPrefix s b probe) (ready b) (refused Refusal.WrongPrefix)))
-    (refused Refusal.BadFrame)
-readyOf s probe w Opened.Bad = refused Refusal.BadFrame
+-- "another kind is 4"; "A page without keys answers none .. before the probe is judged"
+abbrev pub readyOf : Want → Opened → Searchable
+readyOf w (Opened.Is b) = cond (rightKind (b .kind) w) (cond (eqb (b .elems) 0) empty (ready b)) bad
+readyOf w Opened.Bad = bad
 
-unfoldable pub readyAt : List ℕ → Addr → List ℕ → Want → Searchable
-readyAt s a probe w = readyOf s probe w (openAt s a)
+unfoldable pub readyAt : List ℕ → Addr → Want → Searchable
+readyAt s a w = readyOf w (openAt s a)
 
--- the halving of a page for a probe
+-- ---- the probe
+
+-- whether it begins with the page's prefix
+unfoldable pub fitsPrefix : List ℕ → Body → List ℕ → Bool
+fitsPrefix s b probe = startsWith (prefixIn s b) probe
+
+-- then the page's keys are halved
 unfoldable pub halved : List ℕ → Body → List ℕ → Want → Halved
 halved s b probe w = halve (keyCmp s b (drop (b .«prefix_len») probe) w) (b .elems) 0 (b .elems) 0
 
+-- "A probe that doesn't begin with the prefix should be answered as if whole keys were compared": all of them begin with it, so below the
+-- prefix it is before the first key, above it behind the last. "The keys read are 0 where no key was read"
+unfoldable pub elsewhere : List ℕ → Body → List ℕ → Halved
+elsewhere s b probe = cond (isLess (cmpBytes probe (prefixIn s b))) (Halved.End 0 0) (Halved.End (b .elems) 0)
+
+unfoldable pub probed : List ℕ → Body → List ℕ → Want → Halved
+probed s b probe w = cond (fitsPrefix s b probe) (halved s b probe w) (elsewhere s b probe)
+
 abbrev pub outcomeOf : List ℕ → List ℕ → Want → Searchable → Outcome
-outcomeOf s probe w (ready b) = Outcome.Halves b (halved s b probe w)
+outcomeOf s probe w (ready b) = Outcome.Stands b (probed s b probe w)
 outcomeOf s probe w empty = Outcome.Empty
-outcomeOf s probe w (refused r) = Outcome.Refused r
+outcomeOf s probe w bad = Outcome.Bad
 
 unfoldable pub outcomeAt : List ℕ → Addr → List ℕ → Want → Outcome
-outcomeAt s a probe w = outcomeOf s probe w (readyAt s a probe w)
+outcomeAt s a probe w = outcomeOf s probe w (readyAt s a w)
 
 -- the same of a page that was opened: its body is at hand
 abbrev pub endOf : Outcome → Ended
-endOf (Outcome.Halves b h) = Ended.Halves h
+endOf (Outcome.Stands b h) = Ended.Stands h
 endOf Outcome.Empty = Ended.Empty
-endOf (Outcome.Refused r) = Ended.Refused r
+endOf Outcome.Bad = Ended.Bad
 
 unfoldable pub endedIn : List ℕ → Body → List ℕ → Want → Ended
-endedIn s b probe w = endOf (outcomeOf s probe w (readyOf s probe w (Opened.Is b)))
+endedIn s b probe w = endOf (outcomeOf s probe w (readyOf w (Opened.Is b)))
 
 -- ---- lower bound: "the first position not less, past the end otherwise"
 
@@ -107,9 +114,9 @@ boundIn elems (Halved.End p n) = cond (ltb p elems) (Bound.At p n) (Bound.PastEn
 boundIn elems Halved.Bad = Bound.Refused Refusal.BadFrame
 
 abbrev pub lowerOf : Outcome → Bound
-lowerOf (Outcome.Halves b h) = boundIn (b .elems) h
+lowerOf (Outcome.Stands b h) = boundIn (b .elems) h
 lowerOf Outcome.Empty = Bound.PastEnd 0 0
-lowerOf (Outcome.Refused r) = Bound.Refused r
+lowerOf Outcome.Bad = Bound.Refused Refusal.BadFrame
 
 unfoldable pub lowerAt : List ℕ → Addr → List ℕ → Ver → Bound
 lowerAt s a probe v = lowerOf (outcomeAt s a probe (bound v))
@@ -137,9 +144,9 @@ floorIn s b (Halved.End p n) = pageIn s b (floorSlot p) n
 floorIn s b Halved.Bad = Floor.Refused Refusal.BadFrame
 
 abbrev pub floorOf : List ℕ → Outcome → Floor
-floorOf s (Outcome.Halves b h) = floorIn s b h
+floorOf s (Outcome.Stands b h) = floorIn s b h
 floorOf s Outcome.Empty = Floor.Nothing 0
-floorOf s (Outcome.Refused r) = Floor.Refused r
+floorOf s Outcome.Bad = Floor.Refused Refusal.BadFrame
 
 unfoldable pub floorAt : List ℕ → Addr → List ℕ → Floor
 floorAt s a probe = floorOf s (outcomeAt s a probe indexes)
@@ -162,9 +169,9 @@ foundIn s b (Halved.End p n) = Found.Nothing n
 foundIn s b Halved.Bad = Found.Refused Refusal.BadFrame
 
 abbrev pub searchOf : List ℕ → Outcome → Found
-searchOf s (Outcome.Halves b h) = foundIn s b h
+searchOf s (Outcome.Stands b h) = foundIn s b h
 searchOf s Outcome.Empty = Found.Nothing 0
-searchOf s (Outcome.Refused r) = Found.Refused r
+searchOf s Outcome.Bad = Found.Refused Refusal.BadFrame
 
 unfoldable pub searchAt : List ℕ → Addr → List ℕ → Found
 searchAt s a probe = searchOf s (outcomeAt s a probe leaves)

@@ -6,7 +6,7 @@ ghost use Rattle.frames.specs.Layout.{Inside};
 ghost use Rattle.values.specs.Keys.{skipOf};
 ghost use Rattle.sst.specs.Halve.{halve};
 ghost use Rattle.sst.specs.Narrow.{Marks, MarkedAt, equalAt, IsMet, Narrowed};
-ghost use Rattle.sst.specs.Search.{newerAt, keyCmp, fitsPrefix, halved, endedIn, outcomeAt, boundIn, floorSlot, pageIn, floorIn, headIn, foundIn, searchAt, floorAt, lowerAt};
+ghost use Rattle.sst.specs.Search.{newerAt, keyCmp, fitsPrefix, halved, elsewhere, endedIn, outcomeAt, boundIn, floorSlot, pageIn, floorIn, headIn, foundIn, searchAt, floorAt, lowerAt};
 use frames::Addr;
 use frames::BaseHeader;
 use frames::Body;
@@ -30,7 +30,7 @@ pub enum Cmp {
     Refuse,
 }
 
-// Where a halving ends, with the number of keys read: at an equal key, or where the smaller keys end.
+// Where a probe stands among a page's keys, with the number of keys read: at an equal key, or where the smaller keys end.
 pub enum Halved {
     At(usize, usize),
     End(usize, usize),
@@ -45,18 +45,18 @@ pub struct Want {
     pub ver: Ver,
 }
 
-// Where the search of an opened page ends.
+// Where the search of an opened page ends; bad is another kind of page.
 pub enum Ended {
-    Halves(Halved),
+    Stands(Halved),
     Empty,
-    Refused(Refusal),
+    Bad,
 }
 
-// The same of the page at an address.
+// The same of the page at an address; bad is no page, too.
 pub enum Outcome {
-    Halves(Body, Halved),
+    Stands(Body, Halved),
     Empty,
-    Refused(Refusal),
+    Bad,
 }
 
 // The first position not less, with the number of keys read.
@@ -328,7 +328,19 @@ fn halve_page(s: &[u8], b: Body, probe: &[u8], w: Want) -> Halved
     halve_keys(s, b, &probe[from..], w)
 }
 
-// A page that was opened, for a search: its kind, then an empty page, then the probe, then the halving.
+// Where a probe stands that does not begin with the page's prefix, as every key does: before the first or behind the last. No key is read.
+fn elsewhere_in(s: &[u8], b: Body, probe: &[u8]) -> Halved
+    requires { ⌜ Inside (now s) b ⌝ }
+    ensures { λ r. ⌜ r ≡ elsewhere (now (s .entry)) b (now (probe .entry)) ⌝ }
+{
+    match order::compare(probe, records::prefix_of(s, b)) {
+        Order::Less => Halved::End(0, 0),
+        Order::Equal => Halved::End(b.elems, 0),
+        Order::Greater => Halved::End(b.elems, 0),
+    }
+}
+
+// A page that was opened, for a search: its kind, then an empty page, then the probe against the prefix, then the halving.
 fn ended_in(s: &[u8], b: Body, probe: &[u8], w: Want) -> Ended
     requires { ⌜ Inside (now s) b ⌝ }
     ensures { λ r. ⌜ r ≡ endedIn (now (s .entry)) b (now (probe .entry)) w ⌝ }
@@ -338,24 +350,24 @@ fn ended_in(s: &[u8], b: Body, probe: &[u8], w: Want) -> Ended
             return Ended::Empty;
         }
         if fits_prefix(s, b, probe) {
-            return Ended::Halves(halve_page(s, b, probe, w));
+            return Ended::Stands(halve_page(s, b, probe, w));
         }
-        return Ended::Refused(Refusal::WrongPrefix);
+        return Ended::Stands(elsewhere_in(s, b, probe));
     }
-    Ended::Refused(Refusal::BadFrame)
+    Ended::Bad
 }
 
-// The page at an address, halved: what the overlay asks for.
+// The page at an address, and where the probe stands among its keys: what the overlay asks for.
 pub fn halve_at(s: &[u8], a: Addr, probe: &[u8], w: Want) -> Outcome
     ensures { λ r. ⌜ r ≡ outcomeAt (now (s .entry)) a (now (probe .entry)) w ⌝ }
 {
     let Opened::Is(b) = frames::open_at(s, a) else {
-        return Outcome::Refused(Refusal::BadFrame);
+        return Outcome::Bad;
     };
     match ended_in(s, b, probe, w) {
-        Ended::Refused(r) => Outcome::Refused(r),
+        Ended::Bad => Outcome::Bad,
         Ended::Empty => Outcome::Empty,
-        Ended::Halves(h) => Outcome::Halves(b, h),
+        Ended::Stands(h) => Outcome::Stands(b, h),
     }
 }
 
@@ -391,9 +403,9 @@ pub fn lower_bound(s: &[u8], a: Addr, probe: &[u8], v: Ver) -> Bound
         return Bound::Refused(Refusal::BadFrame);
     };
     match ended_in(s, b, probe, w) {
-        Ended::Refused(r) => Bound::Refused(r),
+        Ended::Bad => Bound::Refused(Refusal::BadFrame),
         Ended::Empty => Bound::PastEnd { pos: 0, reads: 0 },
-        Ended::Halves(h) => bound_in(b.elems, h),
+        Ended::Stands(h) => bound_in(b.elems, h),
     }
 }
 
@@ -457,9 +469,9 @@ pub fn floor_pid_by_raw(s: &[u8], a: Addr, probe: &[u8]) -> Floor
         return Floor::Refused(Refusal::BadFrame);
     };
     match ended_in(s, b, probe, w) {
-        Ended::Refused(r) => Floor::Refused(r),
+        Ended::Bad => Floor::Refused(Refusal::BadFrame),
         Ended::Empty => Floor::Nothing { reads: 0 },
-        Ended::Halves(h) => floor_in(s, b, h),
+        Ended::Stands(h) => floor_in(s, b, h),
     }
 }
 
@@ -551,8 +563,8 @@ pub fn search_ver_val_by_raw(s: &[u8], a: Addr, probe: &[u8]) -> Found
         return Found::Refused(Refusal::BadFrame);
     };
     match ended_in(s, b, probe, w) {
-        Ended::Refused(r) => Found::Refused(r),
+        Ended::Bad => Found::Refused(Refusal::BadFrame),
         Ended::Empty => Found::Nothing { reads: 0 },
-        Ended::Halves(h) => found_in(s, b, h),
+        Ended::Stands(h) => found_in(s, b, h),
     }
 }

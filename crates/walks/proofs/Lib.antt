@@ -11,3 +11,4 @@ pub mod Ages
 pub mod Held
 pub mod Hands
 pub mod Decided
+pub mod Numbers

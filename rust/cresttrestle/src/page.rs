@@ -220,8 +220,22 @@ impl<'a> Page<'a> {
         ffi::remote_hints(self.bytes, self.addr.get()).map(|words| Hints::new(self.bytes, words))
     }
 
-    /// The newest row of a key in a leaf. A probe that does not begin with the page's prefix is
-    /// [`WrongPrefix`](Refusal::WrongPrefix).
+    /// The newest row of a key in a leaf. Any key may be asked for; one that does not begin with the page's prefix is not there, like
+    /// any other. This and the other lookups are refused with [`BadFrame`](Refusal::BadFrame) alone.
+    ///
+    /// ```
+    /// # use cresttrestle::{Arena, Bounds, Build, RowList, Ver};
+    /// # let (mut bytes, mut buffer) = ([0; 512], [0; 128]);
+    /// # let mut arena = Arena::new(&mut bytes);
+    /// # let mut list = RowList::lent(&mut buffer)?;
+    /// # list.push(b"ab1", Ver::new(5, 0), b"row")?;
+    /// # let bounds = Bounds { lo: b"ab", hi: Some(b"ac"), ..Bounds::default() };
+    /// # let leaf = arena.new_leaf(list.bytes(), bounds, Build::default())?;
+    /// let page = arena.page(leaf); // prefix a, key ab1
+    /// assert_eq!(page.search(b"ab1")?.unwrap().value, b"row");
+    /// assert_eq!(page.search(b"xb1")?, None); // from elsewhere
+    /// # Ok::<(), Box<dyn std::error::Error>>(())
+    /// ```
     pub fn search(self, key: &[u8]) -> Result<Option<Found<'a>>, Refusal> {
         self.search_counted(key).map(|(found, _)| found)
     }

@@ -30,7 +30,7 @@ pub enum Refusal {
     MixedKinds = sys::CT_MIXED_KINDS as u8,
     /// An entry that is not above the one before.
     OutOfOrder = sys::CT_OUT_OF_ORDER as u8,
-    /// A key or probe that does not begin with the page's prefix.
+    /// Building or merging: a key that does not begin with the page's prefix.
     WrongPrefix = sys::CT_WRONG_PREFIX as u8,
     /// Over 65,535 entries, or a page over 16,777,216 bytes.
     TooBig = sys::CT_TOO_BIG as u8,
@@ -100,7 +100,7 @@ impl fmt::Display for Refusal {
             Refusal::MixedKinds => "mixed kinds: a leaf cannot be merged with an index page",
             Refusal::OutOfOrder => "out of order: an entry is not above the one before",
             Refusal::WrongPrefix => {
-                "wrong prefix: a key or probe does not begin with the page's prefix"
+                "wrong prefix: a key does not begin with the page's prefix"
             }
             Refusal::TooBig => "too big: over 65,535 entries, or a page over 16,777,216 bytes",
             Refusal::NoRoom => {

@@ -94,8 +94,8 @@ fn p7_as_of() {
         assert_eq!(page.as_of_counted(b"a", ver), Ok((row, 1)), "as of {ver:?}");
     }
     assert_eq!(page.as_of_counted(b"ab", Ver::NEWEST), Ok((None, 1)));
-    assert_eq!(page.as_of(b"b", Ver::NEWEST), Err(Refusal::WrongPrefix));
-    // an empty page answers before the probe is judged; a history page is no leaf
+    assert_eq!(page.as_of_counted(b"b", Ver::NEWEST), Ok((None, 0)));
+    // so does a page without keys; a history page is no leaf
     assert_eq!(arena.page(empty).as_of_counted(b"b", Ver::NEWEST), Ok((None, 0)));
     assert_eq!(arena.page(Addr::new(8)).as_of(b"a", Ver::NEWEST), Err(Refusal::BadFrame));
 }
@@ -137,7 +137,15 @@ fn p13_another_temperature() {
     let mut arena = Arena::new(&mut bytes);
     let leaf = arena.new_leaf(&list, bounds, Build::default()).unwrap();
     let page = arena.page(leaf);
-    assert_eq!(page.search(&[0xfe, 0xd4]), Err(Refusal::WrongPrefix));
+    // order 3: a probe from elsewhere is no key of the page, and none is read
+    assert_eq!(page.search_counted(&[0xfe, 0xd4]), Ok((None, 0)));
+    let past = Bound { position: 1, at_key: false };
+    assert_eq!(page.lower_bound_counted(&[0xfe, 0xd4], Ver::NEWEST), Ok((past, 0)));
+    let first = Bound { position: 0, at_key: true };
+    assert_eq!(page.lower_bound_counted(&[], Ver::NEWEST), Ok((first, 0)));
+    for (from, to, count) in [(&[][..], &[0xfe][..], 1), (&[], &[0], 0), (&[0xfe], &[0xff], 0)] {
+        assert_eq!(page.range(Some(from), Some(to)).unwrap().count(), count, "{from:?} to {to:?}");
+    }
     assert!(page.search(&[0x00, 0xd4]).unwrap().is_some());
     let record = page.walk(..).unwrap().next().unwrap().unwrap();
     assert!(record.key() == [0x00, 0xd4][..]);

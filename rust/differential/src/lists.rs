@@ -1,4 +1,4 @@
-//! The list that each leaf was made from, and a row picked from it: order 1's answer without any page.
+//! The list that each leaf was made from, and what is picked from it: order 1's row and demand 3's range, without any page.
 
 use oracle::answer::Found;
 use oracle::sample::Row;
@@ -36,6 +36,14 @@ impl Lists {
     /// Two lists one behind the other, where both are known.
     pub fn both(&self, left: u64, right: u64) -> Option<Vec<Row>> {
         Some([self.of(left)?, self.of(right)?].concat())
+    }
+
+    /// "exactly the input list's records in that range": those from one key on and below another.
+    pub fn between(&self, addr: u64, from: Option<&[u8]>, to: Option<&[u8]>) -> Option<Vec<&Row>> {
+        let inside = |row: &&Row| {
+            from.is_none_or(|from| &row.key[..] >= from) && to.is_none_or(|to| &row.key[..] < to)
+        };
+        Some(self.of(addr)?.iter().filter(inside).collect())
     }
 
     /// "the first record of that key in the list whose version is not newer", with the number of keys before it; nothing where the

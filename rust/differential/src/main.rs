@@ -223,7 +223,7 @@ fn summary(count: &Count, took: Duration) {
     let numbers: Vec<String> = (1..10).map(|n| format!("{n}: {}", count.refused[n])).collect();
     println!("answered {}, refused by number {}", count.refused[0], numbers.join(", "));
     println!(
-        "compare: {} cases, {} questions (mace's Rust asked {} times beside the model, {} rows as of a version picked from the list), {:.1} s, {:.0} cases/s: all answers and all bytes equal",
+        "compare: {} cases, {} questions (mace's Rust asked {} times beside the model, {} rows as of a version and ranges picked from the list), {:.1} s, {:.0} cases/s: all answers and all bytes equal",
         count.cases,
         count.questions,
         count.rust,

@@ -207,6 +207,7 @@ impl Make {
             }
             if k % 3 == 0 {
                 let other = self.rng.pick(&probes);
+                let other = self.probe(other, page.prefix.len());
                 let from = (!self.rng.once_in(6)).then_some(probe);
                 let to = (!self.rng.once_in(6)).then_some(other);
                 self.read(page.at, Read::Range { from, to });

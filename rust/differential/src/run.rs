@@ -28,7 +28,7 @@ pub struct Count {
     pub questions: u64,
     /// How often mace's Rust answered beside the model.
     pub rust: u64,
-    /// How often a row as of a version was also picked from the list that its page was made from.
+    /// How often a row as of a version or a range was also picked from the list that its page was made from.
     pub picked: u64,
     pub calls: BTreeMap<&'static str, u64>,
     pub kinds: BTreeMap<&'static str, u64>,

@@ -3,7 +3,7 @@
 use oracle::answer::{Bounds, Built, Step, What};
 use oracle::arena::Arena;
 use oracle::both::Both;
-use oracle::judge::{Number, WRONG_PREFIX};
+use oracle::judge::Number;
 use oracle::list::{self, Child, Entry};
 use oracle::model::{self, Kind, Laid};
 use oracle::sample::{self, Row};
@@ -17,7 +17,7 @@ pub struct Theirs {
     both: Both,
     buffer: Both,
     lists: Lists,
-    /// How often a row was also picked from the list that its page was made from.
+    /// How often a row as of a version or a range was also picked from the list that its page was made from.
     pub picked: u64,
 }
 
@@ -221,9 +221,7 @@ impl Theirs {
             Read::AsOf { key, txid, cmd } => {
                 let answer = both.as_of(addr, key, *txid, *cmd);
                 if let Some(row) = self.lists.pick(addr, key, *txid, *cmd) {
-                    // a probe of another prefix is refused, and no row has such a key
-                    let of_model =
-                        if answer == Err(WRONG_PREFIX) { Ok(None) } else { answer.map(|a| a.0) };
+                    let of_model = answer.map(|a| a.0);
                     assert_eq!(of_model, Ok(row), "model (left) and the list (right) differ");
                     self.picked += 1;
                 }
@@ -254,7 +252,14 @@ impl Theirs {
                 Ok((begin, end)) => {
                     let remotes =
                         remotes(model::Walk::forward(both.arena.bytes(), addr, begin, end));
-                    listed(both.walk(addr, begin, end), &remotes, say);
+                    let prefix = both.prefix(addr).map_or(Vec::new(), <[u8]>::to_vec);
+                    let walked = both.walk(addr, begin, end);
+                    if let Some(rows) = self.lists.between(addr, from.as_deref(), to.as_deref()) {
+                        let rows: Vec<Row> = rows.into_iter().cloned().collect();
+                        assert_eq!(whole_rows(&prefix, &walked.0), rows, "walk and list differ");
+                        self.picked += 1;
+                    }
+                    listed(walked, &remotes, say);
                 }
                 Err(number) => say.refused(number),
             },
@@ -319,6 +324,17 @@ fn remotes(walk: Result<model::Walk<'_>, Number>) -> Vec<u64> {
         walk = on;
     }
     out
+}
+
+/// A leaf's steps with whole keys.
+fn whole_rows(prefix: &[u8], steps: &[Step<'_>]) -> Vec<Row> {
+    let row = |step: &Step<'_>| match step.what {
+        What::Leaf { txid, cmd, value } => {
+            Some(Row { key: [prefix, step.rest].concat(), txid, cmd, value: value.to_vec() })
+        }
+        What::Index { .. } => None,
+    };
+    steps.iter().filter_map(row).collect()
 }
 
 fn listed((steps, number): (Vec<Step<'_>>, Option<Number>), remotes: &[u64], say: &mut Said) {

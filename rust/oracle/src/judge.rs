@@ -24,7 +24,8 @@ pub const BAD_FRAME: Number = 4;
 pub const MIXED_KINDS: Number = 5;
 /// "an entry not above the one before"
 pub const OUT_OF_ORDER: Number = 6;
-/// "a key or probe does not begin with the page's prefix"
+/// "a key .. does not begin with the page's prefix"; by order 3 "7 stays for keys handed to a build or
+/// merge only"
 pub const WRONG_PREFIX: Number = 7;
 /// "over 65,535 entries (in a merge, records of both), or size plus hint room over 16,777,216"
 pub const TOO_BIG: Number = 8;

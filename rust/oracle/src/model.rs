@@ -5,7 +5,7 @@
 use std::cmp::Ordering;
 
 use crate::answer::{Found, Step, What};
-use crate::judge::{BAD_FRAME, MAX_KEY, MAX_VALUE, Number, WRONG_PREFIX};
+use crate::judge::{BAD_FRAME, MAX_KEY, MAX_VALUE, Number};
 
 /// `Err(4)` unless the byte read is as laid out.
 fn laid_out(ok: bool) -> Result<(), Number> {
@@ -522,9 +522,22 @@ fn halve(
     Ok((Err(low), reads))
 }
 
-/// "a key or probe does not begin with the page's prefix"; a probe may have any length.
-fn probe_rest<'p>(arena: &[u8], page: &Page, probe: &'p [u8]) -> Result<&'p [u8], Number> {
-    probe.strip_prefix(page.prefix(arena)).ok_or(WRONG_PREFIX)
+/// Where a probe of any length stands among a page's keys. Order 3: "A probe that doesn't begin with
+/// the prefix should be answered as if whole keys were compared": all of them begin with it, so the
+/// probe stands before the first or behind the last, and no key is read.
+fn stands(
+    arena: &[u8],
+    page: &Page,
+    probe: &[u8],
+    stop: bool,
+    key_against_rest: impl Fn(usize, &[u8]) -> Result<Ordering, Number>,
+) -> Result<(Result<usize, usize>, u32), Number> {
+    let prefix = page.prefix(arena);
+    match probe.strip_prefix(prefix) {
+        Some(rest) => halve(page.elems, stop, |pos| key_against_rest(pos, rest)),
+        None if probe < prefix => Ok((Err(0), 0)),
+        None => Ok((Err(page.elems), 0)),
+    }
 }
 
 /// "A halving step judges the middle's slot and key." (DECIDED 25)
@@ -550,8 +563,7 @@ pub fn lower_bound(
     if page.elems == 0 {
         return Ok((0, 0));
     }
-    let rest = probe_rest(arena, &page, probe)?;
-    let (end, reads) = halve(page.elems, false, |pos| {
+    let (end, reads) = stands(arena, &page, probe, false, |pos, rest| {
         if page.is_index() {
             return Ok(index_key_at(arena, &page, pos)?.cmp(rest));
         }
@@ -569,9 +581,9 @@ pub fn floor(arena: &[u8], addr: u64, probe: &[u8]) -> Result<(Option<(usize, u6
     if page.elems == 0 {
         return Ok((None, 0));
     }
-    let rest = probe_rest(arena, &page, probe)?;
-    let (end, reads) =
-        halve(page.elems, true, |pos| Ok(index_key_at(arena, &page, pos)?.cmp(rest)))?;
+    let (end, reads) = stands(arena, &page, probe, true, |pos, rest| {
+        Ok(index_key_at(arena, &page, pos)?.cmp(rest))
+    })?;
     let pos = match end {
         Ok(equal) => equal,
         Err(low) => low.saturating_sub(1),
@@ -590,9 +602,9 @@ pub fn search<'a>(
     if page.elems == 0 {
         return Ok((None, 0));
     }
-    let rest = probe_rest(arena, &page, probe)?;
-    let (end, reads) =
-        halve(page.elems, true, |pos| Ok(leaf_key_at(arena, &page, pos)?.rest.cmp(rest)))?;
+    let (end, reads) = stands(arena, &page, probe, true, |pos, rest| {
+        Ok(leaf_key_at(arena, &page, pos)?.rest.cmp(rest))
+    })?;
     let Ok(pos) = end else {
         return Ok((None, reads));
     };
@@ -603,8 +615,8 @@ pub fn search<'a>(
 
 /// Order 1: "Given a key and a version, hand back the newest record of that key that is no newer than
 /// it, head or history, across linked pages, with its own version. If all are newer, or the key is
-/// absent, the answer is none. Refusals: 4 and 7 as for a search, 7 judged after an empty page." The
-/// key's slot stands with it; the keys read are the halving's.
+/// absent, the answer is none. Refusals: 4 .. as for a search" (7 is gone with order 3). The key's slot
+/// stands with it; the keys read are the halving's.
 pub fn as_of<'a>(
     arena: &'a [u8],
     addr: u64,
@@ -616,9 +628,9 @@ pub fn as_of<'a>(
     if page.elems == 0 {
         return Ok((None, 0));
     }
-    let rest = probe_rest(arena, &page, probe)?;
-    let (end, reads) =
-        halve(page.elems, true, |pos| Ok(leaf_key_at(arena, &page, pos)?.rest.cmp(rest)))?;
+    let (end, reads) = stands(arena, &page, probe, true, |pos, rest| {
+        Ok(leaf_key_at(arena, &page, pos)?.rest.cmp(rest))
+    })?;
     let Ok(pos) = end else {
         return Ok((None, reads));
     };
@@ -863,8 +875,7 @@ pub enum Laid<'p, 'd> {
 }
 
 /// "Overlay lookup takes an arena with a leaf page and a second buffer with one leaf delta. Both
-/// frames' headers and the delta's key are judged for 4 before the probe for 7. If the delta's key
-/// is the probe and it is no older than the page's head, or the page has none, its value is handed
+/// frames' headers and the delta's key are judged for 4. If the delta's key is the probe and it is no older than the page's head, or the page has none, its value is handed
 /// back from the delta's buffer; otherwise the page's." (DECIDED 36)
 pub fn overlay<'p, 'd>(
     arena: &'p [u8],
@@ -877,9 +888,8 @@ pub fn overlay<'p, 'd>(
     let (key, txid, cmd) = leaf_delta_key(buffer, delta_addr)?;
     let mut pos = None;
     if page.elems > 0 {
-        let rest = probe_rest(arena, &page, probe)?;
-        let at = |pos| Ok(leaf_key_at(arena, &page, pos)?.rest.cmp(rest));
-        pos = halve(page.elems, true, at)?.0.ok();
+        let at = |pos, rest: &[u8]| Ok(leaf_key_at(arena, &page, pos)?.rest.cmp(rest));
+        pos = stands(arena, &page, probe, true, at)?.0.ok();
     }
     let head = match pos {
         Some(pos) => Some((pos, leaf_key_at(arena, &page, pos)?)),

@@ -1,6 +1,6 @@
 //! Document 01's cases by number, as the Rust and the model both give them.
 
-use oracle::answer::{Bounds, Built, Stamp, Step, What};
+use oracle::answer::{Bounds, Built, Found, Stamp, Step, What};
 use oracle::arena::Arena;
 use oracle::both::Both;
 use oracle::image;
@@ -179,13 +179,65 @@ fn p11_twice() {
     assert_eq!(leaf(&mut both, 64, 256, &[row(b"a", 5, 0, b"x"), row(b"a", 5, 0, b"y")]), Err(6));
 }
 
+/// Order 3's worked answers: probes below the prefix, beginning with it, above it. Keys read stand in each answer.
 #[test]
-fn p13_wrong_prefix() {
+fn probes_from_elsewhere() {
+    let mut both = arena(1024);
+    let bounds = Bounds { sibling: 0, lo: b"ba", hi: b"bd" };
+    let rows = [
+        row(b"ba", 3, 0, b"1"),
+        row(b"bb", 5, 0, b"2"),
+        row(b"bb", 4, 0, b"3"),
+        row(b"bc", 2, 0, b"4"),
+    ];
+    let leaf = both.leaf(8, 64, 256, &STAMP, &bounds, &list_of(&rows)).unwrap();
+    let children = [(b"ba".to_vec(), 21), (b"bb".to_vec(), 22), (b"bc".to_vec(), 23)];
+    let tree = both.index(leaf.next, &STAMP, &bounds, &index_list_of(&children)).unwrap();
+    let mut laid = arena(128);
+    let new = list::Entry { key: b"c", txid: 1, cmd: 0, value: b"new" };
+    let delta = laid.leaf_delta(8, 64, &STAMP, &new).unwrap().addr;
+    // probe, version found, lower bound, floor, version as of (4, 9), overlay's value; keys read by search, lower bound, floor
+    type Worked = (&'static [u8], u64, usize, (usize, u64), u64, &'static [u8], [u32; 3]);
+    let worked: [Worked; 8] = [
+        (b"", 0, 0, (0, 21), 0, b"", [0, 0, 0]),
+        (b"azz", 0, 0, (0, 21), 0, b"", [0, 0, 0]),
+        (b"b", 0, 0, (0, 21), 0, b"", [2, 2, 2]),
+        (b"bb", 5, 1, (1, 22), 4, b"2", [1, 2, 1]),
+        (b"bbx", 0, 2, (1, 22), 0, b"", [2, 2, 2]),
+        (b"be", 0, 3, (2, 23), 0, b"", [2, 2, 2]),
+        (b"c", 0, 3, (2, 23), 0, b"new", [0, 0, 0]),
+        (b"\xff", 0, 3, (2, 23), 0, b"", [0, 0, 0]),
+    ];
+    for (probe, ver, lower, floor, then, value, [by_search, by_lower, by_floor]) in worked {
+        let txid = |found: Option<Found>| found.map_or(0, |f| f.txid);
+        let (found, reads) = both.search(leaf.addr, probe).unwrap();
+        assert_eq!((txid(found), reads), (ver, by_search), "search {probe:?}");
+        for at in [leaf.addr, tree.addr] {
+            let bound = both.lower_bound(at, probe, u64::MAX, u32::MAX);
+            assert_eq!(bound, Ok((lower, by_lower)), "lower bound {probe:?}");
+        }
+        assert_eq!(both.floor(tree.addr, probe), Ok((Some(floor), by_floor)), "floor {probe:?}");
+        let (found, reads) = both.as_of(leaf.addr, probe, 4, 9).unwrap();
+        assert_eq!((txid(found), reads), (then, by_search), "as of {probe:?}");
+        let laid = both.overlay(leaf.addr, &laid.arena, delta, probe).unwrap();
+        let expected = match value {
+            b"" => model::Laid::None,
+            b"new" => model::Laid::Delta(value),
+            _ => model::Laid::Page(value),
+        };
+        assert_eq!(laid, expected, "overlay {probe:?}");
+    }
+    let other = list_of(&[row(b"x", 1, 0, b"")]);
+    assert_eq!(both.leaf(tree.next, 64, 256, &STAMP, &bounds, &other), Err(7));
+}
+
+#[test]
+fn p13_other_prefix() {
     let mut both = arena(512);
     let bounds = Bounds { sibling: 0, lo: &[0, 0], hi: &[0, 0xff] };
     let list = list_of(&[row(&[0, 0xd4], 5, 0, b"x")]);
     let built = both.leaf(8, 64, 256, &STAMP, &bounds, &list).unwrap();
-    assert_eq!(both.search(built.addr, &[0xfe, 0xd4]), Err(7));
+    assert_eq!(both.search(built.addr, &[0xfe, 0xd4]), Ok((None, 0)));
     assert!(both.search(built.addr, &[0, 0xd4]).unwrap().0.is_some());
 }
 

@@ -290,7 +290,8 @@ fn every_refusal_by_number_changes_nothing() {
     f.write("falling.csv", "b,1,x\na,1,y\n");
     f.stops(6, "out of order", &["make", "new", "falling.csv", "--as-is"]);
     f.stops(7, "wrong prefix", &["make", "a", "falling.csv", "--lo", "ba", "--hi", "bd"]);
-    f.stops(7, "wrong prefix", &["get", "a", "xa"]);
+    // a key from elsewhere is a key that is not there
+    f.stops(32, "none", &["get", "a", "xa"]);
     f.write("many.csv", (0..65_536).map(|i| format!("k{i},1,\n")).collect::<String>());
     f.stops(8, "too big", &["make", "new", "many.csv"]);
     f.stops(9, "--size makes it longer", &["make", "a", "rows.csv"]);

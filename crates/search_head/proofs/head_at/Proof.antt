@@ -15,26 +15,26 @@ new-requires c κs = search needs
 halve-at-requires : tie.Need-halve-at-requires
 halve-at-requires c κs = search needs
 
-enum-known-r : tie.Need-enum-known-r
-enum-known-r c = search needs
-
 enum-told : tie.Need-enum-told
 enum-told c = search needs
+
+enum-told-2 : tie.Need-enum-told-2
+enum-told-2 c = search needs
 
 enum-known-b : tie.Need-enum-known-b
 enum-known-b c = search needs
 
 head-in-requires : tie.Need-head-in-requires
 head-in-requires c κs =
-    let e : outcomeAt (now (c .before .before .before .before .before .before .before .args .s)) (c .before .before .before .before .before .before .before .args .a) (now (c .before .before .before .before .before .before .before .args .probe)) leaves ≡ Outcome.Halves (c .before .b .given .0 .0) (c .before .b .given .0 .1 .0) = cc in
+    let e : outcomeAt (now (c .before .before .before .before .before .before .before .args .s)) (c .before .before .before .before .before .before .before .args .a) (now (c .before .before .before .before .before .before .before .args .probe)) leaves ≡ Outcome.Stands (c .before .b .given .0 .0) (c .before .b .given .0 .1 .0) = cc in
     let k = outcome-ready (now (c .before .before .before .before .before .before .before .args .s)) (c .before .before .before .before .before .before .before .args .a) (now (c .before .before .before .before .before .before .before .args .probe)) leaves (c .before .b .given .0 .0) (c .before .b .given .0 .1 .0) e .0 in
     (k .inside, leaf-kind (c .before .b .given .0 .0 .kind) (k .right))
 
 returns : tie.Need-returns
 unfolding headAt
 returns c =
-    let e : outcomeAt (now (c .before .before .before .before .before .before .before .args .s)) (c .before .before .before .before .before .before .before .args .a) (now (c .before .before .before .before .before .before .before .args .probe)) leaves ≡ Outcome.Refused (c .before .r .given .0 .0) = cc in
-    ap (headOf (now (c .before .before .before .before .before .before .before .args .s))) (sym e)
+    let e : outcomeAt (now (c .before .before .before .before .before .before .args .s)) (c .before .before .before .before .before .before .args .a) (now (c .before .before .before .before .before .before .args .probe)) leaves ≡ Outcome.Bad = cc in
+    ap (headOf (now (c .before .before .before .before .before .before .args .s))) (sym e)
 
 returns-2 : tie.Need-returns-2
 unfolding headAt
@@ -45,7 +45,7 @@ returns-2 c =
 returns-3 : tie.Need-returns-3
 unfolding headAt
 returns-3 c =
-    let e : outcomeAt (now (c .before .before .before .before .before .before .before .before .args .s)) (c .before .before .before .before .before .before .before .before .args .a) (now (c .before .before .before .before .before .before .before .before .args .probe)) leaves ≡ Outcome.Halves (c .before .before .b .given .0 .0) (c .before .before .b .given .0 .1 .0) = cc in
+    let e : outcomeAt (now (c .before .before .before .before .before .before .before .before .args .s)) (c .before .before .before .before .before .before .before .before .args .a) (now (c .before .before .before .before .before .before .before .before .args .probe)) leaves ≡ Outcome.Stands (c .before .before .b .given .0 .0) (c .before .before .b .given .0 .1 .0) = cc in
     c .head-in .ensures ∙ ap (headOf (now (c .before .before .before .before .before .before .before .before .args .s))) (sym e)
 
 pub head-at-spec : {M : Type 1} → statement M
@@ -54,8 +54,8 @@ head-at-spec =
     (tie.spec
     new-requires
     halve-at-requires
-    enum-known-r
     enum-told
+    enum-told-2
     enum-known-b
     head-in-requires
     returns

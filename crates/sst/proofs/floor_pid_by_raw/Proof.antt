@@ -35,41 +35,41 @@ returns c = ap (floorOf (now (c .before .before .before .before .before .before 
 ended-in-requires : tie.Need-ended-in-requires
 ended-in-requires c κs = open-inside (now (c .before .before .before .before .before .before .before .args .s)) (c .before .before .before .before .before .before .before .args .a) (c .before .b .given .0 .0) (sym (c .before .before .before .open-at .ensures) ∙ c .before .b .given .1) .0
 
-enum-known-r : tie.Need-enum-known-r
-enum-known-r c = search needs
-
 enum-told-2 : tie.Need-enum-told-2
 enum-told-2 c = search needs
+
+enum-told-3 : tie.Need-enum-told-3
+enum-told-3 c = search needs
 
 enum-known-h : tie.Need-enum-known-h
 enum-known-h c = search needs
 
 floor-in-requires : tie.Need-floor-in-requires
 floor-in-requires c κs =
-    let q : endedIn (now (c .before .before .before .before .before .before .before .before .before .before .before .args .s)) (c .before .before .before .before .before .b .given .0 .0) (now (c .before .before .before .before .before .before .before .before .before .before .before .args .probe)) indexes ≡ Ended.Halves (c .before .h .given .0 .0) = end-of (now (c .before .before .before .before .before .before .before .before .before .before .before .args .s)) (c .before .before .before .before .before .b .given .0 .0) (now (c .before .before .before .before .before .before .before .before .before .before .before .args .probe)) indexes (wants false true (c .before .before .before .before .before .before .before .before .new .result)) (c .before .before .before .ended-in .result) (Ended.Halves (c .before .h .given .0 .0)) (ap (wants false true) (c .before .before .before .before .before .before .before .before .new .ensures)) (c .before .before .before .ended-in .ensures) (c .before .h .given .1) in
-    let e : outcomeAt (now (c .before .before .before .before .before .before .before .before .before .before .before .args .s)) (c .before .before .before .before .before .before .before .before .before .before .before .args .a) (now (c .before .before .before .before .before .before .before .before .before .before .before .args .probe)) indexes ≡ Outcome.Halves (c .before .before .before .before .before .b .given .0 .0) (c .before .h .given .0 .0) = outcome-ended (now (c .before .before .before .before .before .before .before .before .before .before .before .args .s)) (c .before .before .before .before .before .before .before .before .before .before .before .args .a) (now (c .before .before .before .before .before .before .before .before .before .before .before .args .probe)) indexes (c .before .before .before .before .before .b .given .0 .0) (Ended.Halves (c .before .h .given .0 .0)) (sym (c .before .before .before .before .before .before .before .open-at .ensures) ∙ c .before .before .before .before .before .b .given .1) q in
+    let q : endedIn (now (c .before .before .before .before .before .before .before .before .before .before .before .args .s)) (c .before .before .before .before .before .b .given .0 .0) (now (c .before .before .before .before .before .before .before .before .before .before .before .args .probe)) indexes ≡ Ended.Stands (c .before .h .given .0 .0) = end-of (now (c .before .before .before .before .before .before .before .before .before .before .before .args .s)) (c .before .before .before .before .before .b .given .0 .0) (now (c .before .before .before .before .before .before .before .before .before .before .before .args .probe)) indexes (wants false true (c .before .before .before .before .before .before .before .before .new .result)) (c .before .before .before .ended-in .result) (Ended.Stands (c .before .h .given .0 .0)) (ap (wants false true) (c .before .before .before .before .before .before .before .before .new .ensures)) (c .before .before .before .ended-in .ensures) (c .before .h .given .1) in
+    let e : outcomeAt (now (c .before .before .before .before .before .before .before .before .before .before .before .args .s)) (c .before .before .before .before .before .before .before .before .before .before .before .args .a) (now (c .before .before .before .before .before .before .before .before .before .before .before .args .probe)) indexes ≡ Outcome.Stands (c .before .before .before .before .before .b .given .0 .0) (c .before .h .given .0 .0) = outcome-ended (now (c .before .before .before .before .before .before .before .before .before .before .before .args .s)) (c .before .before .before .before .before .before .before .before .before .before .before .args .a) (now (c .before .before .before .before .before .before .before .before .before .before .before .args .probe)) indexes (c .before .before .before .before .before .b .given .0 .0) (Ended.Stands (c .before .h .given .0 .0)) (sym (c .before .before .before .before .before .before .before .open-at .ensures) ∙ c .before .before .before .before .before .b .given .1) q in
     let k = outcome-ready (now (c .before .before .before .before .before .before .before .before .before .before .before .args .s)) (c .before .before .before .before .before .before .before .before .before .before .before .args .a) (now (c .before .before .before .before .before .before .before .before .before .before .before .args .probe)) indexes (c .before .before .before .before .before .b .given .0 .0) (c .before .h .given .0 .0) e .0 in
     (k .inside, index-kind (c .before .before .before .before .before .b .given .0 .0 .kind) (k .right))
 
 returns-2 : tie.Need-returns-2
 unfolding floorAt
 returns-2 c =
-    let q : endedIn (now (c .before .before .before .before .before .before .before .before .before .before .before .args .s)) (c .before .before .before .before .before .b .given .0 .0) (now (c .before .before .before .before .before .before .before .before .before .before .before .args .probe)) indexes ≡ Ended.Refused (c .before .r .given .0 .0) = end-of (now (c .before .before .before .before .before .before .before .before .before .before .before .args .s)) (c .before .before .before .before .before .b .given .0 .0) (now (c .before .before .before .before .before .before .before .before .before .before .before .args .probe)) indexes (wants false true (c .before .before .before .before .before .before .before .before .new .result)) (c .before .before .before .ended-in .result) (Ended.Refused (c .before .r .given .0 .0)) (ap (wants false true) (c .before .before .before .before .before .before .before .before .new .ensures)) (c .before .before .before .ended-in .ensures) (c .before .r .given .1) in
-    let e : outcomeAt (now (c .before .before .before .before .before .before .before .before .before .before .before .args .s)) (c .before .before .before .before .before .before .before .before .before .before .before .args .a) (now (c .before .before .before .before .before .before .before .before .before .before .before .args .probe)) indexes ≡ backOf (c .before .before .before .before .before .b .given .0 .0) (Ended.Refused (c .before .r .given .0 .0)) = outcome-ended (now (c .before .before .before .before .before .before .before .before .before .before .before .args .s)) (c .before .before .before .before .before .before .before .before .before .before .before .args .a) (now (c .before .before .before .before .before .before .before .before .before .before .before .args .probe)) indexes (c .before .before .before .before .before .b .given .0 .0) (Ended.Refused (c .before .r .given .0 .0)) (sym (c .before .before .before .before .before .before .before .open-at .ensures) ∙ c .before .before .before .before .before .b .given .1) q in
-    ap (floorOf (now (c .before .before .before .before .before .before .before .before .before .before .before .args .s))) (sym e)
+    let q : endedIn (now (c .before .before .before .before .before .before .before .before .before .before .args .s)) (c .before .before .before .before .b .given .0 .0) (now (c .before .before .before .before .before .before .before .before .before .before .args .probe)) indexes ≡ Ended.Bad = end-of (now (c .before .before .before .before .before .before .before .before .before .before .args .s)) (c .before .before .before .before .b .given .0 .0) (now (c .before .before .before .before .before .before .before .before .before .before .args .probe)) indexes (wants false true (c .before .before .before .before .before .before .before .new .result)) (c .before .before .ended-in .result) Ended.Bad (ap (wants false true) (c .before .before .before .before .before .before .before .new .ensures)) (c .before .before .ended-in .ensures) (c .enum-told2 .given .1) in
+    let e : outcomeAt (now (c .before .before .before .before .before .before .before .before .before .before .args .s)) (c .before .before .before .before .before .before .before .before .before .before .args .a) (now (c .before .before .before .before .before .before .before .before .before .before .args .probe)) indexes ≡ backOf (c .before .before .before .before .b .given .0 .0) Ended.Bad = outcome-ended (now (c .before .before .before .before .before .before .before .before .before .before .args .s)) (c .before .before .before .before .before .before .before .before .before .before .args .a) (now (c .before .before .before .before .before .before .before .before .before .before .args .probe)) indexes (c .before .before .before .before .b .given .0 .0) Ended.Bad (sym (c .before .before .before .before .before .before .open-at .ensures) ∙ c .before .before .before .before .b .given .1) q in
+    ap (floorOf (now (c .before .before .before .before .before .before .before .before .before .before .args .s))) (sym e)
 
 returns-3 : tie.Need-returns-3
 unfolding floorAt
 returns-3 c =
-    let q : endedIn (now (c .before .before .before .before .before .before .before .before .before .before .args .s)) (c .before .before .before .before .b .given .0 .0) (now (c .before .before .before .before .before .before .before .before .before .before .args .probe)) indexes ≡ Ended.Empty = end-of (now (c .before .before .before .before .before .before .before .before .before .before .args .s)) (c .before .before .before .before .b .given .0 .0) (now (c .before .before .before .before .before .before .before .before .before .before .args .probe)) indexes (wants false true (c .before .before .before .before .before .before .before .new .result)) (c .before .before .ended-in .result) (Ended.Empty) (ap (wants false true) (c .before .before .before .before .before .before .before .new .ensures)) (c .before .before .ended-in .ensures) (c .enum-told2 .given .1) in
+    let q : endedIn (now (c .before .before .before .before .before .before .before .before .before .before .args .s)) (c .before .before .before .before .b .given .0 .0) (now (c .before .before .before .before .before .before .before .before .before .before .args .probe)) indexes ≡ Ended.Empty = end-of (now (c .before .before .before .before .before .before .before .before .before .before .args .s)) (c .before .before .before .before .b .given .0 .0) (now (c .before .before .before .before .before .before .before .before .before .before .args .probe)) indexes (wants false true (c .before .before .before .before .before .before .before .new .result)) (c .before .before .ended-in .result) (Ended.Empty) (ap (wants false true) (c .before .before .before .before .before .before .before .new .ensures)) (c .before .before .ended-in .ensures) (c .enum-told3 .given .1) in
     let e : outcomeAt (now (c .before .before .before .before .before .before .before .before .before .before .args .s)) (c .before .before .before .before .before .before .before .before .before .before .args .a) (now (c .before .before .before .before .before .before .before .before .before .before .args .probe)) indexes ≡ backOf (c .before .before .before .before .b .given .0 .0) (Ended.Empty) = outcome-ended (now (c .before .before .before .before .before .before .before .before .before .before .args .s)) (c .before .before .before .before .before .before .before .before .before .before .args .a) (now (c .before .before .before .before .before .before .before .before .before .before .args .probe)) indexes (c .before .before .before .before .b .given .0 .0) (Ended.Empty) (sym (c .before .before .before .before .before .before .open-at .ensures) ∙ c .before .before .before .before .b .given .1) q in
     ap (floorOf (now (c .before .before .before .before .before .before .before .before .before .before .args .s))) (sym e)
 
 returns-4 : tie.Need-returns-4
 unfolding floorAt
 returns-4 c =
-    let q : endedIn (now (c .before .before .before .before .before .before .before .before .before .before .before .before .args .s)) (c .before .before .before .before .before .before .b .given .0 .0) (now (c .before .before .before .before .before .before .before .before .before .before .before .before .args .probe)) indexes ≡ Ended.Halves (c .before .before .h .given .0 .0) = end-of (now (c .before .before .before .before .before .before .before .before .before .before .before .before .args .s)) (c .before .before .before .before .before .before .b .given .0 .0) (now (c .before .before .before .before .before .before .before .before .before .before .before .before .args .probe)) indexes (wants false true (c .before .before .before .before .before .before .before .before .before .new .result)) (c .before .before .before .before .ended-in .result) (Ended.Halves (c .before .before .h .given .0 .0)) (ap (wants false true) (c .before .before .before .before .before .before .before .before .before .new .ensures)) (c .before .before .before .before .ended-in .ensures) (c .before .before .h .given .1) in
-    let e : outcomeAt (now (c .before .before .before .before .before .before .before .before .before .before .before .before .args .s)) (c .before .before .before .before .before .before .before .before .before .before .before .before .args .a) (now (c .before .before .before .before .before .before .before .before .before .before .before .before .args .probe)) indexes ≡ backOf (c .before .before .before .before .before .before .b .given .0 .0) (Ended.Halves (c .before .before .h .given .0 .0)) = outcome-ended (now (c .before .before .before .before .before .before .before .before .before .before .before .before .args .s)) (c .before .before .before .before .before .before .before .before .before .before .before .before .args .a) (now (c .before .before .before .before .before .before .before .before .before .before .before .before .args .probe)) indexes (c .before .before .before .before .before .before .b .given .0 .0) (Ended.Halves (c .before .before .h .given .0 .0)) (sym (c .before .before .before .before .before .before .before .before .open-at .ensures) ∙ c .before .before .before .before .before .before .b .given .1) q in
+    let q : endedIn (now (c .before .before .before .before .before .before .before .before .before .before .before .before .args .s)) (c .before .before .before .before .before .before .b .given .0 .0) (now (c .before .before .before .before .before .before .before .before .before .before .before .before .args .probe)) indexes ≡ Ended.Stands (c .before .before .h .given .0 .0) = end-of (now (c .before .before .before .before .before .before .before .before .before .before .before .before .args .s)) (c .before .before .before .before .before .before .b .given .0 .0) (now (c .before .before .before .before .before .before .before .before .before .before .before .before .args .probe)) indexes (wants false true (c .before .before .before .before .before .before .before .before .before .new .result)) (c .before .before .before .before .ended-in .result) (Ended.Stands (c .before .before .h .given .0 .0)) (ap (wants false true) (c .before .before .before .before .before .before .before .before .before .new .ensures)) (c .before .before .before .before .ended-in .ensures) (c .before .before .h .given .1) in
+    let e : outcomeAt (now (c .before .before .before .before .before .before .before .before .before .before .before .before .args .s)) (c .before .before .before .before .before .before .before .before .before .before .before .before .args .a) (now (c .before .before .before .before .before .before .before .before .before .before .before .before .args .probe)) indexes ≡ backOf (c .before .before .before .before .before .before .b .given .0 .0) (Ended.Stands (c .before .before .h .given .0 .0)) = outcome-ended (now (c .before .before .before .before .before .before .before .before .before .before .before .before .args .s)) (c .before .before .before .before .before .before .before .before .before .before .before .before .args .a) (now (c .before .before .before .before .before .before .before .before .before .before .before .before .args .probe)) indexes (c .before .before .before .before .before .before .b .given .0 .0) (Ended.Stands (c .before .before .h .given .0 .0)) (sym (c .before .before .before .before .before .before .before .before .open-at .ensures) ∙ c .before .before .before .before .before .before .b .given .1) q in
     c .floor-in .ensures ∙ ap (floorOf (now (c .before .before .before .before .before .before .before .before .before .before .before .before .args .s))) (sym e)
 
 pub floor-pid-by-raw-spec : {M : Type 1} → statement M
@@ -82,8 +82,8 @@ floor-pid-by-raw-spec =
     enum-told
     returns
     ended-in-requires
-    enum-known-r
     enum-told-2
+    enum-told-3
     enum-known-h
     floor-in-requires
     returns-2

@@ -1,10 +1,10 @@
-use borrow.Author.Needs.{needs}
 use mathlib.Core.Path.{_≡_, sym, _∙_}
 use denote.Ref.{now}
 use Rattle.frames.proofs.Frames.{open-inside}
 use Rattle.sst.specs.Search.{outcomeAt}
 use Rattle.sst.specs.declared.Ended.{Ended}
 use Rattle.sst.proofs.Opens.{backOf, outcome-ended, outcome-bad}
+use borrow.Author.Needs.{needs}
 use Rattle.sst.proofs.halve_at.Statement.{statement}
 use Rattle.sst.proofs.halve_at.Tie as tie
 use Rattle.sst.proofs.halve_at.Reads as reads
@@ -27,28 +27,28 @@ returns c = sym (outcome-bad (now (c .before .before .before .before .before .ar
 ended-in-requires : tie.Need-ended-in-requires
 ended-in-requires c κs = open-inside (now (c .before .before .before .before .before .before .args .s)) (c .before .before .before .before .before .before .args .a) (c .before .b .given .0 .0) (sym (c .before .before .before .open-at .ensures) ∙ c .before .b .given .1) .0
 
-enum-known-r : tie.Need-enum-known-r
-enum-known-r c = search needs
-
 enum-told-2 : tie.Need-enum-told-2
 enum-told-2 c = search needs
+
+enum-told-3 : tie.Need-enum-told-3
+enum-told-3 c = search needs
 
 enum-known-h : tie.Need-enum-known-h
 enum-known-h c = search needs
 
 returns-2 : tie.Need-returns-2
 returns-2 c =
-    let e : outcomeAt (now (c .before .before .before .before .before .before .before .before .before .before .args .s)) (c .before .before .before .before .before .before .before .before .before .before .args .a) (now (c .before .before .before .before .before .before .before .before .before .before .args .probe)) (c .before .before .before .before .before .before .before .before .before .before .args .w) ≡ backOf (c .before .before .before .before .before .b .given .0 .0) (Ended.Refused (c .before .r .given .0 .0)) = outcome-ended (now (c .before .before .before .before .before .before .before .before .before .before .args .s)) (c .before .before .before .before .before .before .before .before .before .before .args .a) (now (c .before .before .before .before .before .before .before .before .before .before .args .probe)) (c .before .before .before .before .before .before .before .before .before .before .args .w) (c .before .before .before .before .before .b .given .0 .0) (Ended.Refused (c .before .r .given .0 .0)) (sym (c .before .before .before .before .before .before .before .open-at .ensures) ∙ c .before .before .before .before .before .b .given .1) (sym (c .before .before .before .ended-in .ensures) ∙ c .before .r .given .1) in
+    let e : outcomeAt (now (c .before .before .before .before .before .before .before .before .before .args .s)) (c .before .before .before .before .before .before .before .before .before .args .a) (now (c .before .before .before .before .before .before .before .before .before .args .probe)) (c .before .before .before .before .before .before .before .before .before .args .w) ≡ backOf (c .before .before .before .before .b .given .0 .0) Ended.Bad = outcome-ended (now (c .before .before .before .before .before .before .before .before .before .args .s)) (c .before .before .before .before .before .before .before .before .before .args .a) (now (c .before .before .before .before .before .before .before .before .before .args .probe)) (c .before .before .before .before .before .before .before .before .before .args .w) (c .before .before .before .before .b .given .0 .0) Ended.Bad (sym (c .before .before .before .before .before .before .open-at .ensures) ∙ c .before .before .before .before .b .given .1) (sym (c .before .before .ended-in .ensures) ∙ c .enum-told2 .given .1) in
     sym e
 
 returns-3 : tie.Need-returns-3
 returns-3 c =
-    let e : outcomeAt (now (c .before .before .before .before .before .before .before .before .before .args .s)) (c .before .before .before .before .before .before .before .before .before .args .a) (now (c .before .before .before .before .before .before .before .before .before .args .probe)) (c .before .before .before .before .before .before .before .before .before .args .w) ≡ backOf (c .before .before .before .before .b .given .0 .0) (Ended.Empty) = outcome-ended (now (c .before .before .before .before .before .before .before .before .before .args .s)) (c .before .before .before .before .before .before .before .before .before .args .a) (now (c .before .before .before .before .before .before .before .before .before .args .probe)) (c .before .before .before .before .before .before .before .before .before .args .w) (c .before .before .before .before .b .given .0 .0) (Ended.Empty) (sym (c .before .before .before .before .before .before .open-at .ensures) ∙ c .before .before .before .before .b .given .1) (sym (c .before .before .ended-in .ensures) ∙ c .enum-told2 .given .1) in
+    let e : outcomeAt (now (c .before .before .before .before .before .before .before .before .before .args .s)) (c .before .before .before .before .before .before .before .before .before .args .a) (now (c .before .before .before .before .before .before .before .before .before .args .probe)) (c .before .before .before .before .before .before .before .before .before .args .w) ≡ backOf (c .before .before .before .before .b .given .0 .0) (Ended.Empty) = outcome-ended (now (c .before .before .before .before .before .before .before .before .before .args .s)) (c .before .before .before .before .before .before .before .before .before .args .a) (now (c .before .before .before .before .before .before .before .before .before .args .probe)) (c .before .before .before .before .before .before .before .before .before .args .w) (c .before .before .before .before .b .given .0 .0) (Ended.Empty) (sym (c .before .before .before .before .before .before .open-at .ensures) ∙ c .before .before .before .before .b .given .1) (sym (c .before .before .ended-in .ensures) ∙ c .enum-told3 .given .1) in
     sym e
 
 returns-4 : tie.Need-returns-4
 returns-4 c =
-    let e : outcomeAt (now (c .before .before .before .before .before .before .before .before .before .before .args .s)) (c .before .before .before .before .before .before .before .before .before .before .args .a) (now (c .before .before .before .before .before .before .before .before .before .before .args .probe)) (c .before .before .before .before .before .before .before .before .before .before .args .w) ≡ backOf (c .before .before .before .before .before .b .given .0 .0) (Ended.Halves (c .before .h .given .0 .0)) = outcome-ended (now (c .before .before .before .before .before .before .before .before .before .before .args .s)) (c .before .before .before .before .before .before .before .before .before .before .args .a) (now (c .before .before .before .before .before .before .before .before .before .before .args .probe)) (c .before .before .before .before .before .before .before .before .before .before .args .w) (c .before .before .before .before .before .b .given .0 .0) (Ended.Halves (c .before .h .given .0 .0)) (sym (c .before .before .before .before .before .before .before .open-at .ensures) ∙ c .before .before .before .before .before .b .given .1) (sym (c .before .before .before .ended-in .ensures) ∙ c .before .h .given .1) in
+    let e : outcomeAt (now (c .before .before .before .before .before .before .before .before .before .before .args .s)) (c .before .before .before .before .before .before .before .before .before .before .args .a) (now (c .before .before .before .before .before .before .before .before .before .before .args .probe)) (c .before .before .before .before .before .before .before .before .before .before .args .w) ≡ backOf (c .before .before .before .before .before .b .given .0 .0) (Ended.Stands (c .before .h .given .0 .0)) = outcome-ended (now (c .before .before .before .before .before .before .before .before .before .before .args .s)) (c .before .before .before .before .before .before .before .before .before .before .args .a) (now (c .before .before .before .before .before .before .before .before .before .before .args .probe)) (c .before .before .before .before .before .before .before .before .before .before .args .w) (c .before .before .before .before .before .b .given .0 .0) (Ended.Stands (c .before .h .given .0 .0)) (sym (c .before .before .before .before .before .before .before .open-at .ensures) ∙ c .before .before .before .before .before .b .given .1) (sym (c .before .before .before .ended-in .ensures) ∙ c .before .h .given .1) in
     sym e
 
 pub halve-at-spec : {M : Type 1} → statement M
@@ -60,8 +60,8 @@ halve-at-spec =
     enum-told
     returns
     ended-in-requires
-    enum-known-r
     enum-told-2
+    enum-told-3
     enum-known-h
     returns-2
     returns-3

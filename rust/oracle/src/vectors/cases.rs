@@ -84,7 +84,7 @@ pub(super) fn write(out: &mut Out, _rng: &mut Prng) {
         &list_of(&[row(b"a", 5, 0, b"x"), row(b"a", 5, 0, b"y")]),
     ));
 
-    out.note("P13: lo 00 00, hi 00 FF, key 00 D4: probe FE D4 is 7");
+    out.note("P13 with order 3: lo 00 00, hi 00 FF, key 00 D4: probe FE D4 is none, 0 keys read");
     out.arena(1024, 4);
     let bounds: (u64, &[u8], &[u8]) = (0, &[0, 0], &[0, 0xff]);
     let (addr, _) =

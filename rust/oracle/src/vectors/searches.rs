@@ -11,7 +11,8 @@ const LARGEST: &str = "18446744073709551615 4294967295";
 pub(super) fn write(out: &mut Out, rng: &mut Prng) {
     every_size(out, rng);
     versions(out, rng);
-    wrong_probes(out, rng);
+    other_probes(out, rng);
+    elsewhere(out, rng);
     many_keys(out, rng);
     random_pages(out, rng);
 }
@@ -37,6 +38,39 @@ fn every_size(out: &mut Out, rng: &mut Prng) {
             }
         });
     }
+}
+
+/// Order 3's worked answers; then the same with every slot damaged: only floor hands a record back, so only floor is refused where
+/// the probe lacks the prefix.
+fn elsewhere(out: &mut Out, rng: &mut Prng) {
+    out.note("lo ba, hi bd: probes below the prefix, above it, and those that begin with it; then damaged slots");
+    out.case(rng, |out, _| {
+        let rows = [
+            row(b"ba", 3, 0, b"1"),
+            row(b"bb", 5, 0, b"2"),
+            row(b"bb", 4, 0, b"3"),
+            row(b"bc", 2, 0, b"4"),
+        ];
+        let bounds = (0, &b"ba"[..], &b"bd"[..]);
+        let children = [(b"ba".to_vec(), 21), (b"bb".to_vec(), 22), (b"bc".to_vec(), 23)];
+        let (page, next) = out.built(leaf(8, 64, 256, STAMP, bounds, &list_of(&rows)));
+        let (tree, _) = out.built(index(next, STAMP, bounds, &index_list_of(&children)));
+        for damaged in [false, true] {
+            if damaged {
+                for at in [page, tree] {
+                    out.put(at as usize + 72, &[0; 12]);
+                }
+            }
+            for probe in ["-", "617a7a", "62", "6262", "626278", "6265", "63", "ff"] {
+                out.say(format!("search {page} {probe}"));
+                for at in [page, tree] {
+                    out.say(format!("lower {at} {probe} {LARGEST}"));
+                    out.say(format!("lower {at} {probe} 0 0"));
+                }
+                out.say(format!("floor {tree} {probe}"));
+            }
+        }
+    });
 }
 
 /// At equal keys the newer version comes first; an index page ignores the version.
@@ -66,8 +100,8 @@ fn versions(out: &mut Out, rng: &mut Prng) {
     });
 }
 
-/// 7 before any slot is named, and never on a page without keys.
-fn wrong_probes(out: &mut Out, rng: &mut Prng) {
+/// Probes from elsewhere are answered without a key read, and the other kind of page is 4.
+fn other_probes(out: &mut Out, rng: &mut Prng) {
     for prefix in [&b"p"[..], b"prefix", &[0x70; 130]] {
         for n in [0usize, 1, 5] {
             out.note("probes without the prefix, shorter than it, equal to it, and the other kind of page");

@@ -1,0 +1,1 @@
+-- No laws: the rows are in specs/Elsewhere.antt.
