@@ -28,7 +28,7 @@ use Rattle.build_image.specs.Image.{remoteAddr, valBytes, remoteFrame, remoteFr
 use Rattle.build_totals.specs.Totals.{leafAt}
 use Rattle.build_image.specs.declared.Built.the-variants.{At, Refused}
 use Rattle.build_table.specs.Leaf.{leafEnd}
-use Rattle.build_image.specs.Call.{larger, callOf}
+use Rattle.build_image.specs.Call.{larger, callOf, defaultBudget}
 use Rattle.base.specs.Calls.{boundsFrom, newAnswer, newArena}
 
 -- "a", version (5,0), "xy"
@@ -55,8 +55,8 @@ open-ended = boundsFrom [] [] 0
 -- P5: no boundaries, limit 64, next 8: new next 112. P6: an arena of 112 suffices, 111 is 9. P7: history page at 8, leaf at 104, new next
 -- 240, the whole arena. P8, budget 256: of 52 bytes two a page, so a second page stands at 232 and the leaf at 384; of 51 three, exactly
 -- 256 with the header, so the leaf stands at 296. P11: one key and version twice is 6
-pub rows : (newAnswer (zeros 112) 8 p5List (at64 131072) open-ended ≡ At (addr 8) 112)
-    × (newAnswer (zeros 111) 8 p5List (at64 131072) open-ended ≡ Refused NoRoom)
+pub rows : (newAnswer (zeros 112) 8 p5List (at64 defaultBudget) open-ended ≡ At (addr 8) 112)
+    × (newAnswer (zeros 111) 8 p5List (at64 defaultBudget) open-ended ≡ Refused NoRoom)
     × (newAnswer (zeros 240) 8 p7List (at64 256) open-ended ≡ At (addr 104) 240)
     × (newArena (zeros 240) 8 p7List (at64 256) open-ended ≡ p7)
     × (newAnswer (zeros 600) 8 list52 (at64 256) open-ended ≡ At (addr 384) 576)

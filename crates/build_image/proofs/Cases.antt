@@ -15,6 +15,7 @@ use Rattle.values.specs.Vals.{flagOf, histBytes, frontBytes, inlineBytes, remot
 use Rattle.build_paging.specs.Cuts.{fits, cutsFrom, total}
 use Rattle.build_sources.specs.Source.{Entry, only, olds}
 use Rattle.build_image.specs.declared.Call.{Call}
+use Rattle.build_image.specs.Call.{defaultBudget}
 use Rattle.build_image.specs.Sizes.{pad, remoteLen, cost, costsOf, remotesLen, keyLen, oldRun, sums, counted, roomOf}
 use Rattle.build_image.specs.Image.{remoteAddr, valBytes, remoteFrame, remoteFrameOf, remoteFrames, remoteAddrs, oldRec, oldRecs, oldSlots, histHead, histSize, histPage, pageEnd, history, historyEnd, starts, histAddrs, placesIn, places, headRec, headRecs, headSlots, les, hints, cutsOf, leafSize, leafRoom, leafFrame, leafImage, Borders}
 
@@ -31,8 +32,8 @@ abbrev pub z : Entry
 z = record { old = true; key = 97 ∷ []; ver = verOf 3 0; val = 122 ∷ []; kept = 0; page = 0 }
 
 -- P5 ""a", version (5,0), "xy", no boundaries, limit 64, next 8: size 65, slot 44, new next 112"
-pub p5 : (leafSize (call 131072) open-ended (xy ∷ []) ≡ 65) × (leafRoom (call 131072) (xy ∷ []) ≡ 0) × (headSlots 64 0 44 (xy ∷ []) ≡ le 4 44)
-    × (8 + length (leafImage (call 131072) open-ended 8 (xy ∷ [])) ≡ 112)
+pub p5 : (leafSize (call defaultBudget) open-ended (xy ∷ []) ≡ 65) × (leafRoom (call defaultBudget) (xy ∷ []) ≡ 0) × (headSlots 64 0 44 (xy ∷ []) ≡ le 4 44)
+    × (8 + length (leafImage (call defaultBudget) open-ended 8 (xy ∷ [])) ≡ 112)
 unfolding le enc uleb boxBytes baseFront baseBack baseBytes pageBytes verBytes leafFront leafKey flagOf histBytes frontBytes inlineBytes remoteBytes sizeOf fits cutsFrom total only pad remoteLen cost costsOf remotesLen keyLen oldRun sums counted roomOf remoteAddr valBytes remoteFrame remoteFrameOf remoteFrames remoteAddrs oldRec oldRecs oldSlots histHead histSize histPage pageEnd history historyEnd starts histAddrs placesIn places headRec headRecs headSlots les hints leafSize leafRoom leafFrame leafImage
 p5 = (refl, refl, refl, refl)
 

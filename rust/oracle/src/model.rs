@@ -875,8 +875,9 @@ pub enum Laid<'p, 'd> {
 }
 
 /// "Overlay lookup takes an arena with a leaf page and a second buffer with one leaf delta. Both
-/// frames' headers and the delta's key are judged for 4. If the delta's key is the probe and it is no older than the page's head, or the page has none, its value is handed
-/// back from the delta's buffer; otherwise the page's." (DECIDED 36)
+/// frames' headers and the delta's key are judged for 4 .. If the delta's key is the probe and it is
+/// no older than the page's head, or the page has none, its value is handed back from the delta's
+/// buffer; otherwise the page's." (DECIDED 36; a probe without the prefix is no key of the page: order 3)
 pub fn overlay<'p, 'd>(
     arena: &'p [u8],
     addr: u64,

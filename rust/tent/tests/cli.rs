@@ -120,6 +120,25 @@ fn history_pages_of_the_default_budget() {
     assert!(f.ok(&["help"]).contains(&format!("--budget {} ", Build::HIST_PAGE_BUDGET)));
 }
 
+/// Order 3: a key that does not begin with the page's prefix is asked for like any other, and bounds a list like any other.
+#[test]
+fn keys_from_elsewhere() {
+    let f = Folder::new("elsewhere");
+    f.write("rows.csv", "ba,3,1\nbb,5,2\nbb,4,3\nbc,2,4\n");
+    f.ok(&["make", "a", "rows.csv", "--lo", "ba", "--hi", "bd"]);
+    for key in ["azz", "c", "b"] {
+        f.stops(32, "none", &["get", "a", key]);
+        f.stops(32, "none", &["get", "a", key, "--as-of", "9"]);
+    }
+    let all = "ba,3,1\nbb,5,2\nbc,2,4\n";
+    assert_eq!(f.ok(&["list", "a", "--from", "azz", "--to", "c"]), all);
+    assert_eq!(f.ok(&["list", "a", "--from", "a", "--to", "bb"]), "ba,3,1\n");
+    assert_eq!(f.ok(&["list", "a", "--from", "bb", "--to", "x"]), "bb,5,2\nbc,2,4\n");
+    for (from, to) in [("c", "d"), ("a", "azz"), ("x", "a")] {
+        assert_eq!(f.ok(&["list", "a", "--from", from, "--to", to]), "", "{from} to {to}");
+    }
+}
+
 #[test]
 fn what_is_listed_makes_the_same_page() {
     let (f, mut random) = (Folder::new("again"), Prng::new(7));
