@@ -73,7 +73,8 @@ pub fn limits_ok(limit: usize, budget: usize) -> bool
     inline & paged
 }
 
-// The two budgets that have a name, for whoever builds from Rattle: a caller's without an opinion, and the Rust's. Number 1 accepts both (`named-budgets`).
+// The two budgets that have a name: the default, and the Rust's. A Rattle caller passes one of them; the contracts hold the constants to the
+// definitions, of which `named-budgets` says that number 1 accepts both.
 pub fn default_budget() -> usize
     ensures { λ r. ⌜ r ≡ defaultBudget ⌝ }
 {

@@ -1,19 +1,19 @@
 -- The judge of a source's entries, one law a return; and what its answer gives the writer.
 -- Assumes nothing.
 use mathlib.Core.Path.{_≡_, refl, sym, ap, ap₂, _∙_, subst}
-use mathlib.Core.List.{List, [], _∷_, _++_}
+use mathlib.Core.List.{List, [], _∷_}
 use mathlib.Core.Bool.{Bool, true, false, cond, _&&_}
 use Prim.Native.Nat.{ℕ, _+_, _-_, _*_, _≤_, _<_}
 use native.Mathlib.Omega.{arith}
 use borrow.Author.Tests.{leb-true, leb-false, le-leb, lt-leb}
 use lib.Dec.{leb}
-use lib.ListN.{length, take, length-append}
+use lib.ListN.{length, take}
 use lib.Seq.{length-take-le, take-take}
 use Rattle.spans.specs.Span.{part, partOr, put}
 use Rattle.spans.proofs.Part.{partOr-in}
 use Rattle.spans.proofs.Tests.{ask}
 use Rattle.order.specs.Order.{startsWith}
-use Rattle.order.proofs.Laws.{starts-split}
+use Rattle.order.proofs.Laws.{starts-length}
 use Rattle.frames.specs.Layout.{addr, frameLen, baseLen}
 use Rattle.frames.specs.declared.Refusal.{Refusal}
 use Rattle.frames.specs.declared.Refusal.the-variants.{OutOfOrder, WrongPrefix, TooBig, NoRoom}
@@ -45,19 +45,13 @@ and-both false y e = absurd (let z : _≡_ {A = ℕ} 0 1 = cc in omega arith)
 
 -- ---- the prefix
 
--- a key that begins with the prefix is no shorter
-prefix-long : (p k : List ℕ) → startsWith p k ≡ true → length p ≤ length k
-prefix-long p k e = omega (arith, ap length (starts-split p k e), length-append p (drop-of p k))
-  where
-    drop-of : List ℕ → List ℕ → List ℕ
-    drop-of p k = lib.ListN.drop (length p) k
-
+-- keys that begin with the prefix are no shorter
 pub longs : (p : List ℕ) (es : List Entry) → prefixed p es ≡ true → Long (length p) es
 unfolding prefixed
 longs p [] e = tt
 longs p (x ∷ es) e =
     let q = ask (startsWith p (x .key)) (prefixed p es) false true (λ z. absurd (let y : _≡_ {A = ℕ} 0 1 = cc in omega arith)) e in
-    (prefix-long p (x .key) (q .0), longs p es (q .1))
+    (starts-length p (x .key) (q .0), longs p es (q .1))
 
 -- every key begins with no prefix
 all-begin : (es : List Entry) → true ≡ prefixed [] es
