@@ -1,8 +1,8 @@
 /*
  * Cresttrestle: pages of versioned rows, built, merged, searched and walked in an arena that the caller lends.
  *
- * Every call ends on every input, reads only what it is lent, and returns 0 or a number of refusal (enum ct_refusal), the lowest that
- * applies. A refusal changes nothing: no byte of an arena, no word of `out` or `walk`. Nothing is allocated, kept or freed; calls on
+ * Every call ends on every input, reads only what it is lent, and returns 0 or a number of refusal, the first in the list of enum ct_refusal
+ * that applies. A refusal changes nothing: no byte of an arena, no word of `out` or `walk`. Nothing is allocated, kept or freed; calls on
  * different arenas may run at the same time.
  *
  * Slices are a pointer and a length; a slice of length 0 may have any pointer that is not NULL. Answers go into a lent slice of words
@@ -22,7 +22,7 @@
 extern "C" {
 #endif
 
-/* Why a call is refused. */
+/* Why a call is refused, in the order in which it is judged: 10 comes before 8 and 9. */
 enum ct_refusal {
     CT_OK = 0,
     CT_BAD_LIMIT = 1,    /* inline limit not 1..65,536; budget not 256..131,072; lo or hi over 4,096 */
@@ -32,6 +32,8 @@ enum ct_refusal {
     CT_MIXED_KINDS = 5,  /* merging a leaf with an index page */
     CT_OUT_OF_ORDER = 6, /* an entry not above the one before */
     CT_WRONG_PREFIX = 7, /* building or merging: a key does not begin with the page's prefix */
+    CT_OUTSIDE = 10,     /* building or merging: a key below lo or not below hi, or lo not below hi;
+                            merging: the left page has no hi, or it is not the right page's lo */
     CT_TOO_BIG = 8,      /* over 65,535 entries, or size plus hint room over 16,777,216 */
     CT_NO_ROOM = 9       /* next plus all frames exceeds the arena */
 };
@@ -54,37 +56,41 @@ enum ct_refusal {
 uint32_t ct_calc_prefix(const uint8_t *lo, size_t lo_len, const uint8_t *hi, size_t hi_len, uint64_t *out, size_t out_len);
 
 /* new_leaf: a leaf page of a record list (version byte 1, u32 big-endian byte count, then entries of key length u16, key, txid u64, cmd u32,
- * value length u32, value, all big-endian), keys rising, the newest version of a key first. An empty hi is none.
+ * value length u32, value, all big-endian), keys rising, the newest version of a key first. An empty hi is none. lo is below hi, and each key
+ * is lo or above it, and below hi. Refused with 1, 2, 3, 6, 7, 10, 8, 9.
  * out: [0] the page's address, [1] the new next free address */
 uint32_t ct_new_leaf(uint8_t *arena, size_t arena_len, uint64_t next, const uint8_t *list, size_t list_len, const uint8_t *lo,
                      size_t lo_len, const uint8_t *hi, size_t hi_len, uint64_t sibling, uint64_t limit, uint64_t budget, uint8_t group,
                      uint64_t txid, uint64_t lsn, uint64_t checkpoint, uint64_t *out, size_t out_len);
 
-/* new_intl: an index page of an index list (the same header, then entries of key length u16, key, page id u64).
+/* new_intl: an index page of an index list (the same header, then entries of key length u16, key, page id u64), boundaries and keys as for a
+ * leaf. Refused with 1, 2, 3, 6, 7, 10, 8, 9.
  * out: [0] the page's address, [1] the new next free address */
 uint32_t ct_new_intl(uint8_t *arena, size_t arena_len, uint64_t next, const uint8_t *list, size_t list_len, const uint8_t *lo,
                      size_t lo_len, const uint8_t *hi, size_t hi_len, uint64_t sibling, uint8_t group, uint64_t txid, uint64_t lsn,
                      uint64_t checkpoint, uint64_t *out, size_t out_len);
 
-/* merge: the left page's records, then the right's, as one new page; lo of the left, hi and sibling of the right.
+/* merge: the left page's records, then the right's, as one new page; lo of the left, hi and sibling of the right. The two are neighbours: the
+ * left has a hi, and it is the right's lo. Refused with 1, 2, 4, 5, 6, 7, 10, 8, 9.
  * out: [0] the page's address, [1] the new next free address */
 uint32_t ct_merge(uint8_t *arena, size_t arena_len, uint64_t next, uint64_t left, uint64_t right, uint64_t limit, uint64_t budget,
                   uint8_t group, uint64_t txid, uint64_t lsn, uint64_t checkpoint, uint64_t *out, size_t out_len);
 
-/* from_key_val: a leaf delta, one row with its version (txid, cmd).
+/* from_key_val: a leaf delta, one row with its version (txid, cmd). Refused with 1, 2, 3, 9.
  * out: [0] the delta's address, [1] the new next free address */
 uint32_t ct_delta_leaf(uint8_t *arena, size_t arena_len, uint64_t next, uint64_t limit, uint8_t group, uint64_t lsn, uint64_t checkpoint,
                        uint64_t txid, uint32_t cmd, const uint8_t *key, size_t key_len, const uint8_t *value, size_t value_len,
                        uint64_t *out, size_t out_len);
 
-/* from_key_index: an index delta, a key and the page that it leads to.
+/* from_key_index: an index delta, a key and the page that it leads to. Refused with 2, 3, 9.
  * out: [0] the delta's address, [1] the new next free address */
 uint32_t ct_delta_index(uint8_t *arena, size_t arena_len, uint64_t next, uint8_t group, uint64_t txid, uint64_t lsn, uint64_t checkpoint,
                         const uint8_t *key, size_t key_len, uint64_t page, uint64_t *out, size_t out_len);
 
 /* ---- reading a page ---- */
 
-/* Whether the leaf or index page at an address is sound: 0, or 4. */
+/* Whether the leaf or index page at an address is sound: 0, or 4. A page with a key outside its boundaries, or with a lo that is not below its
+ * hi, is not sound; no other call that reads asks for this. */
 uint32_t ct_check(const uint8_t *arena, size_t arena_len, uint64_t addr);
 
 /* The page's kind, boundaries and neighbour. An empty hi is none.

@@ -46,8 +46,8 @@ int main(void) {
     /* A leaf without boundaries (lo and hi are empty), values below 64 bytes inline, from address 8 of the new arena on. */
     uint32_t no = ct_new_leaf(arena, sizeof arena, 8, list, end, none, 0, none, 0, 0, 64, CT_HIST_PAGE_BUDGET, 0, 0, 0, 0, out, CT_OUT_WORDS);
     if (no != CT_OK) return wrong("ct_new_leaf", no);
-    uint64_t page = out[0];
-    printf("page %llu, next free address %llu\n", (unsigned long long)page, (unsigned long long)out[1]);
+    uint64_t page = out[0], next = out[1];
+    printf("page %llu, next free address %llu\n", (unsigned long long)page, (unsigned long long)next);
 
     no = ct_search(arena, sizeof arena, page, (const uint8_t *)"pear", 4, out, CT_OUT_WORDS);
     if (no != CT_OK || out[0] != 1 || out[2] != 9) return wrong("ct_search", no);
@@ -78,5 +78,10 @@ int main(void) {
     no = ct_search(arena, sizeof arena, page + 8, (const uint8_t *)"pear", 4, out, CT_OUT_WORDS);
     if (no != CT_BAD_FRAME || out[0] != 77) return wrong("ct_search at a wrong address", no);
     printf("a wrong address is refused with %u\n", no);
+
+    /* With a lower boundary of "b" the page would have to answer for apple, which is its left neighbour's: refused, and nothing is written. */
+    no = ct_new_leaf(arena, sizeof arena, next, list, end, (const uint8_t *)"b", 1, none, 0, 0, 64, CT_HIST_PAGE_BUDGET, 0, 0, 0, 0, out, CT_OUT_WORDS);
+    if (no != CT_OUTSIDE || out[0] != 77) return wrong("ct_new_leaf of a key below lo", no);
+    printf("a key below the page's lower boundary is refused with %u\n", no);
     return 0;
 }

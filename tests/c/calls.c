@@ -30,6 +30,7 @@ static const uint8_t rows[] = {1, 0, 0, 0, 41, 0, 1, 'a', 0, 0, 0, 0, 0, 0, 0, 5
                                0, 1, 'a', 0, 0, 0, 0, 0, 0, 0, 3, 0, 0, 0, 0, 0, 0, 0, 1, 'z'};
 /* "b", one version with a cmd; its value is remote at limit 1. */
 static const uint8_t right_rows[] = {1, 0, 0, 0, 21, 0, 1, 'b', 0, 0, 0, 0, 0, 0, 0, 9, 0, 0, 0, 4, 0, 0, 0, 2, 'p', 'q'};
+static const uint8_t no_rows[] = {1, 0, 0, 0, 0};
 /* an index list: "b" leads to page 70, "d" to page 71 */
 static const uint8_t leads[] = {1, 0, 0, 0, 22, 0, 1, 'b', 0, 0, 0, 0, 0, 0, 0, 70, 0, 1, 'd', 0, 0, 0, 0, 0, 0, 0, 71};
 
@@ -57,7 +58,8 @@ int main(void) {
     mark();
     MUST(ct_calc_prefix((const uint8_t *)"ab", 2, (const uint8_t *)"ad", 2, OUT) == 0 && out[0] == 1 && wrote(1));
     mark();
-    MUST(ct_new_leaf(ARENA, 8, rows, sizeof rows, NONE, NONE, 33, 64, 256, 6, 77, 40, 41, OUT) == 0 && wrote(2));
+    /* P7 with a hi, which the page's rounding has room for */
+    MUST(ct_new_leaf(ARENA, 8, rows, sizeof rows, NONE, (const uint8_t *)"b", 1, 33, 64, 256, 6, 77, 40, 41, OUT) == 0 && wrote(2));
     uint64_t leaf = out[0], next = out[1];
     MUST(leaf == 104 && next == 240);
     /* the box header: group, txid, the larger lsn; the base header: sibling */
@@ -204,7 +206,19 @@ int main(void) {
     MUST(ct_lower_bound(ARENA, prefixed, (const uint8_t *)"b", 1, 9, 0, OUT) == 0 && out[0] == 0 && out[1] == 1 && out[2] == 0);
     MUST(ct_lower_bound(ARENA, prefixed, NONE, 9, 0, OUT) == 0 && out[0] == 1 && out[1] == 0 && out[2] == 0);
 
-    /* ---- a refusal changes nothing, and the lowest number wins */
+    /* ---- a key that is lo stays, one that is hi is outside: the check says so, and a merge; a search finds it all the same */
+    MUST(ct_new_leaf(ARENA, next, no_rows, sizeof no_rows, NONE, NONE, 0, 64, 256, 0, 0, 0, 0, OUT) == 0);
+    uint64_t apart = out[0];
+    next = out[1];
+    MUST(ct_page(ARENA, leaf, OUT) == 0 && is(out[4], out[5], "b"));
+    uint64_t hi_at = out[4];
+    arena[hi_at] = 'a';
+    MUST(ct_check(ARENA, leaf) == CT_BAD_FRAME && ct_merge(ARENA, next, leaf, right, 64, 256, 0, 0, 0, 0, OUT) == CT_BAD_FRAME);
+    MUST(ct_search(ARENA, leaf, (const uint8_t *)"a", 1, OUT) == 0 && out[0] == 1 && out[2] == 5);
+    arena[hi_at] = 'b';
+    MUST(ct_check(ARENA, leaf) == 0 && ct_check(ARENA, right) == 0);
+
+    /* ---- a refusal changes nothing, and the first number of the list wins */
     static uint8_t before[sizeof arena];
     memcpy(before, arena, sizeof arena);
     memcpy(last, walk, sizeof walk);
@@ -213,10 +227,17 @@ int main(void) {
     MUST(ct_new_leaf(ARENA, 7, rows, 3, NONE, NONE, 0, 64, 256, 0, 0, 0, 0, OUT) == CT_BAD_ARENA);
     MUST(ct_new_leaf(ARENA, next, rows, 3, NONE, NONE, 0, 64, 256, 0, 0, 0, 0, OUT) == CT_BAD_LIST);
     MUST(ct_new_leaf(ARENA, next, rows, sizeof rows, (const uint8_t *)"b", 1, (const uint8_t *)"b", 1, 0, 64, 256, 0, 0, 0, 0, OUT) == CT_WRONG_PREFIX);
+    MUST(ct_new_leaf(ARENA, next, rows, sizeof rows, (const uint8_t *)"b", 1, NONE, 0, 64, 256, 0, 0, 0, 0, OUT) == CT_OUTSIDE);
+    MUST(ct_new_leaf(ARENA, next, rows, sizeof rows, NONE, (const uint8_t *)"a", 1, 0, 64, 256, 0, 0, 0, 0, OUT) == CT_OUTSIDE);
+    MUST(ct_new_leaf(ARENA, next, no_rows, sizeof no_rows, (const uint8_t *)"b", 1, (const uint8_t *)"b", 1, 0, 64, 256, 0, 0, 0, 0, OUT) == CT_OUTSIDE);
+    MUST(ct_new_leaf(arena, next, next, rows, sizeof rows, (const uint8_t *)"b", 1, NONE, 0, 64, 256, 0, 0, 0, 0, OUT) == CT_OUTSIDE);
     MUST(ct_new_leaf(arena, next, next, rows, sizeof rows, NONE, NONE, 0, 64, 256, 0, 0, 0, 0, OUT) == CT_NO_ROOM);
+    MUST(ct_new_intl(ARENA, next, leads, sizeof leads, (const uint8_t *)"b", 1, (const uint8_t *)"d", 1, 0, 0, 0, 0, 0, OUT) == CT_OUTSIDE);
+    MUST(ct_new_intl(ARENA, next, leads, sizeof leads, (const uint8_t *)"c", 1, NONE, 0, 0, 0, 0, 0, OUT) == CT_OUTSIDE);
     MUST(ct_new_intl(ARENA, 7, leads, sizeof leads, NONE, NONE, 0, 0, 0, 0, 0, OUT) == CT_BAD_ARENA);
     MUST(ct_merge(ARENA, next, leaf, intl, 64, 256, 0, 0, 0, 0, OUT) == CT_MIXED_KINDS);
     MUST(ct_merge(ARENA, next, right, leaf, 64, 256, 0, 0, 0, 0, OUT) == CT_OUT_OF_ORDER);
+    MUST(ct_merge(ARENA, next, right, apart, 64, 256, 0, 0, 0, 0, OUT) == CT_OUTSIDE && ct_merge(ARENA, next, apart, apart, 64, 256, 0, 0, 0, 0, OUT) == CT_OUTSIDE);
     MUST(ct_delta_leaf(ARENA, next, 0, 0, 0, 0, 0, 0, NONE, NONE, OUT) == CT_BAD_LIMIT);
     MUST(ct_delta_index(ARENA, 9, 0, 0, 0, 0, NONE, 0, OUT) == CT_BAD_ARENA);
     MUST(ct_page(ARENA, 8, OUT) == CT_BAD_FRAME && ct_history_hints(ARENA, intl, OUT) == CT_BAD_FRAME && ct_remote_hints(ARENA, intl, OUT) == CT_BAD_FRAME);

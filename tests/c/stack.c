@@ -26,6 +26,8 @@ static size_t list_len, other_len;
 static uint64_t next, leaf, right, intl, delta, old_walk;
 static uint8_t key[16];
 static size_t key_len;
+/* the boundaries of the leaf to be built: its side's letter and the next, so that neighbours meet */
+static uint8_t lo[1], hi[1];
 static uint32_t answer;
 
 /* The bytes of stack that one run of a function takes. */
@@ -65,7 +67,7 @@ static void run_backward(void) { answer = ct_backward(ARENA, leaf, KEYS - 1, 0, 
 static void run_overlay(void) { answer = ct_overlay(ARENA, leaf, buffer, sizeof buffer, delta, key, key_len, OUT); }
 static void run_check(void) { answer = ct_check(ARENA, leaf); }
 static void run_new_leaf(void) {
-    answer = ct_new_leaf(ARENA, next, list, list_len, none, 0, none, 0, 0, 16, 256, 0, 1, 0, 0, OUT);
+    answer = ct_new_leaf(ARENA, next, list, list_len, lo, 1, hi, 1, 0, 16, 256, 0, 1, 0, 0, OUT);
 }
 static void run_new_intl(void) { answer = ct_new_intl(ARENA, next, other, other_len, none, 0, none, 0, 0, 0, 1, 0, 0, OUT); }
 static void run_merge(void) { answer = ct_merge(ARENA, next, leaf, right, 64, 256, 0, 1, 0, 0, OUT); }
@@ -84,6 +86,8 @@ static void name(char side, int k) { key_len = (size_t)sprintf((char *)key, "%c%
 static void records(char side) {
     static const int sizes[3] = {10, 40, 3};
     list_len = 5;
+    lo[0] = (uint8_t)side;
+    hi[0] = (uint8_t)(side + 1);
     for (int k = 0; k < KEYS; k++) {
         name(side, 2 * k);
         for (int v = 0; v < 3; v++) {

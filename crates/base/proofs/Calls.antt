@@ -1,9 +1,9 @@
 -- The public calls, one law a return: 1, 2, 3 in front of what the builder judges.
 -- Assumes nothing.
 use mathlib.Core.Path.{_≡_, refl, sym, ap, ap₂, _∙_}
-use mathlib.Core.List.{List, [], _∷_}
+use mathlib.Core.List.{List}
 use mathlib.Core.Bool.{Bool, true, false, cond, _&&_}
-use Prim.Native.Nat.{ℕ, suc, _+_, _-_, _≤_}
+use Prim.Native.Nat.{ℕ, _-_, _≤_}
 use native.Mathlib.Omega.{arith}
 use borrow.Author.Tests.{leb-true}
 use lib.Dec.{leb, eqb}
@@ -25,7 +25,7 @@ use Rattle.build_image.specs.Prefix.{common}
 use Rattle.build_image.specs.Image.{leafImage, indexImage, Borders}
 use Rattle.build_bounds.specs.declared.Boundary.{Boundary}
 use Rattle.build_bounds.specs.declared.Boundaries.{Boundaries}
-use Rattle.build_bounds.specs.Boundaries.{Within, BothWithin, boundaryBytes, boundaryOf, boundsOf}
+use Rattle.build_bounds.specs.Boundaries.{boundaryBytes, boundaryOf, boundsOf}
 use Rattle.build_bounds.proofs.Laws.{boundary-whole, boundary-within}
 use Rattle.build_image.specs.declared.Built.{Built}
 use Rattle.build_image.specs.declared.Built.the-variants.{At, Refused}
@@ -39,7 +39,7 @@ use Rattle.build_table.specs.Leaf.{leafEnd, leafAnswer, leafArena, leafRows}
 use Rattle.build_table.specs.Index.{Held, indexEnd, indexAnswer, indexArena, indexRows}
 use Rattle.frames.specs.declared.PageId.{PageId}
 use Rattle.frames.specs.Limits.{maxKey}
-use Rattle.base.specs.Calls.{boundsFrom, listed, listRows, newIndexRows, newIndexAnswer, newIndexArena, newRows, newAnswer, newArena}
+use Rattle.base.specs.Calls.{boundsFrom, listed, listRows, newIndexAnswer, newIndexArena, newAnswer, newArena}
 
 -- ---- the first three rows
 
@@ -91,16 +91,6 @@ module _ (l w : List ℕ) (source : ℕ) (b : Started) (e : b ≡ begunOf l sour
 
 -- ---- boundaries that are whole slices
 
-common-ground : (lo hi : List ℕ) → common lo hi ≤ length lo
-unfolding common
-common-ground [] hi = omega arith
-common-ground (x ∷ lo) [] = omega arith
-common-ground (x ∷ lo) (y ∷ hi) = by (eqb x y) (common-ground lo hi)
-  where
-    by : (b : Bool) → common lo hi ≤ length lo → cond b (suc (common lo hi)) 0 ≤ suc (length lo)
-    by true h = omega arith
-    by false h = omega arith
-
 pub next-ground : (len next : ℕ) (t : Bool) → t ≡ nextOk len next → t ≡ true → next ≤ len
 next-ground len next t e h = next-true len next (sym e ∙ h) .2
 
@@ -108,15 +98,18 @@ module _ (lo hi w : List ℕ) (x y : Boundary) (p : ℕ) (sibling : PageId) (ex 
   abbrev boundaries-of : Boundaries
   boundaries-of = record { lo = x; hi = y; prefix = p; sibling = sibling }
 
-  pub held : (t : Bool) → t ≡ boundsOk lo hi → t ≡ true → Held lo w boundaries-of
+  pub held : (t : Bool) → t ≡ boundsOk lo hi → t ≡ true → Held lo hi w boundaries-of
   held t e h =
       let z = sym e ∙ h in
       let j : length lo ≤ maxKey = leb-true (length lo) maxKey (and-l (leb (length lo) maxKey) (leb (length hi) maxKey) z) in
       let k : length hi ≤ maxKey = leb-true (length hi) maxKey (and-r (leb (length lo) maxKey) (leb (length hi) maxKey) z) in
-      rw (ex, ey) (record { within = boundary-within lo w; shared = omega (arith, ep, common-ground lo hi); ground = j; high = k })
-
-  pub inside : BothWithin lo hi w boundaries-of
-  inside = rw (ex, ey) (record { ground = boundary-within lo w; high = boundary-within hi w })
+      rw (ex, ey)
+      (record {
+        inside = record { ground = boundary-within lo w; high = boundary-within hi w };
+        front = ep ∙ sym (ap₂ common (boundary-whole lo w) (boundary-whole hi w));
+        ground = j;
+        high = k;
+      })
 
   pub bounds-are : boundsOf lo hi w boundaries-of ≡ boundsFrom lo hi (sibling .0)
   bounds-are =

@@ -8,6 +8,7 @@ use Rattle.spans.specs.Span.{part, partOr, put}
 use Rattle.numbers.specs.Number.{le, ofLe, ofBe, beAt}
 use Rattle.lengths.specs.Leb128.{enc, uleb}
 use Rattle.order.specs.Order.{cmpBytes, startsWith}
+use Rattle.order.specs.Bounds.{belowHi, allInBounds, bounded}
 use Rattle.order.specs.Version.{newerThan}
 use Rattle.frames.specs.declared.Refusal.the-variants.{OutOfOrder, NoRoom}
 use Rattle.frames.specs.Layout.{addr}
@@ -62,5 +63,5 @@ pub rows : (newAnswer (zeros 112) 8 p5List (at64 defaultBudget) open-ended ≡ A
     × (newAnswer (zeros 600) 8 list52 (at64 256) open-ended ≡ At (addr 384) 576)
     × (newAnswer (zeros 600) 8 list51 (at64 256) open-ended ≡ At (addr 296) 480)
     × (newAnswer (zeros 600) 8 p11List (at64 256) open-ended ≡ Refused OutOfOrder)
-unfolding p5List p7List p11List list52 list51 p7 newAnswer newArena larger common begunOf sameKey recordAt indexAt spotAt after listF wellF stepOf listNext nextOf leftOf entryOf entries wellFormed only keyBytes above risingFrom rising prefixed startsWith cmpBytes newerThan part partOr put ofLe ofBe beAt leafAt leafEnd le enc uleb boxBytes baseFront baseBack baseBytes pageBytes verBytes leafFront leafKey flagOf histBytes frontBytes inlineBytes remoteBytes sizeOf fits cutsFrom total pad remoteLen cost costsOf remotesLen keyLen oldRun sums counted roomOf remoteAddr valBytes remoteFrame remoteFrameOf remoteFrames remoteAddrs oldRec oldRecs oldSlots histHead histSize histPage pageEnd history historyEnd starts histAddrs placesIn places headRec headRecs headSlots les hints leafSize leafRoom leafFrame leafImage
+unfolding p5List p7List p11List list52 list51 p7 newAnswer newArena larger common begunOf sameKey recordAt indexAt spotAt after listF wellF stepOf listNext nextOf leftOf entryOf entries wellFormed only keyBytes above risingFrom rising prefixed belowHi allInBounds bounded startsWith cmpBytes newerThan part partOr put ofLe ofBe beAt leafAt leafEnd le enc uleb boxBytes baseFront baseBack baseBytes pageBytes verBytes leafFront leafKey flagOf histBytes frontBytes inlineBytes remoteBytes sizeOf fits cutsFrom total pad remoteLen cost costsOf remotesLen keyLen oldRun sums counted roomOf remoteAddr valBytes remoteFrame remoteFrameOf remoteFrames remoteAddrs oldRec oldRecs oldSlots histHead histSize histPage pageEnd history historyEnd starts histAddrs placesIn places headRec headRecs headSlots les hints leafSize leafRoom leafFrame leafImage
 rows = (refl, refl, refl, refl, refl, refl, refl)

@@ -5,3 +5,4 @@ pub mod Refusing
 pub mod Eights
 pub mod Decided
 pub mod Cases
+pub mod Outside

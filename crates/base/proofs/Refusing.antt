@@ -9,7 +9,7 @@ use lib.ListN.{length, take}
 use Rattle.spans.specs.Span.{put}
 use Rattle.frames.specs.Limits.{maxEntries, maxSize}
 use Rattle.build_sources.specs.Source.{Entry}
-use Rattle.build_sources.specs.Judged.{rising, prefixed}
+use Rattle.build_sources.specs.Judged.{rising, prefixed, enclosed}
 use Rattle.build_image.specs.declared.Call.{Call}
 use Rattle.build_image.specs.Image.{Borders, leafSize, leafRoom, leafImage, indexSize, indexImage}
 use Rattle.build_totals.specs.Totals.{leafAt}
@@ -50,6 +50,9 @@ module _ (a : List ℕ) (next : ℕ) (l : List ℕ) (m : Call) (b : Borders) whe
 
   pub index-7 : Exactly (builtNumber (newIndexAnswer a next l m b) ≡ 7) (All (before 7 rows) × (prefixed (take (b .prefix) (b .lo)) es ≡ false))
   index-7 = is 7 refl
+
+  pub index-10 : Exactly (builtNumber (newIndexAnswer a next l m b) ≡ 10) (All (before 10 rows) × (enclosed (b .lo) (b .hi) es ≡ false))
+  index-10 = is 10 refl
 
   pub index-8 : Exactly (builtNumber (newIndexAnswer a next l m b) ≡ 8) (All (before 8 rows) × (leb (length es) maxEntries && leb (indexSize b es) maxSize ≡ false))
   index-8 = is 8 refl
@@ -93,6 +96,9 @@ module _ (a : List ℕ) (next : ℕ) (l : List ℕ) (m : Call) (b : Borders) whe
 
   pub new-7 : Exactly (builtNumber (newAnswer a next l m b) ≡ 7) (All (before 7 lrows) × (prefixed (take (b .prefix) (b .lo)) les ≡ false))
   new-7 = new-is 7 refl
+
+  pub new-10 : Exactly (builtNumber (newAnswer a next l m b) ≡ 10) (All (before 10 lrows) × (enclosed (b .lo) (b .hi) les ≡ false))
+  new-10 = new-is 10 refl
 
   pub new-8 : Exactly (builtNumber (newAnswer a next l m b) ≡ 8) (All (before 8 lrows) × (leb (length les) maxEntries && leb (leafSize m b les + leafRoom m les) maxSize ≡ false))
   new-8 = new-is 8 refl

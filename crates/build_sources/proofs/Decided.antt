@@ -41,8 +41,8 @@ module _ (κs : Lfts 2) (l w : RefT (List ℕ)) (c : Cursor) where
   pub well-decided : (x : AtExit well-fn.ended κs) → Decides (λ (r : Bool). well.Post κs (l, (w, (c, tt))) r x) (λ (r : Bool). r)
   well-decided x = decides (λ (r : Bool). r) (wellFormed (now l) (now w) c)
 
-  pub rises-decided : (x : AtExit rises-fn.ended κs) → Decides (λ (r : Risen). rises.Post κs (l, (w, (c, tt))) r x) (λ (r : Risen). r)
-  rises-decided x = decides (λ (r : Risen). r) (risenOf (entries (now l) (now w) c))
-
 pub begins-decided : (κs : Lfts 3) (l w p : RefT (List ℕ)) (c : Cursor) (x : AtExit begins-fn.ended κs) → Decides (λ (r : Bool). begins.Post κs (l, (w, (c, (p, tt)))) r x) (λ (r : Bool). r)
 begins-decided κs l w p c x = decides (λ (r : Bool). r) (prefixed (now p) (entries (now l) (now w) c))
+
+pub rises-decided : (κs : Lfts 4) (l w lo hi : RefT (List ℕ)) (c : Cursor) (x : AtExit rises-fn.ended κs) → Decides (λ (r : Risen). rises.Post κs (l, (w, (c, (lo, (hi, tt))))) r x) (λ (r : Risen). r)
+rises-decided κs l w lo hi c x = decides (λ (r : Risen). r) (risenOf (now lo) (now hi) (entries (now l) (now w) c))

@@ -20,6 +20,7 @@ ghost use mathlib.Core.List.{_∷_, _++_};
 ghost use Prim.Native.Nat.{_+_, _<_};
 ghost use lib.ListN.{length, getD};
 ghost use Rattle.order.specs.Order.{cmpBytes, startsWith};
+ghost use Rattle.order.specs.Bounds.{spanned};
 ghost use Rattle.build_sources.specs.Keys.{keyBytes};
 ghost use Rattle.build_sources.specs.Lists.{noWalk, listKey, cursorAt, firstOf, begunOf, sameKey, recordAt, indexAt, spotAt};
 ghost use Rattle.build_sources.specs.Pages.{wholeAt, pageFirst, itemAt, walked, turned, pagesNext};
@@ -86,9 +87,9 @@ pub enum Pick {
     None,
 }
 
-// Whether the entries rise, and how many there are.
+// Whether the entries rise; if so, how many there are, and whether lo is below hi and each key between them.
 pub enum Risen {
-    Up(usize),
+    Up(usize, bool),
     Not,
 }
 
@@ -797,9 +798,48 @@ fn is_above(list: &[u8], ground: &[u8], a: EntryAt, b: EntryAt) -> bool
     }
 }
 
-// Whether each entry from a cursor on is above the one before, the first above this one; and how many there are, this one too.
-fn rises_from(list: &[u8], ground: &[u8], first: EntryAt, from: Cursor) -> Risen
-    ensures { λ r. ⌜ r ≡ risenOf (entryOf (now (list .entry)) (now (ground .entry)) first ∷ entries (now (list .entry)) (now (ground .entry)) from) ⌝ }
+// A key against x.
+fn compare_in(s: &[u8], k: Key, x: &[u8]) -> Order
+    ensures { λ o. ⌜ o ≡ cmpBytes (keyBytes (now (s .entry)) k) (now (x .entry)) ⌝ }
+{
+    order::compare_joined(
+        spans::part_of(s, k.pat, k.plen),
+        spans::part_of(s, k.kat, k.klen),
+        x,
+    )
+}
+
+// An entry's key against x.
+fn compare_with(list: &[u8], ground: &[u8], i: EntryAt, x: &[u8]) -> Order
+    ensures { λ o. ⌜ o ≡ cmpBytes (entryOf (now (list .entry)) (now (ground .entry)) i .key) (now (x .entry)) ⌝ }
+{
+    let k = i.key;
+    if i.ground {
+        return compare_in(ground, k, x);
+    }
+    compare_in(list, k, x)
+}
+
+// Whether keys that rise from one entry's to another's lie between the boundaries: these two decide.
+fn ends_in(list: &[u8], ground: &[u8], a: EntryAt, b: EntryAt, lo: &[u8], hi: &[u8]) -> bool
+    ensures { λ r. ⌜ r ≡ spanned (now (lo .entry)) (now (hi .entry)) (entryOf (now (list .entry)) (now (ground .entry)) a .key) (entryOf (now (list .entry)) (now (ground .entry)) b .key) ⌝ }
+{
+    let low = compare_with(list, ground, a, lo);
+    let high = compare_with(list, ground, b, hi);
+    !order::is_less(low) & order::below_by(high, hi)
+}
+
+// Whether each entry from a cursor on is above the one before, the first above this one; how many there are, this one too; and whether
+// they are bounded.
+fn rises_from(
+    list: &[u8],
+    ground: &[u8],
+    first: EntryAt,
+    from: Cursor,
+    lo: &[u8],
+    hi: &[u8],
+) -> Risen
+    ensures { λ r. ⌜ r ≡ risenOf (now (lo .entry)) (now (hi .entry)) (entryOf (now (list .entry)) (now (ground .entry)) first ∷ entries (now (list .entry)) (now (ground .entry)) from) ⌝ }
 {
     let mut last = first;
     let mut c = from;
@@ -816,24 +856,24 @@ fn rises_from(list: &[u8], ground: &[u8], first: EntryAt, from: Cursor) -> Risen
                 n += 1;
             }
             EntryRead::End => {
-                return Risen::Up(n);
+                return Risen::Up(n, ends_in(list, ground, first, last, lo, hi));
             }
             EntryRead::Bad => {
-                return Risen::Up(n);
+                return Risen::Up(n, ends_in(list, ground, first, last, lo, hi));
             }
         }
     }
 }
 
-// Whether each entry is above the one before, and how many there are.
-pub fn rises(list: &[u8], ground: &[u8], from: Cursor) -> Risen
-    ensures { λ r. ⌜ r ≡ risenOf (entries (now (list .entry)) (now (ground .entry)) from) ⌝ }
+// Whether each entry is above the one before; how many there are; and whether they are bounded.
+pub fn rises(list: &[u8], ground: &[u8], from: Cursor, lo: &[u8], hi: &[u8]) -> Risen
+    ensures { λ r. ⌜ r ≡ risenOf (now (lo .entry)) (now (hi .entry)) (entries (now (list .entry)) (now (ground .entry)) from) ⌝ }
 {
     let st = any_next(list, ground, from);
     match st {
-        EntryRead::Got(i, d) => rises_from(list, ground, i, d),
-        EntryRead::End => Risen::Up(0),
-        EntryRead::Bad => Risen::Up(0),
+        EntryRead::Got(i, d) => rises_from(list, ground, i, d, lo, hi),
+        EntryRead::End => Risen::Up(0, order::below_by(order::compare(lo, hi), hi)),
+        EntryRead::Bad => Risen::Up(0, order::below_by(order::compare(lo, hi), hi)),
     }
 }
 

@@ -1,9 +1,9 @@
 -- The judge of a leaf's entries: what it measures is what the definitions say, one law a return; and what its answer gives the writer.
 -- Assumes nothing.
 use mathlib.Core.Path.{_≡_, refl, sym, ap, ap₂, _∙_}
-use mathlib.Core.List.{List, [], _∷_, _++_}
-use mathlib.Core.Bool.{Bool, true, false, cond, _&&_}
-use Prim.Native.Nat.{ℕ, _+_, _-_, _*_, _≤_, _<_}
+use mathlib.Core.List.{List}
+use mathlib.Core.Bool.{Bool, true, false, cond}
+use Prim.Native.Nat.{ℕ, _+_, _*_, _≤_, _<_}
 use native.Mathlib.Omega.{arith}
 use borrow.Author.Tests.{leb-true, le-leb, lt-leb}
 use lib.Dec.{leb, eqb}
@@ -11,20 +11,19 @@ use lib.ListN.{length, take, length-append}
 use Rattle.spans.specs.Span.{put}
 use Rattle.frames.specs.Layout.{addr, frameLen, baseLen}
 use Rattle.frames.specs.declared.Refusal.{Refusal}
-use Rattle.frames.specs.declared.Refusal.the-variants.{OutOfOrder, WrongPrefix, TooBig, NoRoom}
+use Rattle.frames.specs.declared.Refusal.the-variants.{OutOfOrder, TooBig, NoRoom}
 use Rattle.frames.specs.Limits.{maxEntries, maxSize}
 use Rattle.build_paging.specs.Cuts.{cuts}
 use Rattle.build_sources.specs.declared.Cursor.{Cursor}
-use Rattle.build_sources.specs.Source.{Entry, entries, only, wanted, olds, heads}
-use Rattle.build_sources.specs.Judged.{rising, prefixed}
+use Rattle.build_sources.specs.Source.{Entry, entries, only, olds, heads}
+use Rattle.build_sources.specs.Judged.{rising, prefixed, enclosed}
 use Rattle.build_image.specs.declared.Call.{Call}
 use Rattle.build_image.specs.Sizes.{costsOf, remotesLen, sums, counted, roomOf}
 use Rattle.build_image.specs.Image.{cutsOf, historyEnd, histAddrs, remoteAddrs, leafSize, leafRoom, leafImage, Borders}
 use Rattle.build_image.proofs.Leaf.{remotes, length-addrs, remotes-kinds, length-leaf-image}
-use Rattle.build_history.specs.Runs.{Sane}
 use Rattle.build_heads.specs.Steps.{Long}
 use Rattle.build_bounds.specs.declared.Boundaries.{Boundaries}
-use Rattle.build_bounds.specs.Boundaries.{Within, BothWithin, boundaryBytes, boundsOf}
+use Rattle.build_bounds.specs.Boundaries.{BothWithin, boundsOf}
 use Rattle.build_bounds.proofs.Laws.{length-boundary}
 use Rattle.build_totals.specs.declared.Totals.{Totals}
 use Rattle.build_totals.specs.declared.Tally.{Tally}
@@ -39,11 +38,11 @@ use Rattle.build_table.specs.declared.LeafVerdict.{LeafVerdict}
 use Rattle.build_table.specs.declared.LeafVerdict.the-variants.{Fits, No}
 use Rattle.build_image.specs.declared.Built.the-variants.{At, Refused}
 use Rattle.build_image.specs.Table.{Row, judged}
-use Rattle.build_table.specs.Table.{entryRows}
+use Rattle.build_table.specs.Table.{outsideOf}
 use Rattle.build_table.specs.Index.{Held}
 use Rattle.build_table.specs.Leaf.{leafEnd, leafRows, leafAnswer, leafArena, leafVerdict}
 use Rattle.build_image.proofs.Tables.{All, all-go, refuses, passes}
-use Rattle.build_table.proofs.Judging.{and-both, held-long}
+use Rattle.build_table.proofs.Judging.{and-both, held-shared, held-long, held-prefixed, at-six, at-outside}
 
 -- ---- the totals, field by field
 
@@ -119,23 +118,26 @@ pub room-most : (p q : ℕ) → p ≤ maxEntries → q ≤ maxEntries → roomOf
 unfolding roomOf
 room-most p q h k = room-by-test (eqb (p + q) 0) p q h k
 
-module _ (m : Call) (lo hi w : List ℕ) (e : Boundaries) (i : BothWithin lo hi w e) (len next : ℕ) (es : List Entry) where
+module _ (m : Call) (lo hi w : List ℕ) (e : Boundaries) (h : Held lo hi w e) (len next : ℕ) (es : List Entry) where
   abbrev b : Borders
   b = boundsOf lo hi w e
 
   pub leaf-six : rising es ≡ false → No OutOfOrder ≡ leafVerdict len next m b es
   unfolding leafVerdict
-  leaf-six h = rw h refl
+  leaf-six q = at-six true b es (leafSize m b es + leafRoom m es) (leafEnd next m b es) len No (Fits (totalsOf m b next es)) q
 
   module _ (h6 : rising es ≡ true) where
-    pub leaf-seven : prefixed (take (e .prefix) (boundaryBytes lo w (e .lo))) es ≡ false → No WrongPrefix ≡ leafVerdict len next m b es
+    pub leaf-outside : enclosed (b .lo) (b .hi) es ≡ false → No (outsideOf (take (b .prefix) (b .lo)) es) ≡ leafVerdict len next m b es
     unfolding leafVerdict
-    leaf-seven h = rw (h6, h) refl
+    leaf-outside q = at-outside true b es (leafSize m b es + leafRoom m es) (leafEnd next m b es) len No (Fits (totalsOf m b next es)) h6 q
 
-    module _ (h7 : prefixed (take (e .prefix) (boundaryBytes lo w (e .lo))) es ≡ true) (n : ℕ) (en : n ≡ length es) where
+    module _ (h10 : enclosed (b .lo) (b .hi) es ≡ true) (n : ℕ) (en : n ≡ length es) where
+      h7 : prefixed (take (b .prefix) (b .lo)) es ≡ true
+      h7 = held-prefixed lo hi w e h es h10
+
       pub leaf-many : maxEntries < n → No TooBig ≡ leafVerdict len next m b es
       unfolding leafVerdict
-      leaf-many h = rw (h6, h7, lt-leb (length es) maxEntries (rw en at h)) refl
+      leaf-many q = rw (h6, h7, h10, lt-leb (length es) maxEntries (rw en at q)) refl
 
       module _ (h8 : n ≤ maxEntries) (tl : Tally) (et : tl ≡ tallyOf (m .limit) (e .prefix) nothing es) (g : Pages) (eg : g ≡ pagesOf (m .limit) (m .budget) 0 next (only true es))
           (room : ℕ) (er : room ≡ roomOf (g .count) (tl .counted)) where
@@ -167,7 +169,7 @@ module _ (m : Call) (lo hi w : List ℕ) (e : Boundaries) (i : BothWithin lo hi 
         leaf-is = ap (λ (q : Pages). q .end) eg ∙ end-of (m .limit) (m .budget) next (olds es)
 
         size-is : size ≡ leafSize m b es
-        size-is = size-of m lo hi w e es (tl .heads) (tl .sums) i heads-is sums-is
+        size-is = size-of m lo hi w e es (tl .heads) (tl .sums) (h .inside) heads-is sums-is
 
         room-is : room ≡ leafRoom m es
         room-is = er ∙ room-by m es (g .count) (tl .counted) pages-is counted-is
@@ -180,7 +182,7 @@ module _ (m : Call) (lo hi w : List ℕ) (e : Boundaries) (i : BothWithin lo hi 
 
         pub leaf-large : maxSize < size + room → No TooBig ≡ leafVerdict len next m b es
         unfolding leafVerdict
-        leaf-large h = rw (h6, h7, few, lt-leb (leafSize m b es + leafRoom m es) maxSize (rw pay-is at h)) refl
+        leaf-large q = rw (h6, h7, h10, few, lt-leb (leafSize m b es + leafRoom m es) maxSize (rw pay-is at q)) refl
 
         module _ (hs : size + room ≤ maxSize) (x : ℕ) (ex : x ≡ frameLen (size + room)) where
           small : leb (leafSize m b es + leafRoom m es) maxSize ≡ true
@@ -191,19 +193,19 @@ module _ (m : Call) (lo hi w : List ℕ) (e : Boundaries) (i : BothWithin lo hi 
 
           pub leaf-full : len < g .end + x + tl .remote → No NoRoom ≡ leafVerdict len next m b es
           unfolding leafVerdict
-          leaf-full h = rw (h6, h7, few, small, lt-leb (leafEnd next m b es) len (rw end-is at h)) refl
+          leaf-full q = rw (h6, h7, h10, few, small, lt-leb (leafEnd next m b es) len (rw end-is at q)) refl
 
           fit-by : g .end + x + tl .remote ≤ len → Fits (totalsOf m b next es) ≡ leafVerdict len next m b es
           unfolding leafVerdict
-          fit-by h = rw (h6, h7, few, small, le-leb (leafEnd next m b es) len (rw end-is at h)) refl
+          fit-by q = rw (h6, h7, h10, few, small, le-leb (leafEnd next m b es) len (rw end-is at q)) refl
 
           pub leaf-fits : g .end + x + tl .remote ≤ len
               → Fits (record { heads = tl .heads; olds = tl .olds; pages = g .count; remotes = tl .remotes; size = size; room = room; leaf = g .end; end = g .end + x + tl .remote }) ≡ leafVerdict len next m b es
-          leaf-fits h =
+          leaf-fits q =
               ap Fits
               (totals-by m b next es (tl .heads) (tl .olds) (g .count) (tl .remotes) size room (g .end) (g .end + x + tl .remote) heads-is olds-is pages-is remotes-is size-is room-is
               (leaf-by m next es (g .end) leaf-is) end-is)
-              ∙ fit-by h
+              ∙ fit-by q
 
 -- ---- what is built
 
@@ -216,7 +218,7 @@ one-no r q e = cc
 one-fit : (t u : Totals) → Fits t ≡ Fits u → t ≡ u
 one-fit t u e = cc
 
-module _ (a l : List ℕ) (next : ℕ) (c : Cursor) (m : Call) (lo hi : List ℕ) (e : Boundaries) (h : Held lo (take next a) e) (i : BothWithin lo hi (take next a) e) where
+module _ (a l : List ℕ) (next : ℕ) (c : Cursor) (m : Call) (lo hi : List ℕ) (e : Boundaries) (h : Held lo hi (take next a) e) where
   abbrev es : List Entry
   es = entries l (take next a) c
 
@@ -250,7 +252,7 @@ module _ (a l : List ℕ) (next : ℕ) (c : Cursor) (m : Call) (lo hi : List ℕ
       leaf-totals = sym (one-fit tot t (passed .0))
 
       both : (leb (length es) maxEntries ≡ true) × (leb (leafSize m bs es + leafRoom m es) maxSize ≡ true)
-      both = and-both _ _ (passed .1 .1 .1 .0)
+      both = and-both _ _ (passed .1 .1 .1 .1 .0)
 
       pub leaf-few : length (entries l (take next a) c) ≤ maxEntries
       leaf-few = leb-true (length es) maxEntries (both .0)
@@ -262,17 +264,17 @@ module _ (a l : List ℕ) (next : ℕ) (c : Cursor) (m : Call) (lo hi : List ℕ
             size = omega (arith, ap (λ (x : Totals). x .size) leaf-totals, tot-size m bs next es, ap (λ (x : Totals). x .room) leaf-totals, tot-room m bs next es, k);
             lo = h .ground;
             hi = h .high;
-            prefix = omega (arith, h .shared, h .ground);
+            prefix = omega (arith, held-shared lo hi (take next a) e h, h .ground);
           }
 
       pub leaf-long : Long (e .prefix) (entries l (take next a) c)
-      leaf-long = held-long lo (take next a) e es h (passed .1 .1 .0)
+      leaf-long = held-long lo hi (take next a) e h es (passed .1 .1 .0)
 
       end-at : t .end ≡ leafEnd next m bs es
       end-at = ap (λ (x : Totals). x .end) leaf-totals ∙ tot-end m bs next es
 
       pub leaf-room : t .end ≤ length a
-      leaf-room = let k : leafEnd next m bs es ≤ length a = leb-true (leafEnd next m bs es) (length a) (passed .1 .1 .1 .1 .0) in omega (arith, k, end-at)
+      leaf-room = let k : leafEnd next m bs es ≤ length a = leb-true (leafEnd next m bs es) (length a) (passed .1 .1 .1 .1 .1 .0) in omega (arith, k, end-at)
 
       pub leaf-built : (a₁ : List ℕ) (x : ℕ) → x ≡ t .leaf → a₁ ≡ put a next (leafImage m bs next es) → (At (addr x) (t .end) ≡ leafAnswer a next m bs es) × (a₁ ≡ leafArena a next m bs es)
       unfolding leafAnswer leafArena

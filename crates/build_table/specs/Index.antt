@@ -1,20 +1,20 @@
 -- What a build of an index page answers and leaves, on its entries.
 -- Assumes nothing.
-use Prim.Native.Nat.{ℕ, _+_, _*_, _≤_}
-use mathlib.Core.List.{List, [], _∷_}
-use mathlib.Core.Bool.{Bool, true, false, cond, _&&_}
-use lib.ListN.{length, take}
-use lib.Dec.{leb}
+use Prim.Native.Nat.{ℕ, _+_, _≤_}
+use mathlib.Core.Path.{_≡_}
+use mathlib.Core.List.{List}
+use mathlib.Core.Bool.{true}
+use lib.ListN.{length}
 use Rattle.spans.specs.Span.{put}
-use Rattle.frames.specs.declared.Refusal.{Refusal}
 use Rattle.frames.specs.Layout.{addr, frameLen}
 use Rattle.frames.specs.Limits.{maxKey}
 use Rattle.build_sources.specs.Source.{Entry}
 use Rattle.build_sources.specs.Judged.{rising, prefixed}
 use Rattle.build_image.specs.declared.Call.{Call}
+use Rattle.build_image.specs.Prefix.{common}
 use Rattle.build_image.specs.Image.{indexSums, indexSizeAt, indexSize, indexImage, Borders}
 use Rattle.build_bounds.specs.declared.Boundaries.{Boundaries}
-use Rattle.build_bounds.specs.Boundaries.{Within}
+use Rattle.build_bounds.specs.Boundaries.{BothWithin, boundaryBytes}
 use Rattle.build_image.specs.declared.Built.{Built}
 use Rattle.build_table.specs.declared.IndexVerdict.{IndexVerdict}
 use Rattle.build_image.specs.Table.{Row, judged}
@@ -25,9 +25,9 @@ unfoldable pub indexEnd : ℕ → Call → Borders → List Entry → ℕ
 unfolding indexImage
 indexEnd next m b es = next + length (indexImage m b es)
 
--- 6, 7, 8, 9
+-- 6, 7, 10, 8, 9
 abbrev pub indexRows : ℕ → ℕ → Call → Borders → List Entry → List Row
-indexRows len next m b es = entryRows (take (b .prefix) (b .lo)) es (indexSize b es) (indexEnd next m b es) len
+indexRows len next m b es = entryRows true b es (indexSize b es) (indexEnd next m b es) len
 
 -- the answer: the page's address and the new next free address
 unfoldable pub indexAnswer : List ℕ → ℕ → Call → Borders → List Entry → Built
@@ -41,15 +41,15 @@ indexArena a next m b es = judged (indexRows (length a) next m b es) (λ r. a) (
 
 -- ---- the same in the judge's numbers
 
-unfoldable pub indexVerdict : ℕ → ℕ → List ℕ → Boundaries → List Entry → IndexVerdict
+unfoldable pub indexVerdict : ℕ → ℕ → Borders → Boundaries → List Entry → IndexVerdict
 unfolding rising prefixed indexSums
-indexVerdict len next p e es =
+indexVerdict len next b e es =
     let size = indexSizeAt (e .lo .len) (e .hi .len) (e .prefix) es in
-    judged (entryRows p es size (next + frameLen size) len) IndexVerdict.No (IndexVerdict.Fits (length es) size)
+    judged (entryRows true b es size (next + frameLen size) len) IndexVerdict.No (IndexVerdict.Fits (length es) size)
 
--- what a judge is told of the boundaries
-pub record Held (lo w : List ℕ) (e : Boundaries) : Type 0 where
-  pub within : Within lo w (e .lo)
-  pub shared : e .prefix ≤ e .lo .len
+-- what a judge is told of the boundaries: they lie in their slices, the prefix is what they have in common, and they are no longer than a key
+pub record Held (lo hi w : List ℕ) (e : Boundaries) : Type 0 where
+  pub inside : BothWithin lo hi w e
+  pub front : e .prefix ≡ common (boundaryBytes lo w (e .lo)) (boundaryBytes hi w (e .hi))
   pub ground : e .lo .len ≤ maxKey
   pub high : e .hi .len ≤ maxKey

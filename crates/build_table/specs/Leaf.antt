@@ -1,12 +1,10 @@
 -- What a build of a leaf answers and leaves, on its entries.
 -- Assumes nothing.
-use Prim.Native.Nat.{ℕ, _+_, _≤_}
-use mathlib.Core.List.{List, [], _∷_}
-use mathlib.Core.Bool.{Bool, true, false, cond, _&&_}
-use lib.ListN.{length, take}
-use lib.Dec.{leb}
+use Prim.Native.Nat.{ℕ, _+_}
+use mathlib.Core.List.{List}
+use mathlib.Core.Bool.{true}
+use lib.ListN.{length}
 use Rattle.spans.specs.Span.{put}
-use Rattle.frames.specs.declared.Refusal.{Refusal}
 use Rattle.frames.specs.Layout.{addr}
 use Rattle.build_sources.specs.Source.{Entry}
 use Rattle.build_sources.specs.Judged.{rising, prefixed}
@@ -24,9 +22,9 @@ unfoldable pub leafEnd : ℕ → Call → Borders → List Entry → ℕ
 unfolding leafImage
 leafEnd next m b es = next + length (leafImage m b next es)
 
--- 6, 7, 8, 9
+-- 6, 7, 10, 8, 9
 abbrev pub leafRows : ℕ → ℕ → Call → Borders → List Entry → List Row
-leafRows len next m b es = entryRows (take (b .prefix) (b .lo)) es (leafSize m b es + leafRoom m es) (leafEnd next m b es) len
+leafRows len next m b es = entryRows true b es (leafSize m b es + leafRoom m es) (leafEnd next m b es) len
 
 -- the answer: the leaf's address, behind its history pages, and the new next free address
 unfoldable pub leafAnswer : List ℕ → ℕ → Call → Borders → List Entry → Built

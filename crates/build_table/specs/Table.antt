@@ -2,16 +2,18 @@
 -- Assumes nothing.
 use Prim.Native.Nat.{ℕ}
 use mathlib.Core.List.{List, [], _∷_}
-use mathlib.Core.Bool.{Bool, true, false, _&&_}
-use lib.ListN.{length}
+use mathlib.Core.Bool.{Bool, true, false, cond, _&&_}
+use lib.ListN.{length, take}
 use lib.Dec.{leb}
-use Rattle.frames.specs.declared.Refusal.the-variants.{OutOfOrder, WrongPrefix, TooBig, NoRoom}
+use Rattle.frames.specs.declared.Refusal.{Refusal}
+use Rattle.frames.specs.declared.Refusal.the-variants.{OutOfOrder, WrongPrefix, Outside, TooBig, NoRoom}
 use Rattle.frames.specs.Limits.{maxEntries, maxKey, maxSize}
 use Rattle.build_sources.specs.declared.Started.{Started}
 use Rattle.build_sources.specs.Lists.{begunOf, firstOf}
 use Rattle.build_sources.specs.Source.{Entry, wellFormed}
-use Rattle.build_sources.specs.Judged.{rising, prefixed}
+use Rattle.build_sources.specs.Judged.{rising, prefixed, enclosed}
 use Rattle.build_image.specs.Call.{limitsOk}
+use Rattle.build_image.specs.Image.{Borders}
 use Rattle.build_image.specs.Table.{Row, row}
 
 -- 1 BAD LIMIT: ".. lo or hi over 4,096"; the rest of 1, and 2, are every call's (build_image, Call)
@@ -30,13 +32,22 @@ isOpen Started.Bad = false
 abbrev pub listOk : List ℕ → List ℕ → ℕ → Bool
 listOk l w source = isOpen (begunOf l source) && wellFormed l w (firstOf source)
 
--- 6 OUT OF ORDER: "an entry not above the one before"; 7 WRONG PREFIX: "a key .. does not begin with the page's prefix"; 8 TOO BIG: "over
--- 65,535 entries .., or size plus hint room over 16,777,216" (the page's payload); 9 NO ROOM: "next plus all rounded frames exceeds the
--- arena" (end, len)
-abbrev pub entryRows : List ℕ → List Entry → ℕ → ℕ → ℕ → List Row
-entryRows prefix es payload end len =
+-- 6 OUT OF ORDER: "an entry not above the one before"; 7 WRONG PREFIX: "a key .. does not begin with the page's prefix"; 10 OUTSIDE:
+-- "a key below lo, or not below a nonempty hi, .. a lo not below a nonempty hi too, and a merge needs the left hi to equal the right lo"
+-- (meets, true in a build of a list), "judged after 7 and before 8"; 8 TOO BIG: "over 65,535 entries .., or size plus hint room over
+-- 16,777,216" (the page's payload); 9 NO ROOM: "next plus all rounded frames exceeds the arena" (end, len)
+abbrev pub entryRows : Bool → Borders → List Entry → ℕ → ℕ → ℕ → List Row
+entryRows meets b es payload end len =
     row (rising es) OutOfOrder
-    ∷ row (prefixed prefix es) WrongPrefix
+    ∷ row (prefixed (take (b .prefix) (b .lo)) es) WrongPrefix
+    ∷ row (meets && enclosed (b .lo) (b .hi) es) Outside
     ∷ row (leb (length es) maxEntries && leb payload maxSize) TooBig
     ∷ row (leb end len) NoRoom
     ∷ []
+
+-- what refuses entries that are not enclosed, or whose pages do not meet
+abbrev pub outsideOf : List ℕ → List Entry → Refusal
+outsideOf prefix es = cond (prefixed prefix es) Outside WrongPrefix
+
+abbrev pub apartOf : List ℕ → List Entry → Refusal
+apartOf prefix es = cond (rising es) (outsideOf prefix es) OutOfOrder

@@ -1,5 +1,5 @@
 // Building from any source: the whole input is judged without writing, then written strictly upward from the next free address. The
-// numbers 6 to 9 are judged on the entries, whatever holds them; 1 to 3 are the calls' own (crate base).
+// numbers 6 to 10 are judged on the entries, whatever holds them; 1 to 3 are the calls' own (crate base).
 use build_bounds::Boundaries;
 use build_bounds::Boundary;
 use build_image::Built;
@@ -14,9 +14,9 @@ ghost use mathlib.Core.Path.{_≡_};
 ghost use Prim.Native.Nat.{_≤_};
 ghost use lib.ListN.{length, take};
 ghost use Rattle.build_sources.specs.Source.{entries};
-ghost use Rattle.build_sources.specs.Judged.{prefixed};
+ghost use Rattle.build_sources.specs.Judged.{prefixed, risenOf};
 ghost use Rattle.build_bounds.specs.Boundaries.{Within, BothWithin, boundaryBytes, boundsOf};
-ghost use Rattle.build_table.specs.Table.{boundsOk, leafLimits};
+ghost use Rattle.build_table.specs.Table.{boundsOk, leafLimits, outsideOf, apartOf};
 ghost use Rattle.build_table.specs.Index.{Held, indexVerdict, indexAnswer, indexArena};
 ghost use Rattle.build_table.specs.Leaf.{leafVerdict, leafAnswer, leafArena};
 ghost use Rattle.build_history.specs.Runs.{Sane};
@@ -75,9 +75,74 @@ pub fn begins_with(
     build_sources::begins(list, ground, from, spans::part_of(lo, e.at, p))
 }
 
+// ---- 6 and 10
+
+// Whether the entries rise, and lie between boundaries of which the lower is at hand.
+fn rises_below(list: &[u8], ground: &[u8], from: Cursor, lo: &[u8], hi: &[u8], e: Boundary) -> Risen
+    requires { ⌜ Within (now hi) (now ground) e ⌝ }
+    ensures { λ r. ⌜ r ≡ risenOf (now (lo .entry)) (boundaryBytes (now (hi .entry)) (now (ground .entry)) e) (entries (now (list .entry)) (now (ground .entry)) from) ⌝ }
+{
+    if e.ground {
+        return build_sources::rises(list, ground, from, lo, spans::part_of(ground, e.at, e.len));
+    }
+    build_sources::rises(list, ground, from, lo, spans::part_of(hi, e.at, e.len))
+}
+
+// Whether the entries rise, how many there are, and whether they lie between the boundaries.
+fn rises(list: &[u8], ground: &[u8], from: Cursor, lo: &[u8], hi: &[u8], e: Boundaries) -> Risen
+    requires { ⌜ BothWithin (now lo) (now hi) (now ground) e ⌝ }
+    ensures { λ r. ⌜ r ≡ risenOf (boundaryBytes (now (lo .entry)) (now (ground .entry)) (e .lo)) (boundaryBytes (now (hi .entry)) (now (ground .entry)) (e .hi)) (entries (now (list .entry)) (now (ground .entry)) from) ⌝ }
+{
+    let x = e.lo;
+    let y = e.hi;
+    if x.ground {
+        return rises_below(
+            list,
+            ground,
+            from,
+            spans::part_of(ground, x.at, x.len),
+            hi,
+            y,
+        );
+    }
+    rises_below(list, ground, from, spans::part_of(lo, x.at, x.len), hi, y)
+}
+
+// Why entries that rise and do not lie between the boundaries are refused: 7 where a key lacks the prefix, else 10. Entries that do lie
+// between them have the prefix.
+fn outside(list: &[u8], ground: &[u8], from: Cursor, lo: &[u8], e: Boundary, p: usize) -> Refusal
+    requires { ⌜ Within (now lo) (now ground) e ⌝ }
+    requires { ⌜ p ≤ e .len ⌝ }
+    ensures { λ r. ⌜ r ≡ outsideOf (take p (boundaryBytes (now (lo .entry)) (now (ground .entry)) e)) (entries (now (list .entry)) (now (ground .entry)) from) ⌝ }
+{
+    if begins_with(list, ground, from, lo, e, p) {
+        return Refusal::Outside;
+    }
+    Refusal::WrongPrefix
+}
+
+// Why pages whose boundaries do not meet are not merged: 6, 7, else 10.
+pub fn apart(
+    list: &[u8],
+    ground: &[u8],
+    from: Cursor,
+    lo: &[u8],
+    hi: &[u8],
+    e: Boundaries,
+) -> Refusal
+    requires { ⌜ Held (now lo) (now hi) (now ground) e ⌝ }
+    ensures { λ r. ⌜ r ≡ apartOf (take (e .prefix) (boundaryBytes (now (lo .entry)) (now (ground .entry)) (e .lo))) (entries (now (list .entry)) (now (ground .entry)) from) ⌝ }
+{
+    let Risen::Up(_, _) = rises(list, ground, from, lo, hi, e) else {
+        return Refusal::OutOfOrder;
+    };
+    let x = e.lo;
+    outside(list, ground, from, lo, x, e.prefix)
+}
+
 // ---- index pages
 
-// Judges the entries of an index page: 6, 7, 8, 9. It writes nothing.
+// Judges the entries of an index page: 6, 7, 10, 8, 9. It writes nothing.
 pub fn judge_index(
     list: &[u8],
     ground: &[u8],
@@ -85,20 +150,21 @@ pub fn judge_index(
     len: usize,
     next: usize,
     lo: &[u8],
+    hi: &[u8],
     e: Boundaries,
 ) -> IndexVerdict
-    requires { ⌜ Held (now lo) (now ground) e ⌝ }
+    requires { ⌜ Held (now lo) (now hi) (now ground) e ⌝ }
     requires { ⌜ next ≤ len ⌝ }
-    ensures { λ r. ⌜ r ≡ indexVerdict len next (take (e .prefix) (boundaryBytes (now (lo .entry)) (now (ground .entry)) (e .lo))) e (entries (now (list .entry)) (now (ground .entry)) from) ⌝ }
+    ensures { λ r. ⌜ r ≡ indexVerdict len next (boundsOf (now (lo .entry)) (now (hi .entry)) (now (ground .entry)) e) e (entries (now (list .entry)) (now (ground .entry)) from) ⌝ }
 {
     let x = e.lo;
     let y = e.hi;
     let p = e.prefix;
-    let Risen::Up(n) = build_sources::rises(list, ground, from) else {
+    let Risen::Up(n, inside) = rises(list, ground, from, lo, hi, e) else {
         return IndexVerdict::No(Refusal::OutOfOrder);
     };
-    if !begins_with(list, ground, from, lo, x, p) {
-        return IndexVerdict::No(Refusal::WrongPrefix);
+    if !inside {
+        return IndexVerdict::No(outside(list, ground, from, lo, x, p));
     }
     if BaseHeader::MAX_ENTRIES < n {
         return IndexVerdict::No(Refusal::TooBig);
@@ -129,13 +195,12 @@ pub fn build_index(
     e: Boundaries,
 ) -> Built
     requires { ⌜ next ≤ length (now a) ⌝ }
-    requires { ⌜ Held (now lo) (take next (now a)) e ⌝ }
-    requires { ⌜ BothWithin (now lo) (now hi) (take next (now a)) e ⌝ }
+    requires { ⌜ Held (now lo) (now hi) (take next (now a)) e ⌝ }
     ensures { λ r. ⌜ r ≡ indexAnswer (now (a .entry)) next m (boundsOf (now (lo .entry)) (now (hi .entry)) (take next (now (a .entry))) e) (entries (now (list .entry)) (take next (now (a .entry))) from) ⌝ }
     ensures { λ _. ⌜ now (a .exit) ≡ indexArena (now (a .entry)) next m (boundsOf (now (lo .entry)) (now (hi .entry)) (take next (now (a .entry))) e) (entries (now (list .entry)) (take next (now (a .entry))) from) ⌝ }
 {
     let len = a.len();
-    let v = judge_index(list, &a[..next], from, len, next, lo, e);
+    let v = judge_index(list, &a[..next], from, len, next, lo, hi, e);
     match v {
         IndexVerdict::No(r) => Built::Refused(r),
         IndexVerdict::Fits(n, size) => {
@@ -147,7 +212,7 @@ pub fn build_index(
 
 // ---- leaves
 
-// Judges the entries of a leaf: 6, 7, 8, 9. It writes nothing.
+// Judges the entries of a leaf: 6, 7, 10, 8, 9. It writes nothing.
 pub fn judge_leaf(
     list: &[u8],
     ground: &[u8],
@@ -159,8 +224,7 @@ pub fn judge_leaf(
     hi: &[u8],
     e: Boundaries,
 ) -> LeafVerdict
-    requires { ⌜ Held (now lo) (now ground) e ⌝ }
-    requires { ⌜ BothWithin (now lo) (now hi) (now ground) e ⌝ }
+    requires { ⌜ Held (now lo) (now hi) (now ground) e ⌝ }
     requires { ⌜ Sane m ⌝ }
     requires { ⌜ (next ≤ len) × (len ≤ 9223372036854775807) ⌝ }
     ensures { λ r. ⌜ r ≡ leafVerdict len next m (boundsOf (now (lo .entry)) (now (hi .entry)) (now (ground .entry)) e) (entries (now (list .entry)) (now (ground .entry)) from) ⌝ }
@@ -168,11 +232,11 @@ pub fn judge_leaf(
     let x = e.lo;
     let y = e.hi;
     let p = e.prefix;
-    let Risen::Up(n) = build_sources::rises(list, ground, from) else {
+    let Risen::Up(n, inside) = rises(list, ground, from, lo, hi, e) else {
         return LeafVerdict::No(Refusal::OutOfOrder);
     };
-    if !begins_with(list, ground, from, lo, x, p) {
-        return LeafVerdict::No(Refusal::WrongPrefix);
+    if !inside {
+        return LeafVerdict::No(outside(list, ground, from, lo, x, p));
     }
     if BaseHeader::MAX_ENTRIES < n {
         return LeafVerdict::No(Refusal::TooBig);
@@ -214,8 +278,7 @@ pub fn build_leaf(
     e: Boundaries,
 ) -> Built
     requires { ⌜ next ≤ length (now a) ⌝ }
-    requires { ⌜ Held (now lo) (take next (now a)) e ⌝ }
-    requires { ⌜ BothWithin (now lo) (now hi) (take next (now a)) e ⌝ }
+    requires { ⌜ Held (now lo) (now hi) (take next (now a)) e ⌝ }
     requires { ⌜ Sane m ⌝ }
     ensures { λ r. ⌜ r ≡ leafAnswer (now (a .entry)) next m (boundsOf (now (lo .entry)) (now (hi .entry)) (take next (now (a .entry))) e) (entries (now (list .entry)) (take next (now (a .entry))) from) ⌝ }
     ensures { λ _. ⌜ now (a .exit) ≡ leafArena (now (a .entry)) next m (boundsOf (now (lo .entry)) (now (hi .entry)) (take next (now (a .entry))) e) (entries (now (list .entry)) (take next (now (a .entry))) from) ⌝ }

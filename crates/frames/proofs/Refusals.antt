@@ -6,7 +6,7 @@ use mathlib.Core.Logic.{⊎-elim}
 use mathlib.Core.Bool.{Bool, true, false, cond}
 use native.Mathlib.Omega.{arith}
 use Rattle.frames.specs.declared.Refusal.{Refusal}
-use Rattle.frames.specs.declared.Refusal.the-variants.{BadLimit, BadArena, BadList, BadFrame, MixedKinds, OutOfOrder, WrongPrefix, TooBig, NoRoom}
+use Rattle.frames.specs.declared.Refusal.the-variants.{BadLimit, BadArena, BadList, BadFrame, MixedKinds, OutOfOrder, WrongPrefix, Outside, TooBig, NoRoom}
 use Rattle.frames.specs.Refusals.{numberOf, ZeroOrFour}
 
 pub some-number : (r : Refusal) → 0 < numberOf r
@@ -17,6 +17,7 @@ some-number BadFrame = omega arith
 some-number MixedKinds = omega arith
 some-number OutOfOrder = omega arith
 some-number WrongPrefix = omega arith
+some-number Outside = omega arith
 some-number TooBig = omega arith
 some-number NoRoom = omega arith
 

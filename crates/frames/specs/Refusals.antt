@@ -1,10 +1,10 @@
--- Document 01's numbers of refusal.
+-- Document 01's numbers of refusal, in the order in which they are judged: 10 (order 4) stands between 7 and 8.
 -- Assumes nothing.
 use Prim.Native.Nat.{ℕ}
 use mathlib.Core.Path.{_≡_}
 use mathlib.Core.Logic.{_⊎_}
 use Rattle.frames.specs.declared.Refusal.{Refusal}
-use Rattle.frames.specs.declared.Refusal.the-variants.{BadLimit, BadArena, BadList, BadFrame, MixedKinds, OutOfOrder, WrongPrefix, TooBig, NoRoom}
+use Rattle.frames.specs.declared.Refusal.the-variants.{BadLimit, BadArena, BadList, BadFrame, MixedKinds, OutOfOrder, WrongPrefix, Outside, TooBig, NoRoom}
 use Rattle.frames.specs.declared.FrameRead.{FrameRead}
 use Rattle.frames.specs.declared.PageRead.{PageRead}
 use Rattle.frames.specs.declared.Opened.{Opened}
@@ -19,6 +19,7 @@ numberOf BadFrame = 4
 numberOf MixedKinds = 5
 numberOf OutOfOrder = 6
 numberOf WrongPrefix = 7
+numberOf Outside = 10
 numberOf TooBig = 8
 numberOf NoRoom = 9
 

@@ -10,7 +10,7 @@ ghost use Rattle.frames.specs.Layout.{boxLen, baseLen, slotsAt, boxBase,
 ghost use Rattle.frames.specs.Stored.{boxBytes, baseOf, baseFront, baseBack, baseBytes, pageBytes};
 ghost use Rattle.frames.specs.Clerks.{takenOf};
 
-// Why a call refuses: document 01's table.
+// Why a call refuses: document 01's table, in the order in which a call judges.
 pub enum Refusal {
     BadLimit,
     BadArena,
@@ -19,6 +19,7 @@ pub enum Refusal {
     MixedKinds,
     OutOfOrder,
     WrongPrefix,
+    Outside,
     TooBig,
     NoRoom,
 }
@@ -34,6 +35,7 @@ pub fn number(r: Refusal) -> u8
         Refusal::MixedKinds => 5,
         Refusal::OutOfOrder => 6,
         Refusal::WrongPrefix => 7,
+        Refusal::Outside => 10,
         Refusal::TooBig => 8,
         Refusal::NoRoom => 9,
     }

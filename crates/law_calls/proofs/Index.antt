@@ -59,13 +59,13 @@ module _ (a : List ℕ) (next : ℕ) (l : List ℕ) (m : Call) (lo hi : List ℕ
 
     room : next + length (indexImage m b es) ≤ length a
     unfolding indexEnd
-    room = leb-true (next + length (indexImage m b es)) (length a) (holds .1 .1 .1 .1 .1 .1 .0)
+    room = leb-true (next + length (indexImage m b es)) (length a) (holds .1 .1 .1 .1 .1 .1 .1 .0)
 
     fit : IndexFit a m b next es
     unfolding indexEnd
     fit =
         let h = holds in
-        index-fit a m b next es (indexEnd next m b es) (length a) (address a (length a) next word (h .1 .0)) (bounds-fit lo hi sibling id (h .0)) numbers (index-each l (take next a) bytes) (h .1 .1 .1)
+        index-fit a m b next es true (indexEnd next m b es) (length a) (address a (length a) next word (h .1 .0)) (bounds-fit lo hi sibling id (h .0)) numbers (index-each l (take next a) bytes) (h .1 .1 .1)
 
     is : after ≡ judged (newIndexRows a next l m b) (λ r. a) (put a next (indexImage m b es))
     unfolding newIndexArena

@@ -56,7 +56,7 @@ module _ (a : List ℕ) (next : ℕ) (l : List ℕ) (m : Call) (lo hi : List ℕ
   image = leafImage m b next es
 
   abbrev rows : List Row
-  rows = listRows ok a next l 0 (entryRows (take (common lo hi) lo) es (leafSize m b es + leafRoom m es) (next + length image) (length a))
+  rows = listRows ok a next l 0 (entryRows true b es (leafSize m b es + leafRoom m es) (next + length image) (length a))
 
   abbrev at : ℕ
   at = historyEnd (m .limit) next (cutsOf m es) (olds es)
@@ -67,13 +67,13 @@ module _ (a : List ℕ) (next : ℕ) (l : List ℕ) (m : Call) (lo hi : List ℕ
     holds = all-hold rows at (next + length image) p end built
 
     room : next + length image ≤ length a
-    room = leb-true (next + length image) (length a) (holds .1 .1 .1 .1 .1 .1 .0)
+    room = leb-true (next + length image) (length a) (holds .1 .1 .1 .1 .1 .1 .1 .0)
 
     fit : LeafFit (take next a) m b next es
     fit =
         let h = holds in
         let k = limits (h .0) in
-        leaf-fit (take next a) m b next es (next + length image) (length a) (address-below a next word (h .1 .0)) (bounds-fit lo hi sibling id (k .boundaries))
+        leaf-fit (take next a) m b next es true (next + length image) (length a) (address-below a next word (h .1 .0)) (bounds-fit lo hi sibling id (k .boundaries))
         (call-fits m numbers (k .limit) (k .budget)) (record-each l (take next a) bytes (take next a)) (marked l (take next a) (firstOf 0) refl) (h .1 .1 .1)
 
     -- the arena afterwards is one of those that follow

@@ -97,6 +97,7 @@ module _ (a : List ℕ) (m : Call) (b : Borders) (at : ℕ) (es : List Entry) (f
         marks = fit .marks;
         rises = fit .rises;
         begins = fit .begins;
+        encloses = fit .encloses;
         few = fit .few;
         small = fit .small;
       }
@@ -117,6 +118,7 @@ module _ (a : List ℕ) (m : Call) (b : Borders) (at : ℕ) (es : List Entry) (f
         each = fit .each;
         rises = fit .rises;
         begins = fit .begins;
+        encloses = fit .encloses;
         few = fit .few;
         small = fit .small;
       }

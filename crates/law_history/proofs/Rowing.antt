@@ -9,11 +9,11 @@ use lib.ListN.{length}
 use lib.Dec.{eqb}
 use Rattle.spans.specs.Span.{part}
 use Rattle.order.specs.declared.Order.{Order}
-use Rattle.order.specs.Order.{cmpBytes}
+use Rattle.order.specs.Order.{cmpBytes, isLess}
 use Rattle.order.proofs.Laws.{cmp-front}
 use Rattle.frames.specs.declared.Body.{Body}
 use Rattle.records.specs.declared.Rec.{Rec}
-use Rattle.pages.specs.Sound.{isLess, inOrder, slotsFrom, headOk, multiOf, chainsFrom}
+use Rattle.pages.specs.Sound.{inOrder, slotsFrom, headOk, multiOf, chainsFrom}
 use Rattle.pages.specs.Meaning.{rowsFrom, prefixOf, keyOf}
 use Rattle.law_history.specs.Rows.{Rows, Up, UpAll, multis}
 

@@ -1,6 +1,6 @@
 -- The page that an index build wrote says exactly what the build was told: `index-says`.
 -- Assumes nothing.
-use Prim.Native.Nat.{ℕ, _+_, _*_, _-_, _≤_}
+use Prim.Native.Nat.{ℕ, _+_, _*_, _≤_}
 use mathlib.Core.Path.{_≡_, refl, sym, ap, _∙_, subst}
 use mathlib.Core.Bool.{true}
 use mathlib.Core.List.{List, _++_}
@@ -9,12 +9,13 @@ use borrow.Author.Tests.{le-leb, eq-eqb}
 use lib.ListN.{length, take}
 use lib.Seq.{length-take-le}
 use Rattle.spans.specs.Span.{Lies}
+use Rattle.order.specs.Bounds.{bounded}
 use Rattle.frames.specs.declared.Body.{Body}
 use Rattle.frames.specs.Layout.{addr, boxLen, baseLen, frameLen, baseOk, kindOf, bodyOf}
 use Rattle.frames.specs.Limits.{maxKey}
-use Rattle.pages.specs.Sound.{slotsFrom, slotsOk, hintsOk, soundBody}
-use Rattle.pages.specs.Meaning.{Child, says, prefixOf, childOf, rowsFrom, pageSays, meaning}
-use Rattle.pages.proofs.Turns.{chains-index, body-hints}
+use Rattle.pages.specs.Sound.{slotsFrom, slotsOk, hintsOk}
+use Rattle.pages.specs.Meaning.{Child, says, prefixOf, childOf, rowsFrom, pageSays, pageBounded, soundBody, meaning}
+use Rattle.pages.proofs.Turns.{chains-index, body-bounds}
 use Rattle.build_sources.specs.Source.{Entry}
 use Rattle.spans.proofs.Lying.{lies-front, lies-in}
 use Rattle.build_image.specs.declared.Call.{Call}
@@ -25,7 +26,7 @@ use Rattle.law_history.specs.Rows.{Rows}
 use Rattle.law_history.proofs.Rowing.{rows-say, slots-rise}
 use Rattle.law_history.proofs.Boundaries.{Sheet, sheetBox, sheetBase, sheetBody, SheetFits, sheet-opens, slots-lie, lo-back, prefix-back, hi-back, more-lies}
 use Rattle.law_index.specs.Children.{childrenOf, indexPage, IndexFit}
-use Rattle.law_index.proofs.Slots.{SaysChild, rows-index, children-rise, children-many}
+use Rattle.law_index.proofs.Slots.{SaysChild, rows-index, children-rise, children-many, children-keys}
 
 module _ (s : List ℕ) (m : Call) (b : Borders) (at : ℕ) (es : List Entry) (fit : IndexFit s m b at es) (lies : Lies s at (indexImage m b es)) where
   abbrev size : ℕ
@@ -105,16 +106,20 @@ module _ (s : List ℕ) (m : Call) (b : Borders) (at : ℕ) (es : List Entry) (f
   unfolding hintsOk bodyOf
   hints-ok = rw (eq-eqb (at + boxLen + size) (at + boxLen + size) refl) refl
 
-  sound : soundBody s body ≡ true
-  unfolding bodyOf kindOf
-  sound = body-hints s body (λ q. omega arith) true slots-ok (chains-index s body refl) hints-ok
-
   said : pageSays s body ≡ indexPage b es
   unfolding pageSays indexPage bodyOf kindOf indexImage
   said =
       let r : rowsFrom (childOf s body) s body (length es) 0 ≡ childrenOf es =
       ap (λ (n : ℕ). rowsFrom (childOf s body) s body n 0) (sym (children-many es)) ∙ rows-say (SaysChild s body) s body (childOf s body) (λ x c e. e) 0 (body .first) (childrenOf es) rows in
       rw (is-pre, r, lo-back s m b at k sheet slots (recs ++ pad size) long lies, hi-back s m b at k sheet slots (recs ++ pad size) long lies) refl
+
+  encloses : pageBounded (indexPage b es) ≡ true
+  unfolding indexPage
+  encloses = ap (bounded (b .lo) (b .hi)) (children-keys es) ∙ fit .encloses
+
+  sound : soundBody s body ≡ true
+  unfolding bodyOf kindOf
+  sound = body-bounds s body (λ q. omega arith) true slots-ok (chains-index s body refl) hints-ok (ap pageBounded said ∙ encloses)
 
   -- what was built is what is read
   pub index-says : meaning s (addr at) ≡ says (indexPage b es)

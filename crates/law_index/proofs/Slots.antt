@@ -1,9 +1,9 @@
 -- The records of an index page read back slot by slot; their keys rise.
 -- Assumes nothing.
-use Prim.Native.Nat.{ℕ, suc, _+_, _*_, _-_, _^_, _≤_, _<_}
+use Prim.Native.Nat.{ℕ, suc, _+_, _*_, _^_, _≤_, _<_}
 use mathlib.Core.Path.{_≡_, refl, sym, ap, _∙_, subst}
 use mathlib.Core.Bool.{true, false}
-use mathlib.Core.List.{List, [], _∷_, _++_}
+use mathlib.Core.List.{List, [], _∷_, _++_, map}
 use native.Mathlib.Omega.{arith}
 use borrow.Author.Tests.{le-leb, eq-eqb}
 use lib.ListN.{length, take, drop}
@@ -151,3 +151,8 @@ pub children-many : (es : List Entry) → length (childrenOf es) ≡ length es
 unfolding childrenOf
 children-many [] = refl
 children-many (e ∷ es) = ap suc (children-many es)
+
+pub children-keys : (es : List Entry) → map (λ (c : Child). c .key) (childrenOf es) ≡ map (λ (e : Entry). e .key) es
+unfolding childrenOf
+children-keys [] = refl
+children-keys (e ∷ es) = ap (λ (ks : List (List ℕ)). e .key ∷ ks) (children-keys es)

@@ -11,7 +11,7 @@ use Rattle.frames.specs.Limits.{maxEntries, maxSize}
 use Rattle.pages.specs.Meaning.{Child, Page, index}
 use Rattle.build_sources.specs.Source.{Entry}
 use Rattle.build_sources.specs.Marks.{Each, Short, Wide}
-use Rattle.build_sources.specs.Judged.{rising, prefixed}
+use Rattle.build_sources.specs.Judged.{rising, prefixed, enclosed}
 use Rattle.build_image.specs.declared.Call.{Call}
 use Rattle.build_image.specs.Image.{indexSize, Borders}
 use Rattle.law_history.specs.Fit.{Numbers, BoundsFit, Address}
@@ -43,5 +43,6 @@ pub record IndexFit (s : List ℕ) (m : Call) (b : Borders) (at : ℕ) (es : Lis
   pub each : Each Leads es
   pub rises : rising es ≡ true
   pub begins : prefixed (take (b .prefix) (b .lo)) es ≡ true
+  pub encloses : enclosed (b .lo) (b .hi) es ≡ true
   pub few : length es ≤ maxEntries
   pub small : indexSize b es ≤ maxSize

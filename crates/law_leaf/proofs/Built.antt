@@ -11,14 +11,16 @@ use lib.Seq.{length-take-le}
 use lib.Dec.{eqb}
 use Rattle.spans.specs.Span.{Lies}
 use Rattle.spans.proofs.Lying.{lies-front, lies-back, lies-in}
+use Rattle.order.specs.Bounds.{belowHi, bounded}
+use Rattle.order.proofs.Bounds.{both, both-first, both-second}
 use Rattle.frames.specs.declared.Body.{Body}
 use Rattle.frames.specs.declared.Opened.{Opened}
 use Rattle.frames.specs.Layout.{addr, boxLen, baseLen, frameLen, baseOk, kindOf, bodyOf, openAt}
 use Rattle.frames.specs.Stored.{pageBytes}
 use Rattle.frames.specs.Limits.{maxKey}
-use Rattle.pages.specs.Sound.{slotsFrom, slotsOk, chainsFrom, chainsOk, hintsOk, soundBody}
-use Rattle.pages.specs.Meaning.{says, prefixOf, headOf, rowsFrom, pageSays, meaning}
-use Rattle.pages.proofs.Turns.{body-hints}
+use Rattle.pages.specs.Sound.{slotsFrom, slotsOk, chainsFrom, chainsOk, hintsOk}
+use Rattle.pages.specs.Meaning.{says, prefixOf, headOf, rowsFrom, pageSays, pageBounded, soundBody, meaning}
+use Rattle.pages.proofs.Turns.{body-bounds}
 use Rattle.build_sources.specs.Source.{Entry, wanted, only, olds, heads}
 use Rattle.build_sources.specs.Marks.{Each}
 use Rattle.build_image.specs.declared.Call.{Call}
@@ -33,7 +35,7 @@ use Rattle.law_history.proofs.Chain.{end-above, end-even, Whole, history-back}
 use Rattle.law_history.proofs.Paging.{cuts-paged}
 use Rattle.law_history.proofs.Boundaries.{Sheet, sheetBox, sheetBase, sheetBody, SheetFits, sheet-opens, slots-lie, lo-back, prefix-back, hi-back, more-lies}
 use Rattle.law_leaf.specs.Grouped.{grouped, leafPage, LeafFit}
-use Rattle.law_leaf.proofs.Groups.{grouped-many, countOf, multis-is, ages, keyed, heads-rise}
+use Rattle.law_leaf.proofs.Groups.{grouped-many, countOf, multis-is, ages, keyed, heads-rise, heads-in}
 use Rattle.law_leaf.proofs.Slots.{SaysHead, Coming, rows-leaf}
 use Rattle.law_leaf.proofs.Hints.{hints-back}
 
@@ -257,15 +259,19 @@ module _ (s : List ℕ) (m : Call) (b : Borders) (first : ℕ) (es : List Entry)
   hints-ok =
       hints-back s body room (starts (m .limit) first ns (olds es)) (histAddrs (m .limit) first ns (olds es) ++ remoteAddrs (m .limit) remote (heads es)) (omega arith) (omega (arith, fit .small)) (leaf-hints-fit m es first remote) hints-lie
 
-  sound : soundBody s body ≡ true
-  sound = body-hints s body (λ q. omega (arith, kind-is)) true slots-ok chains-ok hints-ok
-
   said : pageSays s body ≡ leafPage b es
   unfolding pageSays leafPage bodyOf kindOf
   said =
       let r : rowsFrom (headOf s body) s body n 0 ≡ grouped es =
       ap (λ (x : ℕ). rowsFrom (headOf s body) s body x 0) (sym (grouped-many es)) ∙ rows-say (SaysHead s body) s body (headOf s body) (λ x h e. e .head) 0 (body .first) (grouped es) rows in
       rw (is-pre, r, lo-back s m b at k sheet slots more long frame-lies, hi-back s m b at k sheet slots more long frame-lies) refl
+
+  encloses : pageBounded (leafPage b es) ≡ true
+  unfolding leafPage bounded
+  encloses = both (belowHi (b .lo) (b .hi)) _ (both-first (belowHi (b .lo) (b .hi)) _ (fit .encloses)) (heads-in (b .lo) (b .hi) es (both-second (belowHi (b .lo) (b .hi)) _ (fit .encloses)))
+
+  sound : soundBody s body ≡ true
+  sound = body-bounds s body (λ q. omega (arith, kind-is)) true slots-ok chains-ok hints-ok (ap pageBounded said ∙ encloses)
 
   -- what was built is what is read
   pub leaf-says : meaning s (addr (historyEnd (m .limit) first (cutsOf m es) (olds es))) ≡ says (leafPage b es)

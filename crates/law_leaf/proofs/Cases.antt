@@ -7,6 +7,7 @@ use native.Mathlib.Omega.{arith}
 use Rattle.spans.specs.Span.{Lies}
 use Rattle.spans.proofs.Lying.{drop-lies}
 use Rattle.order.specs.Order.{cmpBytes, startsWith}
+use Rattle.order.specs.Bounds.{belowHi, allInBounds, bounded}
 use Rattle.order.specs.Version.{newerThan}
 use Rattle.frames.specs.Layout.{addr}
 use Rattle.frames.specs.Cases.{p7}
@@ -42,7 +43,7 @@ z-fits =
     }
 
 pub p7-fit : LeafFit p7 (call 256) open-ended 8 es
-unfolding p7 Each Marked MarkedFrom rising risingFrom above cmpBytes newerThan prefixed startsWith
+unfolding p7 Each Marked MarkedFrom rising risingFrom above cmpBytes newerThan prefixed startsWith belowHi allInBounds bounded
 p7-fit =
     record {
       address = record { above = omega arith; even = refl; word = omega arith };
@@ -52,6 +53,7 @@ p7-fit =
       marks = (refl, (refl, tt));
       rises = refl;
       begins = refl;
+      encloses = refl;
       few = omega arith;
       small = let e : leafSize (call 256) open-ended es + leafRoom (call 256) es ≡ 101 = p7-image .3 in omega arith;
     }

@@ -3,15 +3,17 @@
 use Prim.Native.Nat.{ℕ, zero, suc, _+_, _≤_}
 use mathlib.Core.Path.{_≡_, refl, sym, ap, _∙_}
 use mathlib.Core.Bool.{Bool, true, false, not, cond}
-use mathlib.Core.List.{List, [], _∷_, _++_}
+use mathlib.Core.List.{List, [], _∷_, _++_, map}
 use native.Mathlib.Omega.{arith}
 use borrow.Author.Tests.{ne-eqb}
 use lib.ListN.{length}
 use Rattle.order.specs.declared.Order.{Order}
 use Rattle.order.specs.declared.Ver.{Ver}
 use Rattle.order.specs.Order.{cmpBytes, isEqual}
+use Rattle.order.specs.Bounds.{inBounds, allInBounds}
 use Rattle.order.specs.Version.{newerThan}
 use Rattle.order.proofs.Laws.{cmp-eq}
+use Rattle.order.proofs.Bounds.{both, both-first, both-second}
 use Rattle.pages.specs.Meaning.{Head}
 use Rattle.pages.specs.Sound.{multiOf}
 use Rattle.pages.proofs.Given.{yes}
@@ -168,3 +170,15 @@ pub heads-rise : (es : List Entry) → rising es ≡ true → Marked es → UpAl
 unfolding rising Marked grouped UpAll
 heads-rise [] h m = tt
 heads-rise (e ∷ es) h m = rw (m .0) (up-from es e h (m .1))
+
+-- what lies between the boundaries with all its versions does so by its heads
+pub heads-in : (lo hi : List ℕ) (es : List Entry) → allInBounds lo hi (map (λ (e : Entry). e .key) es) ≡ true → allInBounds lo hi (map keyed (grouped es)) ≡ true
+unfolding allInBounds grouped
+heads-in lo hi [] h = refl
+heads-in lo hi (e ∷ es) h =
+    let rest = allInBounds lo hi (map (λ (x : Entry). x .key) es) in
+    by (e .old) (both-first (inBounds lo hi (e .key)) rest h) (heads-in lo hi es (both-second (inBounds lo hi (e .key)) rest h))
+  where
+    by : (t : Bool) → inBounds lo hi (e .key) ≡ true → allInBounds lo hi (map keyed (grouped es)) ≡ true → allInBounds lo hi (map keyed (cond t (grouped es) (headIs e es ∷ grouped es))) ≡ true
+    by true x y = y
+    by false x y = both (inBounds lo hi (e .key)) (allInBounds lo hi (map keyed (grouped es))) x y

@@ -10,7 +10,7 @@ use Rattle.frames.specs.Limits.{maxEntries, maxSize}
 use Rattle.pages.specs.Meaning.{Head, Page, leaf}
 use Rattle.build_sources.specs.Source.{Entry}
 use Rattle.build_sources.specs.Marks.{Each, Marked}
-use Rattle.build_sources.specs.Judged.{rising, prefixed}
+use Rattle.build_sources.specs.Judged.{rising, prefixed, enclosed}
 use Rattle.build_image.specs.declared.Call.{Call}
 use Rattle.build_image.specs.Image.{leafSize, leafRoom, Borders}
 use Rattle.law_history.specs.Fit.{Fits, CallFits, BoundsFit, Address}
@@ -44,5 +44,6 @@ pub record LeafFit (s : List ℕ) (m : Call) (b : Borders) (at : ℕ) (es : List
   pub marks : Marked es
   pub rises : rising es ≡ true
   pub begins : prefixed (take (b .prefix) (b .lo)) es ≡ true
+  pub encloses : enclosed (b .lo) (b .hi) es ≡ true
   pub few : length es ≤ maxEntries
   pub small : leafSize m b es + leafRoom m es ≤ maxSize

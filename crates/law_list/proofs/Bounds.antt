@@ -10,9 +10,8 @@ use lib.ListN.{getD}
 use lib.Dec.{eqb}
 use Rattle.order.specs.declared.Order.{Order}
 use Rattle.order.specs.declared.Ver.{Ver}
-use Rattle.order.specs.Order.{cmpBytes}
+use Rattle.order.specs.Order.{cmpBytes, isLess}
 use Rattle.order.specs.Version.{newerThan}
-use Rattle.pages.specs.Sound.{isLess}
 use Rattle.pages.specs.Meaning.{Head, Child, Rows, leaf, index}
 use Rattle.build_sources.specs.Source.{Entry}
 use Rattle.build_sources.specs.Marks.{Each, Wide}

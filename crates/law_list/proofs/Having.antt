@@ -6,8 +6,7 @@ use mathlib.Core.Bool.{Bool, true, false}
 use mathlib.Core.List.{List, [], _∷_}
 use native.Mathlib.Omega.{arith}
 use lib.ListN.{length, take, drop, getD}
-use Rattle.order.specs.Order.{cmpBytes}
-use Rattle.pages.specs.Sound.{isLess}
+use Rattle.order.specs.Order.{cmpBytes, isLess}
 use Rattle.law_list.specs.Asked.{having, between}
 
 -- ---- all, one, none

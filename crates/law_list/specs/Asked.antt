@@ -5,9 +5,8 @@ use mathlib.Core.Path.{_≡_}
 use mathlib.Core.Bool.{Bool, not, _&&_, cond}
 use mathlib.Core.List.{List, [], _∷_}
 use Rattle.order.specs.declared.Ver.{Ver}
-use Rattle.order.specs.Order.{cmpBytes, isEqual}
+use Rattle.order.specs.Order.{cmpBytes, isEqual, isLess}
 use Rattle.order.specs.Version.{verOf}
-use Rattle.pages.specs.Sound.{isLess}
 use Rattle.pages.specs.Boundaries.{partIn}
 use Rattle.pages.specs.Meaning.{oldsFrom}
 use Rattle.build_sources.specs.Source.{Entry}

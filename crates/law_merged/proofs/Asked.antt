@@ -2,7 +2,7 @@
 -- its searches; an index page's walk, ranges, floor.
 -- Assumes nothing.
 use Prim.Native.Nat.{ℕ, _-_, _<_}
-use mathlib.Core.Path.{_≡_, subst}
+use mathlib.Core.Path.{_≡_}
 use mathlib.Core.List.{List, reverse}
 use lib.IntN.{pos}
 use lib.ListN.{length, take}
@@ -18,16 +18,15 @@ use Rattle.base.specs.Calls.{newAnswer, newArena, newIndexAnswer, newIndexArena
 use Rattle.sst.specs.Search.{lowerAt, searchAt, floorAt}
 use Rattle.sst.specs.Says.{FloorSays}
 use Rattle.walks.specs.Walk.{forwardAt, backwardAt}
-use Rattle.walks.specs.Listed.{Entry as Listed, entriesOf, Lists, Leads}
+use Rattle.walks.specs.Listed.{entriesOf, Lists, Leads}
 use Rattle.law_leaf.specs.Grouped.{grouped}
 use Rattle.law_index.specs.Children.{childrenOf}
 use Rattle.law_list.specs.Asked.{recordsOf, having, between, keyIs, largest, posOf, SearchSays}
 use Rattle.law_list.proofs.Leaves.{lists-all, lists-all-back, lists-range, lists-back, search-list}
 use Rattle.law_list.proofs.Branches.{leads-all, leads-range, floor-list}
 use Rattle.law_merged.specs.Trees.{Tree, Made}
-use Rattle.law_merged.specs.Joined.{entriesIn, boundsOf, recordList, leafOf, indexOf}
-use Rattle.law_merged.proofs.Lists.{one-records, one-marked, one-wide, same-having}
-use Rattle.law_merged.proofs.Trees.{leaf-made, leaf-wide, index-made}
+use Rattle.law_merged.specs.Joined.{entriesIn, boundsOf, leafOf, indexOf}
+use Rattle.law_merged.proofs.Trees.{leaf-made, leaf-marked, leaf-wide, index-made}
 
 -- ---- leaves
 
@@ -35,12 +34,9 @@ module _ (t : Tree) (s : List ℕ) (mark : ℕ) (p : Addr) (made : Made newAnswe
   abbrev b : Borders
   b = boundsOf t
 
-  -- the lists one behind the other, and as one list
-  abbrev all : List Entry
-  all = entriesIn 0 t
-
+  -- the lists one behind the other
   abbrev es : List Entry
-  es = recordList t
+  es = entriesIn 0 t
 
   abbrev pre : List ℕ
   pre = take (b .prefix) (b .lo)
@@ -53,14 +49,14 @@ module _ (t : Tree) (s : List ℕ) (mark : ℕ) (p : Addr) (made : Made newAnswe
   merged-sound = says-checked (meaning s p) (leafOf t) merged-says
 
   marks : Marked es
-  marks = one-marked all
+  marks = leaf-marked t s mark p made
 
   wide : Each Wide es
-  wide = one-wide all (leaf-wide t s mark p made)
+  wide = leaf-wide t s mark p made
 
   -- walked whole, it lists the records of every list, left to right, each once
-  pub merged-lists : Lists s pre (forwardAt s p 0 (length (heads es))) (recordsOf all)
-  merged-lists = subst (λ (l : List Listed). Lists s pre (forwardAt s p 0 (length (heads es))) l) (one-records all) (lists-all s p b es merged-says marks)
+  pub merged-lists : Lists s pre (forwardAt s p 0 (length (heads es))) (recordsOf es)
+  merged-lists = lists-all s p b es merged-says marks
 
   -- backward, the last key first, each key newest first
   pub merged-all-back : 0 < length (heads es) → Lists s pre (backwardAt s p (pos (length (heads es) - 1)) (pos 0)) (entriesOf (reverse (grouped es)))
@@ -68,10 +64,8 @@ module _ (t : Tree) (s : List ℕ) (mark : ℕ) (p : Addr) (made : Made newAnswe
 
   -- between any two lower bounds, the records of that range, either way
   pub merged-range : (x y : List ℕ)
-      → Lists s pre (forwardAt s p (posOf (lowerAt s p x largest)) (posOf (lowerAt s p y largest))) (recordsOf (having keyIs (between x y) all))
-  merged-range x y =
-      subst (λ (l : List Listed). Lists s pre (forwardAt s p (posOf (lowerAt s p x largest)) (posOf (lowerAt s p y largest))) l)
-      (same-having (between x y) es all (one-records all)) (lists-range s p b es merged-says marks wide x y)
+      → Lists s pre (forwardAt s p (posOf (lowerAt s p x largest)) (posOf (lowerAt s p y largest))) (recordsOf (having keyIs (between x y) es))
+  merged-range x y = lists-range s p b es merged-says marks wide x y
 
   pub merged-back : (x y : List ℕ) → posOf (lowerAt s p x largest) < posOf (lowerAt s p y largest)
       → Lists s pre (backwardAt s p (pos (posOf (lowerAt s p y largest) - 1)) (pos (posOf (lowerAt s p x largest)))) (entriesOf (reverse (grouped (having keyIs (between x y) es))))

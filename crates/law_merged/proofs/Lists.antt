@@ -1,4 +1,5 @@
--- Lists of entries: a list's entries lie in the list alone; entries with the same records and right marks make the same groups.
+-- Lists of entries: a list's entries lie in the list alone; lists of neighbours are marked as one; entries with the same records and right marks
+-- make the same groups.
 -- Assumes nothing.
 use Prim.Native.Nat.{ℕ, zero, suc}
 use mathlib.Core.Path.{_≡_, refl, sym, ap, ap₂, _∙_}
@@ -8,13 +9,16 @@ use native.Mathlib.Omega.{arith}
 use borrow.Author.Tests.{ne-eqb}
 use lib.ListN.{getD, drop}
 use Rattle.order.specs.Order.{cmpBytes, isEqual}
+use Rattle.order.specs.Bounds.{belowHi, inBounds, allInBounds, bounded, meet}
 use Rattle.order.specs.Version.{verOf}
+use Rattle.order.proofs.Bounds.{both-first, both-second, apart-keys, bounded-append}
 use Rattle.pages.specs.Meaning.{Child}
 use Rattle.build_sources.specs.declared.Cursor.{Cursor}
 use Rattle.build_sources.specs.declared.EntryAt.{EntryAt}
 use Rattle.build_sources.specs.declared.EntryRead.{EntryRead}
 use Rattle.build_sources.specs.Source.{Entry, after, listF, nextOf, leftOf, entryOf, entries}
-use Rattle.build_sources.specs.Marks.{Each, MarkedFrom, Marked, Wide}
+use Rattle.build_sources.specs.Marks.{MarkedFrom, Marked}
+use Rattle.build_sources.specs.Judged.{enclosed}
 use Rattle.build_sources.proofs.Walk.{after-same}
 use Rattle.build_sources.proofs.Marked.{step-tells}
 use Rattle.walks.specs.Listed.{Entry as Listed}
@@ -22,8 +26,7 @@ use Rattle.law_two_pages.specs.Pairs.{bare, child}
 use Rattle.law_history.specs.Olders.{oldersOf}
 use Rattle.law_leaf.specs.Grouped.{runOf, headIs, grouped}
 use Rattle.law_index.specs.Children.{childIs, childrenOf}
-use Rattle.law_list.specs.Asked.{recordsOf, having, keyIs}
-use Rattle.law_merged.specs.Joined.{markedAs, behind, oneList}
+use Rattle.law_list.specs.Asked.{recordsOf}
 
 -- ---- whatever lies in the arena
 
@@ -72,58 +75,31 @@ unfolding childrenOf
 children-append [] fs = refl
 children-append (e ∷ es) fs = ap (λ (l : List Child). childIs e ∷ l) (children-append es fs)
 
-abbrev recordKey : Listed → List ℕ
-recordKey r = r .key
+-- ---- lists of neighbours: boundaries that meet keep their keys apart, so the marks of each list stand in both
 
-part-by : (t : Bool) (r : Listed) (e : Entry) (rs : List Listed) (es : List Entry) → recordsOf (e ∷ es) ≡ r ∷ rs → recordsOf es ≡ rs → recordsOf (cond t (e ∷ es) es) ≡ cond t (r ∷ rs) rs
-part-by true r e rs es p q = p
-part-by false r e rs es p q = q
+abbrev keys : List Entry → List (List ℕ)
+keys es = map (λ (e : Entry). e .key) es
 
-having-records : (p : List ℕ → Bool) (es : List Entry) → recordsOf (having keyIs p es) ≡ having recordKey p (recordsOf es)
-unfolding having recordsOf
-having-records p [] = refl
-having-records p (e ∷ es) =
-    part-by (p (e .key)) (record { key = e .key; ver = e .ver; value = e .val }) e (having recordKey p (recordsOf es)) (having keyIs p es)
-    (ap (λ (l : List Listed). (record { key = e .key; ver = e .ver; value = e .val }) ∷ l) (having-records p es)) (having-records p es)
+keys-append : (es fs : List Entry) → keys (es ++ fs) ≡ keys es ++ keys fs
+keys-append [] fs = refl
+keys-append (e ∷ es) fs = ap (λ (ks : List (List ℕ)). e .key ∷ ks) (keys-append es fs)
 
--- a part of the records depends on the records alone
-pub same-having : (p : List ℕ → Bool) (es fs : List Entry) → recordsOf es ≡ recordsOf fs → recordsOf (having keyIs p es) ≡ recordsOf (having keyIs p fs)
-same-having p es fs h = having-records p es ∙ ap (having recordKey p) h ∙ sym (having-records p fs)
+module _ (lo hi mid top : List ℕ) (m : meet hi mid ≡ true) where
+  pub enclosed-append : (es fs : List Entry) → enclosed lo hi es ≡ true → enclosed mid top fs ≡ true → enclosed lo top (es ++ fs) ≡ true
+  enclosed-append es fs e f = ap (bounded lo top) (keys-append es fs) ∙ bounded-append lo hi mid top m (keys es) (keys fs) e f
 
--- ---- as one list
+  from-append : (a : Entry) (es fs : List Entry) → MarkedFrom a es → Marked fs → allInBounds lo hi (keys (a ∷ es)) ≡ true → allInBounds mid top (keys fs) ≡ true → MarkedFrom a (es ++ fs)
+  unfolding MarkedFrom Marked allInBounds
+  from-append a [] [] h k e f = tt
+  from-append a [] (b ∷ fs) h k e f =
+      let less = apart-keys lo hi mid top (a .key) (b .key) m (both-first (inBounds lo hi (a .key)) _ e) (both-first (inBounds mid top (b .key)) _ f) in
+      (k .0 ∙ sym (ap isEqual less), k .1)
+  from-append a (b ∷ es) fs h k e f = (h .0, from-append b es fs (h .1) k (both-second (inBounds lo hi (a .key)) _ e) f)
 
-behind-records : (k : List ℕ) (es : List Entry) → recordsOf (behind k es) ≡ recordsOf es
-unfolding behind recordsOf
-behind-records k [] = refl
-behind-records k (e ∷ es) = ap (λ (l : List Listed). (record { key = e .key; ver = e .ver; value = e .val }) ∷ l) (behind-records (e .key) es)
-
-pub one-records : (es : List Entry) → recordsOf (oneList es) ≡ recordsOf es
-unfolding oneList recordsOf
-one-records [] = refl
-one-records (e ∷ es) = ap (λ (l : List Listed). (record { key = e .key; ver = e .ver; value = e .val }) ∷ l) (behind-records (e .key) es)
-
-behind-marked : (a : Entry) (es : List Entry) → MarkedFrom a (behind (a .key) es)
-unfolding behind MarkedFrom
-behind-marked a [] = tt
-behind-marked a (e ∷ es) = (refl, behind-marked (markedAs (isEqual (cmpBytes (a .key) (e .key))) e) es)
-
-pub one-marked : (es : List Entry) → Marked (oneList es)
-unfolding oneList Marked
-one-marked [] = tt
-one-marked (e ∷ es) = (refl, behind-marked (markedAs false e) es)
-
-wide-as : (b : Bool) (e : Entry) → Wide e → Wide (markedAs b e)
-wide-as b e h = record { txid = h .txid; cmd = h .cmd; kept = h .kept; page = h .page }
-
-behind-wide : (k : List ℕ) (es : List Entry) → Each Wide es → Each Wide (behind k es)
-unfolding behind Each
-behind-wide k [] h = tt
-behind-wide k (e ∷ es) h = (wide-as (isEqual (cmpBytes k (e .key))) e (h .0), behind-wide (e .key) es (h .1))
-
-pub one-wide : (es : List Entry) → Each Wide es → Each Wide (oneList es)
-unfolding oneList Each
-one-wide [] h = tt
-one-wide (e ∷ es) h = (wide-as false e (h .0), behind-wide (e .key) es (h .1))
+  pub marked-append : (es fs : List Entry) → Marked es → Marked fs → enclosed lo hi es ≡ true → enclosed mid top fs ≡ true → Marked (es ++ fs)
+  unfolding Marked bounded
+  marked-append [] fs h k e f = k
+  marked-append (a ∷ es) fs h k e f = (h .0, from-append a es fs (h .1) k (both-second (belowHi lo hi) _ e) (both-second (belowHi mid top) _ f))
 
 -- ---- the groups depend on the records alone
 

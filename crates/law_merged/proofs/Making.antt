@@ -88,7 +88,7 @@ module _ (a : List ℕ) (next : ℕ) (m : Call) (left right : Addr) (p : Addr) (
   merge-long : end ≤ length (mergeArena a next m left right)
   merge-long =
       let rows = mergeRows a next m left right in
-      omega (arith, end-is rows at to p end answers, leb-true to (length a) (all-hold rows at to p end answers .1 .1 .1 .1 .1 .1 .1 .0), merge-keeps a next m left right .long)
+      omega (arith, end-is rows at to p end answers, leb-true to (length a) (all-hold rows at to p end answers .1 .1 .1 .1 .1 .1 .1 .1 .0), merge-keeps a next m left right .long)
 
   pub merge-makes : (answer : Answer) (arena : Arena) (t u : Tree) → Typed a m → Made answer arena t a next left → Made answer arena u a next right
       → Made answer arena (joined t u) (mergeArena a next m left right) end p

@@ -2,7 +2,7 @@
 -- Assumes nothing.
 use Prim.Native.Nat.{ℕ, _+_, _≤_}
 use mathlib.Core.Path.{_≡_, refl, sym, ap, _∙_}
-use mathlib.Core.Bool.{true}
+use mathlib.Core.Bool.{Bool, true}
 use mathlib.Core.List.{List, _∷_, _++_}
 use native.Mathlib.Omega.{arith}
 use borrow.Author.Tests.{leb-true}
@@ -29,7 +29,7 @@ use Rattle.build_table.specs.Leaf.{leafEnd}
 use Rattle.build_image.proofs.Tables.{All}
 use Rattle.law_two_pages.specs.Pairs.{bare, child, Carried, NoPage, NoVersion}
 use Rattle.merge.specs.declared.Kinds.{Kinds}
-use Rattle.merge.specs.Merge.{boundsBetween, boundsIn, merged, Merged}
+use Rattle.merge.specs.Merge.{boundsBetween, boundsIn, meetIn, merged, Merged}
 use Rattle.merge.specs.Answer.{kindsIn, kindRows, answerBy, arenaBy, mergeAnswer, mergeArena}
 use Rattle.merge.proofs.Gathering.{lo-short, hi-short, prefix-short}
 use Rattle.merge.proofs.Said.{sibling-fits, bounds-said, leaves-said, indexes-said}
@@ -53,6 +53,9 @@ module _ (a : List ℕ) (next : ℕ) (m : Call) (left right : Addr) (typed : Typ
   abbrev es : List Entry
   es = merged w left right
 
+  abbrev met : Bool
+  met = meetIn w left right
+
   abbrev after : List ℕ
   after = mergeArena a next m left right
 
@@ -62,7 +65,7 @@ module _ (a : List ℕ) (next : ℕ) (m : Call) (left right : Addr) (typed : Typ
 
   -- the table, the kinds of the pages known
   abbrev rows : Kinds → List Row
-  rows k = row (limitsOk (m .limit) (m .budget)) BadLimit ∷ row (nextOk (length a) next) BadArena ∷ kindRows (length a) next m b es k
+  rows k = row (limitsOk (m .limit) (m .budget)) BadLimit ∷ row (nextOk (length a) next) BadArena ∷ kindRows (length a) next m met b es k
 
   answers-by : (k : Kinds) → kindsIn w left right ≡ k → answerBy (rows k) next m b es k ≡ Built.At p end
   unfolding mergeAnswer
@@ -100,7 +103,7 @@ module _ (a : List ℕ) (next : ℕ) (m : Call) (left right : Addr) (typed : Typ
 
       leaf-room : next + length image ≤ length a
       unfolding leafEnd
-      leaf-room = leb-true (next + length image) (length a) (leaf-holds .1 .1 .1 .1 .1 .1 .1 .0)
+      leaf-room = leb-true (next + length image) (length a) (leaf-holds .1 .1 .1 .1 .1 .1 .1 .1 .0)
 
       -- what is merged says exactly the records of the left, then of the right
       pub leaves-are : Merged bare NoPage w es (entriesOf hs ++ entriesOf ks)
@@ -116,7 +119,7 @@ module _ (a : List ℕ) (next : ℕ) (m : Call) (left right : Addr) (typed : Typ
       leaf-fits =
           let h = leaf-holds in
           let k = limits (h .0) in
-          leaf-fit w m b next es (leafEnd next m b es) (length a) (address-below a next (typed .word) (h .1 .0)) bounds (call-fits m (typed .numbers) (k .0) (k .1)) leaf-each (leaves-are .marks) (h .1 .1 .1 .1)
+          leaf-fit w m b next es met (leafEnd next m b es) (length a) (address-below a next (typed .word) (h .1 .0)) bounds (call-fits m (typed .numbers) (k .0) (k .1)) leaf-each (leaves-are .marks) (h .1 .1 .1 .1)
 
       module _ (s : List ℕ) (mark : ℕ) (later : Later end after s mark) where
         long : end ≤ length s
@@ -152,7 +155,7 @@ module _ (a : List ℕ) (next : ℕ) (m : Call) (left right : Addr) (typed : Typ
 
       index-room : next + length page ≤ length a
       unfolding indexEnd
-      index-room = leb-true (next + length page) (length a) (index-holds .1 .1 .1 .1 .1 .1 .1 .0)
+      index-room = leb-true (next + length page) (length a) (index-holds .1 .1 .1 .1 .1 .1 .1 .1 .0)
 
       pub indexes-are : Merged child NoVersion w es (cs ++ ds)
       indexes-are = indexes-said w bytes left right x y f g cs ds d e
@@ -168,7 +171,7 @@ module _ (a : List ℕ) (next : ℕ) (m : Call) (left right : Addr) (typed : Typ
       index-fits : IndexFit a m b next es
       index-fits =
           let h = index-holds in
-          index-fit a m b next es (indexEnd next m b es) (length a) (address a (length a) next (typed .word) (h .1 .0)) bounds (typed .numbers) index-each (h .1 .1 .1 .1)
+          index-fit a m b next es met (indexEnd next m b es) (length a) (address a (length a) next (typed .word) (h .1 .0)) bounds (typed .numbers) index-each (h .1 .1 .1 .1)
 
       module _ (s : List ℕ) (mark : ℕ) (later : Later end after s mark) where
         reach : end ≤ length s

@@ -12,9 +12,8 @@ use Rattle.law_leaf.specs.Grouped.{leafPage}
 use Rattle.law_index.specs.Children.{childrenOf, indexPage}
 use Rattle.law_list.specs.Asked.{recordsOf}
 use Rattle.law_merged.specs.Trees.{Input, Tree, built, joined, Made}
-use Rattle.law_merged.specs.Joined.{allOf, inputsOf, entriesIn, leftmost, rightmost, boundsOf, recordList}
-use Rattle.law_merged.proofs.Lists.{one-records, one-marked}
-use Rattle.law_merged.proofs.Trees.{same-leaf, same-index, leaf-made, index-made}
+use Rattle.law_merged.specs.Joined.{allOf, inputsOf, entriesIn, leftmost, rightmost, boundsOf}
+use Rattle.law_merged.proofs.Trees.{same-leaf, same-index, leaf-made, leaf-marked, index-made}
 
 -- ---- the same records, wherever and whenever the two pages were made: merged or built at once
 
@@ -22,9 +21,9 @@ module _ (t u : Tree) (bounds : boundsOf t ≡ boundsOf u) (s s′ : List ℕ) (
   pub same-leaves : recordsOf (entriesIn 0 t) ≡ recordsOf (entriesIn 0 u) → Made newAnswer newArena t s mark p → Made newAnswer newArena u s′ mark′ p′ → meaning s p ≡ meaning s′ p′
   same-leaves h x y =
       leaf-made t s mark p x
-      ∙ ap (λ (b : Borders). says (leafPage b (recordList t))) bounds
+      ∙ ap (λ (b : Borders). says (leafPage b (entriesIn 0 t))) bounds
       ∙ ap says
-      (same-leaf (boundsOf u) (recordList t) (recordList u) (one-records (entriesIn 0 t) ∙ h ∙ sym (one-records (entriesIn 0 u))) (one-marked (entriesIn 0 t)) (one-marked (entriesIn 0 u)))
+      (same-leaf (boundsOf u) (entriesIn 0 t) (entriesIn 0 u) h (leaf-marked t s mark p x) (leaf-marked u s′ mark′ p′ y))
       ∙ sym (leaf-made u s′ mark′ p′ y)
 
   pub same-branches : childrenOf (entriesIn 1 t) ≡ childrenOf (entriesIn 1 u) → Made newIndexAnswer newIndexArena t s mark p → Made newIndexAnswer newIndexArena u s′ mark′ p′ → meaning s p ≡ meaning s′ p′

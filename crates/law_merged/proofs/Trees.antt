@@ -3,24 +3,32 @@
 -- Assumes nothing.
 use Prim.Native.Nat.{ℕ, _≤_}
 use mathlib.Core.Path.{_≡_, refl, sym, ap, ap₂, _∙_}
+use mathlib.Core.Bool.{true}
 use mathlib.Core.List.{List, [], _++_}
 use native.Mathlib.Omega.{arith}
 use lib.ListN.{length, take}
 use lib.Seq.{take-take, length-take-le}
+use Rattle.order.specs.Bounds.{meet}
 use Rattle.frames.specs.declared.Addr.{Addr}
 use Rattle.frames.specs.Layout.{pageId}
+use Rattle.frames.proofs.Frames.{and-l}
 use Rattle.pages.specs.Meaning.{Head, Child, Page, leaf, index, says, meaning}
+use Rattle.pages.proofs.Says.{lo-says, hi-says}
 use Rattle.build_sources.specs.Lists.{firstOf}
 use Rattle.build_sources.specs.Source.{Entry}
 use Rattle.build_sources.specs.Marks.{Each, Marked, Wide}
+use Rattle.build_sources.specs.Judged.{enclosed}
 use Rattle.build_sources.proofs.Marked.{list-wide, marked}
-use Rattle.walks.specs.Listed.{Entry as Listed, entriesOf}
+use Rattle.walks.specs.Listed.{Entry as Listed}
 use Rattle.build_image.specs.declared.Call.{Call}
 use Rattle.build_image.specs.Image.{Borders}
 use Rattle.build_image.specs.declared.Built.{Built}
+use Rattle.build_image.specs.Call.{builtNumber}
 use Rattle.base.specs.Calls.{listed, newAnswer, newArena, newIndexAnswer, newIndexArena}
-use Rattle.merge.specs.Merge.{boundsBetween, merged}
+use Rattle.base.proofs.Refusing.{new-accepted}
+use Rattle.merge.specs.Merge.{boundsBetween, boundsIn, meetIn, merged}
 use Rattle.merge.specs.Answer.{mergeAnswer, mergeArena}
+use Rattle.merge.proofs.Refusing.{merge-accepted}
 use Rattle.law_leaf.specs.Grouped.{grouped, leafPage}
 use Rattle.law_index.specs.Children.{childrenOf, indexPage}
 use Rattle.law_list.specs.Asked.{recordsOf}
@@ -28,9 +36,9 @@ use Rattle.law_list.proofs.Flat.{flat-grouped}
 use Rattle.law_calls.proofs.New.{new-says}
 use Rattle.law_calls.proofs.Index.{index-says}
 use Rattle.law_merged.specs.Trees.{Input, Tree, built, joined, Typed, Later, Answer, Arena, boundariesOf, BuiltBy, Made}
-use Rattle.law_merged.specs.Joined.{allOf, entriesIn, leftmost, rightmost, boundsOf, recordList, leafOf, indexOf}
+use Rattle.law_merged.specs.Joined.{allOf, entriesIn, leftmost, rightmost, boundsOf, leafOf, indexOf}
 use Rattle.law_leaf.proofs.Hinted.{each-append}
-use Rattle.law_merged.proofs.Lists.{list-anywhere, bare-records, child-children, records-append, children-append, one-records, one-marked, same-groups}
+use Rattle.law_merged.proofs.Lists.{list-anywhere, bare-records, child-children, records-append, children-append, enclosed-append, marked-append, same-groups}
 use Rattle.law_merged.proofs.Pages.{leaves-are, leaves-merged, indexes-are, indexes-merged}
 
 -- ---- later still
@@ -85,12 +93,12 @@ module _ (answer : Answer) (arena : Arena) where
       let l : length (take mark s) ≡ mark = length-take-le mark s (made-inside t s mark p x) in
       made-later t s (take mark s) mark mark p (omega arith) (omega (arith, l)) (take-take mark mark s (omega arith)) x
 
-  -- a page for each tree, said by a build and kept by a merge, is said by all
-  module _ (page : Tree → Page) (first : (i : Input) (s : List ℕ) (mark : ℕ) (p : Addr) → BuiltBy answer arena i s mark p → meaning s p ≡ says (page (built i)))
+  -- what holds of a build's page, and goes from two pages to their merged one, holds of every tree's
+  module _ (Holds : Tree → List ℕ → Addr → Type 0) (first : (i : Input) (s : List ℕ) (mark : ℕ) (p : Addr) → BuiltBy answer arena i s mark p → Holds (built i) s p)
       (then : (t u : Tree) (a : List ℕ) (next : ℕ) (m : Call) (left right : Addr) → Typed a m → (p : Addr) (end : ℕ) → mergeAnswer a next m left right ≡ Built.At p end
-      → meaning (take next a) left ≡ says (page t) → meaning (take next a) right ≡ says (page u) → (s : List ℕ) (mark : ℕ) → Later end (mergeArena a next m left right) s mark
-      → meaning s p ≡ says (page (joined t u))) where
-    by-tree : (t : Tree) (s : List ℕ) (mark : ℕ) (p : Addr) → Made answer arena t s mark p → meaning s p ≡ says (page t)
+      → Holds t (take next a) left → Holds u (take next a) right → (s : List ℕ) (mark : ℕ) → Later end (mergeArena a next m left right) s mark
+      → Holds (joined t u) s p) where
+    by-tree : (t : Tree) (s : List ℕ) (mark : ℕ) (p : Addr) → Made answer arena t s mark p → Holds t s p
     unfolding Made
     by-tree (built i) s mark p x = first i s mark p x
     by-tree (joined t u) s mark p x =
@@ -98,6 +106,14 @@ module _ (answer : Answer) (arena : Arena) where
         (by-tree t (take (x .next) (x .was)) (x .next) (x .left) (below t (x .was) (x .next) (x .left) (x .lefts)))
         (by-tree u (take (x .next) (x .was)) (x .next) (x .right) (below u (x .was) (x .next) (x .right) (x .rights)))
         s mark (x .later)
+
+-- a merge that answered had pages that meet
+met-by : (a : List ℕ) (next : ℕ) (m : Call) (left right p : Addr) (end : ℕ) → mergeAnswer a next m left right ≡ Built.At p end
+    → (x y : Page) → meaning (take next a) left ≡ says x → meaning (take next a) right ≡ says y → meet (x .hi) (y .lo) ≡ true
+met-by a next m left right p end answers x y f g =
+    let w = take next a in
+    let h = merge-accepted a next m left right .0 (ap builtNumber answers) in
+    ap₂ meet (sym (hi-says w left x f)) (sym (lo-says w right y g)) ∙ and-l (meetIn w left right) (enclosed (boundsIn w left right .lo) (boundsIn w left right .hi) (merged w left right)) (h .1 .1 .1 .1 .1 .1 .0)
 
 -- ---- leaves
 
@@ -107,38 +123,57 @@ unfolding leafPage
 same-leaf b es fs h m n =
     ap (λ (hs : List Head). record { lo = b .lo; hi = b .hi; prefix = take (b .prefix) (b .lo); sibling = pageId (b .sibling); rows = leaf hs }) (same-groups es fs h m n)
 
-leaf-first : (i : Input) (s : List ℕ) (mark : ℕ) (p : Addr) → BuiltBy newAnswer newArena i s mark p → meaning s p ≡ says (leafOf (built i))
+-- what a tree's leaf says, and what is known of the lists that it came from: their marks are right as one list, and its boundaries enclose them
+record Stands (t : Tree) (s : List ℕ) (p : Addr) : Type 0 where
+  said : meaning s p ≡ says (leafOf t)
+  marks : Marked (entriesIn 0 t)
+  inside : enclosed (boundsOf t .lo) (boundsOf t .hi) (entriesIn 0 t) ≡ true
+
+leaf-first : (i : Input) (s : List ℕ) (mark : ℕ) (p : Addr) → BuiltBy newAnswer newArena i s mark p → Stands (built i) s p
 unfolding allOf leftmost rightmost
 leaf-first i s mark p x =
     let l = i .list in
     let w = take (x .next) (x .was) in
     let long : x .end ≤ length s = omega (arith, x .later .above, x .later .inside) in
-    new-says (x .was) (x .next) l (x .call) (i .lo) (i .hi) (i .sibling) (x .bytes) (x .typed .word) (x .typed .numbers) (x .id) p (x .end) (x .answers) s long (x .later .same)
-    ∙ ap says
-    (same-leaf (boundsOf (built i)) (listed l w 0) (recordList (built i)) (ap recordsOf (list-anywhere l w [] (firstOf 0) (λ k. omega arith)) ∙ sym (one-records (listed l [] 0)))
-    (marked l w (firstOf 0) refl) (one-marked (listed l [] 0)))
-
--- what a tree's page lists
-flat : (t : Tree) → entriesOf (grouped (recordList t)) ≡ recordsOf (entriesIn 0 t)
-flat t = flat-grouped (recordList t) (one-marked (entriesIn 0 t)) ∙ one-records (entriesIn 0 t)
+    let same : listed l w 0 ≡ listed l [] 0 = list-anywhere l w [] (firstOf 0) (λ k. omega arith) in
+    record {
+      said =
+          new-says (x .was) (x .next) l (x .call) (i .lo) (i .hi) (i .sibling) (x .bytes) (x .typed .word) (x .typed .numbers) (x .id) p (x .end) (x .answers) s long (x .later .same)
+          ∙ ap (λ (es : List Entry). says (leafPage (boundsOf (built i)) es)) same;
+      marks = marked l [] (firstOf 0) refl;
+      inside = ap (enclosed (i .lo) (i .hi)) (sym same) ∙ new-accepted (x .was) (x .next) l (x .call) (boundariesOf i) .0 (ap builtNumber (x .answers)) .1 .1 .1 .1 .1 .0;
+    }
 
 leaf-then : (t u : Tree) (a : List ℕ) (next : ℕ) (m : Call) (left right : Addr) → Typed a m → (p : Addr) (end : ℕ) → mergeAnswer a next m left right ≡ Built.At p end
-    → meaning (take next a) left ≡ says (leafOf t) → meaning (take next a) right ≡ says (leafOf u) → (s : List ℕ) (mark : ℕ) → Later end (mergeArena a next m left right) s mark
-    → meaning s p ≡ says (leafOf (joined t u))
+    → Stands t (take next a) left → Stands u (take next a) right → (s : List ℕ) (mark : ℕ) → Later end (mergeArena a next m left right) s mark → Stands (joined t u) s p
 unfolding leafPage boundsBetween allOf leftmost rightmost
 leaf-then t u a next m left right typed p end answers f g s mark later =
     let es = merged (take next a) left right in
-    let hs = grouped (recordList t) in
-    let ks = grouped (recordList u) in
-    let d = leaves-are a next m left right typed p end answers (leafOf t) (leafOf u) f g hs ks refl refl in
-    let h : recordsOf es ≡ recordsOf (recordList (joined t u)) =
-    sym (bare-records es) ∙ d .list ∙ ap₂ (λ (x y : List Listed). x ++ y) (flat t) (flat u) ∙ sym (records-append (entriesIn 0 t) (entriesIn 0 u)) ∙ sym (one-records (entriesIn 0 (joined t u))) in
-    leaves-merged a next m left right typed p end answers (leafOf t) (leafOf u) f g hs ks refl refl s mark later
-    ∙ ap says (same-leaf (boundsOf (joined t u)) es (recordList (joined t u)) h (d .marks) (one-marked (entriesIn 0 (joined t u))))
+    let hs = grouped (entriesIn 0 t) in
+    let ks = grouped (entriesIn 0 u) in
+    let d = leaves-are a next m left right typed p end answers (leafOf t) (leafOf u) (f .said) (g .said) hs ks refl refl in
+    let met = met-by a next m left right p end answers (leafOf t) (leafOf u) (f .said) (g .said) in
+    let marks = marked-append (leftmost t .lo) (rightmost t .hi) (leftmost u .lo) (rightmost u .hi) met (entriesIn 0 t) (entriesIn 0 u) (f .marks) (g .marks) (f .inside) (g .inside) in
+    let h : recordsOf es ≡ recordsOf (entriesIn 0 (joined t u)) =
+    sym (bare-records es) ∙ d .list ∙ ap₂ (λ (x y : List Listed). x ++ y) (flat-grouped (entriesIn 0 t) (f .marks)) (flat-grouped (entriesIn 0 u) (g .marks)) ∙ sym (records-append (entriesIn 0 t) (entriesIn 0 u)) in
+    record {
+      said =
+          leaves-merged a next m left right typed p end answers (leafOf t) (leafOf u) (f .said) (g .said) hs ks refl refl s mark later
+          ∙ ap says (same-leaf (boundsOf (joined t u)) es (entriesIn 0 (joined t u)) h (d .marks) marks);
+      marks = marks;
+      inside = enclosed-append (leftmost t .lo) (rightmost t .hi) (leftmost u .lo) (rightmost u .hi) met (entriesIn 0 t) (entriesIn 0 u) (f .inside) (g .inside);
+    }
+
+leaf-stands : (t : Tree) (s : List ℕ) (mark : ℕ) (p : Addr) → Made newAnswer newArena t s mark p → Stands t s p
+leaf-stands = by-tree newAnswer newArena Stands leaf-first leaf-then
 
 -- THE LAW for leaves
 pub leaf-made : (t : Tree) (s : List ℕ) (mark : ℕ) (p : Addr) → Made newAnswer newArena t s mark p → meaning s p ≡ says (leafOf t)
-leaf-made = by-tree newAnswer newArena leafOf leaf-first leaf-then
+leaf-made t s mark p x = leaf-stands t s mark p x .said
+
+-- "The first version of each key is its head", in the lists one behind the other
+pub leaf-marked : (t : Tree) (s : List ℕ) (mark : ℕ) (p : Addr) → Made newAnswer newArena t s mark p → Marked (entriesIn 0 t)
+leaf-marked t s mark p x = leaf-stands t s mark p x .marks
 
 -- its numbers have their widths
 pub leaf-wide : (t : Tree) (s : List ℕ) (mark : ℕ) (p : Addr) → Made newAnswer newArena t s mark p → Each Wide (entriesIn 0 t)
@@ -178,4 +213,4 @@ index-then t u a next m left right typed p end answers f g s mark later =
 
 -- THE LAW for index pages
 pub index-made : (t : Tree) (s : List ℕ) (mark : ℕ) (p : Addr) → Made newIndexAnswer newIndexArena t s mark p → meaning s p ≡ says (indexOf t)
-index-made = by-tree newIndexAnswer newIndexArena indexOf index-first index-then
+index-made = by-tree newIndexAnswer newIndexArena (λ (t : Tree) (s : List ℕ) (p : Addr). meaning s p ≡ says (indexOf t)) index-first index-then

@@ -1,9 +1,7 @@
--- What was handed in for a page: its lists as one, its boundaries, and the page that says them.
+-- What was handed in for a page: its lists one behind the other, its boundaries, and the page that says them.
 -- Assumes nothing.
 use Prim.Native.Nat.{ℕ}
-use mathlib.Core.Bool.{Bool, false}
 use mathlib.Core.List.{List, [], _∷_, _++_}
-use Rattle.order.specs.Order.{cmpBytes, isEqual}
 use Rattle.pages.specs.Meaning.{Page}
 use Rattle.build_sources.specs.Source.{Entry}
 use Rattle.build_image.specs.Image.{Borders}
@@ -37,27 +35,10 @@ rightmost (joined t u) = rightmost u
 abbrev pub boundsOf : Tree → Borders
 boundsOf t = boundsFrom (leftmost t .lo) (rightmost t .hi) (rightmost t .sibling)
 
--- ---- as one list: "The first version of each key is its head", also where a key goes on from one list into the next
-
-abbrev pub markedAs : Bool → Entry → Entry
-markedAs b e = record { old = b; key = e .key; ver = e .ver; val = e .val; kept = e .kept; page = e .page }
-
-unfoldable pub behind : List ℕ → List Entry → List Entry
-behind key [] = []
-behind key (e ∷ es) = markedAs (isEqual (cmpBytes key (e .key))) e ∷ behind (e .key) es
-
-unfoldable pub oneList : List Entry → List Entry
-unfolding behind
-oneList [] = []
-oneList (e ∷ es) = markedAs false e ∷ behind (e .key) es
-
-abbrev pub recordList : Tree → List Entry
-recordList t = oneList (entriesIn 0 t)
-
 -- ---- the page
 
 abbrev pub leafOf : Tree → Page
-leafOf t = leafPage (boundsOf t) (recordList t)
+leafOf t = leafPage (boundsOf t) (entriesIn 0 t)
 
 abbrev pub indexOf : Tree → Page
 indexOf t = indexPage (boundsOf t) (entriesIn 1 t)

@@ -12,7 +12,7 @@ use Rattle.spans.specs.Span.{part}
 use Rattle.spans.proofs.Tests.{ask}
 use Rattle.numbers.specs.Number.{leAt}
 use Rattle.order.specs.declared.Ver.{Ver}
-use Rattle.order.specs.Order.{cmpBytes}
+use Rattle.order.specs.Order.{cmpBytes, isLess}
 use Rattle.frames.specs.declared.Addr.{Addr}
 use Rattle.frames.specs.declared.PageId.{PageId}
 use Rattle.frames.specs.declared.Body.{Body}
@@ -29,9 +29,9 @@ use Rattle.values.specs.Keys.{verIn}
 use Rattle.records.specs.Records.{slotAt, keyIn, recOf, recKey, recIn, recSlot, recAt}
 use Rattle.records.proofs.Inside.{at-inside, ver-inside}
 use Rattle.pages.specs.declared.OldRead.{OldRead}
-use Rattle.pages.specs.Sound.{isLess, inOrder, slotsFrom, slotsOk, historyOf, historyAt, histOf, histOk, oldRec, oldIn, oldLink, oldOf, oldAt, chainFrom, enteredOf, entered, headOk, multiOf, chainsOf, chainsFrom, chainsOk, remotesAt, hintsOk, soundBody}
-use Rattle.pages.specs.Meaning.{Older, Head, Child, Rows, leaf, index, Page, Said, nothing, says, oldsFrom, prefixOf, headOf, childOf, rowsFrom, pageSays, meaning}
-use Rattle.pages.proofs.Turns.{head-none, head-chain, body-hints}
+use Rattle.pages.specs.Sound.{inOrder, slotsFrom, slotsOk, historyOf, historyAt, histOf, histOk, oldRec, oldIn, oldLink, oldOf, oldAt, chainFrom, enteredOf, entered, headOk, multiOf, chainsOf, chainsFrom, chainsOk, remotesAt, hintsOk}
+use Rattle.pages.specs.Meaning.{Older, Head, Child, Rows, leaf, index, Page, Said, nothing, says, oldsFrom, prefixOf, headOf, childOf, rowsFrom, pageSays, pageBounded, soundBody, meaning}
+use Rattle.pages.proofs.Turns.{head-none, head-chain, body-bounds}
 use Rattle.pages.proofs.Olds.{History, history-inside, OldInside, old-inside}
 use Rattle.pages.proofs.Given.{yes, Sound, sound-given, HintsFit, hints-given, Slot, slot-given, every-slot, every-head, head-given, Link, link-given}
 use Rattle.law_stays.proofs.Grown.{Grown, grown-take, stay-part, stay-number}
@@ -270,8 +270,9 @@ module _ (t s : List ℕ) (g : Grown t s) where
       let d = sound-given t a p m in
       let b = d .body in
       let i = open-inside t a b (d .opened) .0 in
-      let o : soundBody s b ≡ true = body-hints s b (d .kind) true (slots-stay b i (d .slots)) (chains-stay b i (d .chains)) (hints-stay b i (d .hints)) in
-      rw (open-stays t s g a b (d .opened), o) (ap says (page-says b i (d .slots) (d .chains) ∙ d .said))
+      let q : pageSays s b ≡ p = page-says b i (d .slots) (d .chains) ∙ d .said in
+      let o : soundBody s b ≡ true = body-bounds s b (d .kind) true (slots-stay b i (d .slots)) (chains-stay b i (d .chains)) (hints-stay b i (d .hints)) (ap pageBounded q ∙ d .bounded) in
+      rw (open-stays t s g a b (d .opened), o) (ap says q)
 
 -- a page that says something below a mark says it in the whole arena, and in every arena that has the same bytes below the mark
 pub below-mark : (n : ℕ) (s s′ : List ℕ) (a : Addr) (p : Page) → n ≤ length s′ → take n s′ ≡ take n s → meaning (take n s) a ≡ says p → meaning s′ a ≡ says p

@@ -1,12 +1,15 @@
--- The public call, one law a return: 1, 2, then 4 and 5, then what the builder judges.
+-- The public call, one law a return: 1, 2, then 4 and 5, then what refuses pages that do not meet, or what the builder judges.
 -- Assumes nothing.
 use Prim.Native.Nat.{ℕ}
-use mathlib.Core.Path.{_≡_, refl, sym, ap, _∙_}
+use mathlib.Core.Path.{_≡_, refl, sym, ap, ap₂, _∙_}
 use mathlib.Core.Bool.{Bool, true, false}
 use mathlib.Core.List.{List}
 use native.Mathlib.Omega.{arith}
 use lib.ListN.{length, take}
+use Rattle.spans.specs.Span.{put}
 use Rattle.frames.specs.declared.Addr.{Addr}
+use Rattle.frames.specs.Layout.{addr}
+use Rattle.frames.specs.declared.Refusal.{Refusal}
 use Rattle.frames.specs.declared.Refusal.the-variants.{BadLimit, BadArena, BadFrame, MixedKinds}
 use Rattle.pages.specs.Meaning.{Page, Said, nothing, says, meaning}
 use Rattle.build_sources.specs.Source.{Entry}
@@ -16,10 +19,11 @@ use Rattle.build_image.specs.declared.Built.{Built}
 use Rattle.build_image.specs.Call.{nextOk, limitsOk}
 use Rattle.build_table.specs.Index.{indexAnswer, indexArena}
 use Rattle.build_table.specs.Leaf.{leafAnswer, leafArena}
+use Rattle.build_table.proofs.Judging.{at-apart}
 use Rattle.merge.specs.declared.Kind.{Kind}
 use Rattle.merge.specs.declared.Kinds.{Kinds}
-use Rattle.merge.specs.Merge.{saidKind, kindsBy, kindsOf, Sound, boundsIn, merged}
-use Rattle.merge.specs.Answer.{kindsIn, kindRows, answerBy, arenaBy, kindsAnswer, kindsArena, mergeAnswer, mergeArena}
+use Rattle.merge.specs.Merge.{saidKind, kindsBy, kindsOf, Sound, boundsIn, meetIn, merged}
+use Rattle.merge.specs.Answer.{kindsIn, soundOk, kindsOk, payloadBy, endBy, placeBy, imageBy, kindRows, apartIn, answerBy, arenaBy, kindsAnswer, kindsArena, mergeAnswer, mergeArena}
 
 -- ---- 4 and 5: pages of known kinds are sound
 
@@ -61,30 +65,49 @@ module _ (a : List ℕ) (next : ℕ) (m : Call) (left right : Addr) (k : Kinds) 
   abbrev Answers : Built → List ℕ → Type 0
   Answers r a₁ = (r ≡ kindsAnswer a next m left right) × (a₁ ≡ kindsArena a next m left right)
 
-  -- what a table with this kind answers and leaves
-  abbrev answer-of : Kinds → Built
-  answer-of s = answerBy (kindRows (length a) next m b es s) next m b es s
+  abbrev met : Bool
+  met = meetIn (take next a) left right
 
-  abbrev arena-of : Kinds → List ℕ
-  arena-of s = arenaBy (kindRows (length a) next m b es s) a next m b es s
+  -- what a table with this kind answers and leaves, where the pages meet or do not
+  abbrev answer-of : Bool → Kinds → Built
+  answer-of t s = answerBy (kindRows (length a) next m t b es s) next m b es s
 
-  by-kind : (s : Kinds) → k ≡ s → (r : Built) (a₁ : List ℕ) → r ≡ answer-of s → a₁ ≡ arena-of s → Answers r a₁
+  abbrev arena-of : Bool → Kinds → List ℕ
+  arena-of t s = arenaBy (kindRows (length a) next m t b es s) a next m b es s
+
+  by-kind : (t : Bool) (s : Kinds) → met ≡ t → k ≡ s → (r : Built) (a₁ : List ℕ) → r ≡ answer-of t s → a₁ ≡ arena-of t s → Answers r a₁
   unfolding kindsAnswer kindsArena
-  by-kind s q r a₁ e f = (e ∙ ap answer-of (sym q ∙ h), f ∙ ap arena-of (sym q ∙ h))
+  by-kind t s v q r a₁ e f = (e ∙ ap₂ answer-of (sym v) (sym q ∙ h), f ∙ ap₂ arena-of (sym v) (sym q ∙ h))
 
-  pub on-leaves : k ≡ Kinds.Leaves → (r : Built) (a₁ : List ℕ) → r ≡ leafAnswer a next m b es → a₁ ≡ leafArena a next m b es → Answers r a₁
-  unfolding leafAnswer leafArena
-  on-leaves q r a₁ e f = by-kind Kinds.Leaves q r a₁ e f
+  -- pages of one kind that do not meet
+  by-apart : (s : Kinds) → soundOk s ≡ true → kindsOk s ≡ true → met ≡ false → k ≡ s → (r : Refusal) → r ≡ apartIn b es → Answers (Built.Refused r) a
+  by-apart s x y v q r e =
+      let payload = payloadBy m b es s in
+      let end = endBy next m b es s in
+      by-kind false s v q (Built.Refused r) a
+      (rw (x, y) (ap Built.Refused e ∙ at-apart false b es payload end (length a) Built.Refused (Built.At (addr (placeBy next m es s)) end) refl))
+      (rw (x, y) (at-apart false b es payload end (length a) (λ (z : Refusal). a) (put a next (imageBy next m b es s)) refl))
 
-  pub on-indexes : k ≡ Kinds.Indexes → (r : Built) (a₁ : List ℕ) → r ≡ indexAnswer a next m b es → a₁ ≡ indexArena a next m b es → Answers r a₁
-  unfolding indexAnswer indexArena
-  on-indexes q r a₁ e f = by-kind Kinds.Indexes q r a₁ e f
+  module _ (t : Bool) (g : t ≡ meetIn (take next a) left right) where
+    pub on-leaves : k ≡ Kinds.Leaves → t ≡ true → (r : Built) (a₁ : List ℕ) → r ≡ leafAnswer a next m b es → a₁ ≡ leafArena a next m b es → Answers r a₁
+    unfolding leafAnswer leafArena
+    on-leaves q u r a₁ e f = by-kind true Kinds.Leaves (sym g ∙ u) q r a₁ e f
+
+    pub on-indexes : k ≡ Kinds.Indexes → t ≡ true → (r : Built) (a₁ : List ℕ) → r ≡ indexAnswer a next m b es → a₁ ≡ indexArena a next m b es → Answers r a₁
+    unfolding indexAnswer indexArena
+    on-indexes q u r a₁ e f = by-kind true Kinds.Indexes (sym g ∙ u) q r a₁ e f
+
+    pub leaves-apart : k ≡ Kinds.Leaves → t ≡ false → (r : Refusal) → r ≡ apartIn b es → Answers (Built.Refused r) a
+    leaves-apart q u r e = by-apart Kinds.Leaves refl refl (sym g ∙ u) q r e
+
+    pub indexes-apart : k ≡ Kinds.Indexes → t ≡ false → (r : Refusal) → r ≡ apartIn b es → Answers (Built.Refused r) a
+    indexes-apart q u r e = by-apart Kinds.Indexes refl refl (sym g ∙ u) q r e
 
   pub on-mixed : k ≡ Kinds.Mixed → Answers (Built.Refused MixedKinds) a
-  on-mixed q = by-kind Kinds.Mixed q (Built.Refused MixedKinds) a refl refl
+  on-mixed q = by-kind met Kinds.Mixed refl q (Built.Refused MixedKinds) a refl refl
 
   pub on-bad : k ≡ Kinds.Bad → Answers (Built.Refused BadFrame) a
-  on-bad q = by-kind Kinds.Bad q (Built.Refused BadFrame) a refl refl
+  on-bad q = by-kind met Kinds.Bad refl q (Built.Refused BadFrame) a refl refl
 
 -- ---- 1 and 2
 

@@ -2,11 +2,11 @@
 -- that the definition names.
 -- Assumes nothing.
 use Prim.Native.Nat.{ℕ, _+_, _*_, _≤_}
-use mathlib.Core.Path.{_≡_, refl, sym, ap, _∙_}
+use mathlib.Core.Path.{_≡_, refl, sym, ap, ap₂, _∙_}
 use mathlib.Core.Bool.{Bool, true, false, cond, _&&_, _||_}
 use mathlib.Core.List.{List, []}
 use native.Mathlib.Omega.{arith}
-use borrow.Author.Tests.{leb-true, le-leb}
+use borrow.Author.Tests.{leb-true}
 use lib.ListN.{length}
 use lib.Dec.{leb, eqb}
 use Rattle.spans.specs.Span.{part}
@@ -18,7 +18,7 @@ use Rattle.frames.specs.declared.FrameRead.{FrameRead}
 use Rattle.frames.specs.declared.PageRead.{PageRead}
 use Rattle.frames.specs.declared.Body.{Body}
 use Rattle.frames.specs.declared.Opened.{Opened}
-use Rattle.frames.specs.Layout.{boxLen, baseLen, pageId, boxAt, baseFields, zerosOk, leafOk, indexOk, manyOk, historyOk, payloadOk, lengthsOk, baseOk, pageOf, pageAt, bodyOf, openOf, openAt, Inside, boxBase}
+use Rattle.frames.specs.Layout.{boxLen, baseLen, boxAt, baseFields, zerosOk, leafOk, indexOk, manyOk, historyOk, payloadOk, lengthsOk, baseOk, pageOf, pageAt, bodyOf, openOf, openAt, boxBase}
 use Rattle.frames.specs.Limits.{maxKey}
 use Rattle.frames.proofs.Frames.{and-l, and-r, open-inside}
 use Rattle.pages.specs.declared.BoundsRead.{BoundsRead}
@@ -31,11 +31,11 @@ use Rattle.build_sources.specs.Lists.{firstOf}
 use Rattle.build_sources.specs.Pages.{pageFirst}
 use Rattle.build_sources.specs.Source.{entries}
 use Rattle.build_image.specs.Prefix.{common}
+use Rattle.build_image.proofs.Prefix.{common-ground}
 use Rattle.build_bounds.specs.declared.Boundaries.{Boundaries}
 use Rattle.build_bounds.specs.Boundaries as boundaries-specs
-use Rattle.build_bounds.specs.Boundaries.{Within, boundaryBytes, boundaryOf as boundary-of}
+use Rattle.build_bounds.specs.Boundaries.{Within, boundaryBytes}
 use Rattle.build_table.specs.Index.{Held}
-use Rattle.base.proofs.Calls.{held}
 use Rattle.law_two_pages.proofs.On.{frontOf, first-is, bounds-are}
 use Rattle.merge.specs.declared.Gathered.{Gathered}
 use Rattle.merge.specs.Merge.{boundsIn, entriesFrom, merged, boundariesIn, gathered}
@@ -71,17 +71,11 @@ open-short s a b e = go (boxAt s a) e
     go (FrameRead.Frame h) q = by h (eqb (h .«box_kind») boxBase) (leb baseLen (h .«payload_size»)) (baseOk h (baseFields s (a .0 + boxLen))) refl q
     go FrameRead.Bad q = absurd (no q)
 
--- common bytes are bytes of lo
-front-ground : (lo hi : List ℕ) → length lo ≤ maxKey → length hi ≤ maxKey → common lo hi ≤ length lo
-front-ground lo hi h k =
-    held lo hi [] (boundary-of lo) (boundary-of hi) (common lo hi) (pageId 0) refl refl refl true (rw (le-leb (length lo) maxKey h, le-leb (length hi) maxKey k) refl) refl .shared
-
 -- ---- what is gathered
 
 -- what a merge hands to the builder
 pub record Ready (w : List ℕ) (left right : Addr) (c : Cursor) (e : Boundaries) : Type 0 where
-  pub held : Held [] w e
-  pub inside : boundaries-specs.BothWithin [] [] w e
+  pub held : Held [] [] w e
   pub bounds : boundaries-specs.boundsOf [] [] w e ≡ boundsIn w left right
   pub list : entries [] w c ≡ merged w left right
 
@@ -164,10 +158,7 @@ module _ (w : List ℕ) (left right : Addr) (p q : Page) (m : meaning w left ≡
 
   pub prefix-short : boundsIn w left right .prefix ≤ length (boundsIn w left right .lo)
   unfolding boundsIn
-  prefix-short = front-ground (loAt w left) (hiAt w right) lo-short hi-short
-
-  shares : common (partIn w (boundsOf b .lo)) (partIn w (boundsOf d .hi)) ≤ boundsOf b .lo .len
-  shares = omega (arith, front-ground (partIn w (boundsOf b .lo)) (partIn w (boundsOf d .hi)) (omega (arith, lo-long, lo-few)) (omega (arith, hi-long, hi-few)), lo-long)
+  prefix-short = common-ground (loAt w left) (hiAt w right)
 
   bounds-is : boundaries-specs.boundsOf [] [] w held-boundaries ≡ boundsIn w left right
   unfolding boundsIn boundaryBytes
@@ -178,11 +169,10 @@ module _ (w : List ℕ) (left right : Addr) (p q : Page) (m : meaning w left ≡
   merged-is = ap (entriesFrom w) begun
 
   ready : Ready w left right front held-boundaries
-  unfolding Within
+  unfolding Within boundaryBytes
   ready =
       record {
-        held = record { within = lo-in; shared = shares; ground = lo-few; high = hi-few };
-        inside = record { ground = lo-in; high = hi-in };
+        held = record { inside = record { ground = lo-in; high = hi-in }; front = ap₂ common lo-part hi-part; ground = lo-few; high = hi-few };
         bounds = bounds-is;
         list = sym merged-is;
       }

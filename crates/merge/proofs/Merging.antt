@@ -27,7 +27,7 @@ use Rattle.build_sources.specs.Source.{Entry, entries}
 use Rattle.build_image.specs.Prefix.{common}
 use Rattle.build_image.specs.Image.{Borders}
 use Rattle.build_bounds.specs.declared.Boundaries.{Boundaries}
-use Rattle.build_bounds.specs.Boundaries.{boundsOf, BothWithin}
+use Rattle.build_bounds.specs.Boundaries.{boundsOf}
 use Rattle.build_table.specs.Index.{Held}
 use Rattle.merge.specs.declared.Kind.{Kind}
 use Rattle.merge.specs.declared.Gathered.{Gathered}
@@ -99,11 +99,8 @@ module _ (w : List ℕ) (left right : Addr) (p : Sound w left) (q : Sound w righ
     ready : Ready w left right c e
     ready = gathered-ready w left right (p .0) (q .0) (p .1) (q .1) c e f
 
-    pub is-held : Held l w e
+    pub is-held : Held l l w e
     is-held = rw z (ready .held)
-
-    pub is-inside : BothWithin l l w e
-    is-inside = rw z (ready .inside)
 
     -- whatever the builder answers on the boundaries and the entries
     pub answered : {X : Type 0} (F : Borders → List Entry → X) (x : X) → x ≡ F (boundsOf l l w e) (entries l w c) → x ≡ F (boundsIn w left right) (merged w left right)

@@ -13,7 +13,7 @@ use Rattle.frames.specs.declared.Addr.{Addr}
 use Rattle.pages.specs.Meaning.{Rows, leaf, index, Page, Said, nothing, says}
 use Rattle.frames.specs.Limits.{maxEntries, maxSize}
 use Rattle.build_sources.specs.Source.{Entry}
-use Rattle.build_sources.specs.Judged.{rising, prefixed}
+use Rattle.build_sources.specs.Judged.{rising, prefixed, enclosed}
 use Rattle.build_image.specs.declared.Call.{Call}
 use Rattle.build_image.specs.Image.{Borders}
 use Rattle.build_image.specs.Call.{nextOk, builtNumber, limitsOk}
@@ -21,7 +21,7 @@ use Rattle.build_image.specs.Table.{Row}
 use Rattle.build_image.proofs.Tables.{All}
 use Rattle.build_image.proofs.Exactly.{Exactly, before, asks, once, call-exactly, call-accepted, call-stays}
 use Rattle.merge.specs.declared.Kinds.{Kinds}
-use Rattle.merge.specs.Merge.{kindBy, kindsBy, kindsOf, boundsIn, merged}
+use Rattle.merge.specs.Merge.{kindBy, kindsBy, kindsOf, boundsIn, meetIn, merged}
 use Rattle.merge.specs.Answer.{kindsIn, soundOk, kindsOk, payloadBy, endBy, placeBy, imageBy, mergeRows, mergeAnswer, mergeArena}
 use Rattle.merge.proofs.Answering.{bad-right}
 
@@ -98,6 +98,10 @@ module _ (a : List ℕ) (next : ℕ) (m : Call) (left right : Addr) where
 
   pub merge-7 : Exactly (builtNumber (mergeAnswer a next m left right) ≡ 7) (All (before 7 rows) × (prefixed prefix es ≡ false))
   merge-7 = is 7 refl
+
+  -- the left page has no hi, or the right one begins elsewhere, or new boundaries and keys are not as a build's
+  pub merge-10 : Exactly (builtNumber (mergeAnswer a next m left right) ≡ 10) (All (before 10 rows) × (meetIn (take next a) left right && enclosed (b .lo) (b .hi) es ≡ false))
+  merge-10 = is 10 refl
 
   pub merge-8 : Exactly (builtNumber (mergeAnswer a next m left right) ≡ 8) (All (before 8 rows) × (fits ≡ false))
   merge-8 = is 8 refl

@@ -6,6 +6,7 @@ use mathlib.Core.Bool.{Bool, true, false, cond}
 use lib.ListN.{length, take}
 use Rattle.spans.specs.Span.{put}
 use Rattle.frames.specs.declared.Addr.{Addr}
+use Rattle.frames.specs.declared.Refusal.{Refusal}
 use Rattle.frames.specs.declared.Refusal.the-variants.{BadLimit, BadArena, BadFrame, MixedKinds}
 use Rattle.frames.specs.Layout.{addr}
 use Rattle.pages.specs.Meaning.{meaning}
@@ -16,11 +17,11 @@ use Rattle.build_totals.specs.Totals.{leafAt}
 use Rattle.build_image.specs.declared.Built.{Built}
 use Rattle.build_image.specs.Call.{nextOk, limitsOk}
 use Rattle.build_image.specs.Table.{Row, row, judged}
-use Rattle.build_table.specs.Table.{entryRows}
+use Rattle.build_table.specs.Table.{entryRows, apartOf}
 use Rattle.build_table.specs.Index.{indexEnd}
 use Rattle.build_table.specs.Leaf.{leafEnd}
 use Rattle.merge.specs.declared.Kinds.{Kinds}
-use Rattle.merge.specs.Merge.{kindsOf, boundsIn, merged}
+use Rattle.merge.specs.Merge.{kindsOf, boundsIn, meetIn, merged}
 
 -- the kinds of the two pages below the next free address
 abbrev pub kindsIn : List ℕ → Addr → Addr → Kinds
@@ -60,12 +61,16 @@ placeBy next m es k = cond (areIndexes k) next (leafAt m next es)
 abbrev pub imageBy : ℕ → Call → Borders → List Entry → Kinds → List ℕ
 imageBy next m b es k = cond (areIndexes k) (indexImage m b es) (leafImage m b next es)
 
--- 4, 5, then a build's numbers: "in a merge, records of both"
-abbrev pub kindRows : ℕ → ℕ → Call → Borders → List Entry → Kinds → List Row
-kindRows len next m b es k =
+-- 4, 5, then a build's numbers: "in a merge, records of both"; meets is 10's own question to a merge
+abbrev pub kindRows : ℕ → ℕ → Call → Bool → Borders → List Entry → Kinds → List Row
+kindRows len next m meets b es k =
     row (soundOk k) BadFrame
     ∷ row (kindsOk k) MixedKinds
-    ∷ entryRows (take (b .prefix) (b .lo)) es (payloadBy m b es k) (endBy next m b es k) len
+    ∷ entryRows meets b es (payloadBy m b es k) (endBy next m b es k) len
+
+-- what refuses pages that do not meet
+abbrev pub apartIn : Borders → List Entry → Refusal
+apartIn b es = apartOf (take (b .prefix) (b .lo)) es
 
 -- a call whose rows are these: the page's address and the new next free address; the arena afterwards, one store of one image
 abbrev pub answerBy : List Row → ℕ → Call → Borders → List Entry → Kinds → Built
@@ -77,7 +82,7 @@ arenaBy rows a next m b es k = judged rows (λ r. a) (put a next (imageBy next m
 -- the pages' part of the table
 abbrev pub kindsRows : List ℕ → ℕ → Call → Addr → Addr → List Row
 kindsRows a next m left right =
-    kindRows (length a) next m (boundsIn (take next a) left right) (merged (take next a) left right) (kindsIn (take next a) left right)
+    kindRows (length a) next m (meetIn (take next a) left right) (boundsIn (take next a) left right) (merged (take next a) left right) (kindsIn (take next a) left right)
 
 unfoldable pub kindsAnswer : List ℕ → ℕ → Call → Addr → Addr → Built
 kindsAnswer a next m left right =
@@ -87,7 +92,7 @@ unfoldable pub kindsArena : List ℕ → ℕ → Call → Addr → Addr → List
 kindsArena a next m left right =
     arenaBy (kindsRows a next m left right) a next m (boundsIn (take next a) left right) (merged (take next a) left right) (kindsIn (take next a) left right)
 
--- the whole table: 1 (of index pages too), 2, 4, 5, 6, 7, 8, 9
+-- the whole table: 1 (of index pages too), 2, 4, 5, 6, 7, 10, 8, 9
 abbrev pub mergeRows : List ℕ → ℕ → Call → Addr → Addr → List Row
 mergeRows a next m left right =
     row (limitsOk (m .limit) (m .budget)) BadLimit ∷ row (nextOk (length a) next) BadArena ∷ kindsRows a next m left right

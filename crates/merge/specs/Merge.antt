@@ -4,7 +4,8 @@
 use Prim.Native.Nat.{ℕ}
 use mathlib.Core.Path.{_≡_}
 use mathlib.Core.List.{List, [], map}
-use mathlib.Core.Bool.{true}
+use mathlib.Core.Bool.{Bool, true}
+use Rattle.order.specs.Bounds.{meet}
 use Rattle.frames.specs.declared.Addr.{Addr}
 use Rattle.pages.specs.declared.Place.{Place}
 use Rattle.pages.specs.declared.BoundsRead.{BoundsRead}
@@ -76,6 +77,10 @@ boundsIn w left right =
 -- the same in the words of what the pages say
 unfoldable pub boundsBetween : Page → Page → Borders
 boundsBetween p q = record { lo = p .lo; hi = q .hi; prefix = common (p .lo) (q .hi); sibling = q .sibling .0 }
+
+-- "a merge needs the left hi to equal the right lo, with a left page without hi refused" (order 4)
+abbrev pub meetIn : List ℕ → Addr → Addr → Bool
+meetIn w left right = meet (hiAt w left) (loAt w right)
 
 -- what is merged says exactly these, in order, each of its kind (P); what is known of it before anything is judged
 pub record Merged {A : Type 0} (tell : Entry → A) (P : Entry → Type 0) (w : List ℕ) (es : List Entry) (xs : List A) : Type 0 where

@@ -20,8 +20,8 @@ ghost use Rattle.build_history.specs.Runs.{Sane};
 ghost use Rattle.build_table.specs.Index.{indexAnswer, indexArena};
 ghost use Rattle.build_table.specs.Leaf.{leafAnswer, leafArena};
 ghost use Rattle.build_image.specs.Call.{callOf};
-ghost use Rattle.merge.specs.Merge.{saidKind, kindsBy, kindsOf, gathered, Sound, boundsIn, merged};
-ghost use Rattle.merge.specs.Answer.{kindsAnswer, kindsArena, mergeAnswer, mergeArena};
+ghost use Rattle.merge.specs.Merge.{saidKind, kindsBy, kindsOf, gathered, Sound, boundsIn, meetIn, merged};
+ghost use Rattle.merge.specs.Answer.{apartIn, kindsAnswer, kindsArena, mergeAnswer, mergeArena};
 
 // The kind of a sound page.
 pub enum Kind {
@@ -130,7 +130,27 @@ fn gather(ground: &[u8], left: Addr, right: Addr) -> Gathered
     )
 }
 
-// Two index pages that were judged. A merge is lent no slice: `none` is empty.
+// Whether the left page ends where the right one begins; a left page without hi ends nowhere.
+fn meets(ground: &[u8], left: Addr, right: Addr) -> bool
+    ensures { λ r. ⌜ r ≡ meetIn (now (ground .entry)) left right ⌝ }
+{
+    order::meets(pages::hi(ground, left), pages::lo(ground, right))
+}
+
+// Why two pages of one kind that do not meet are not merged. A merge is lent no slice: `none` is empty.
+fn apart(ground: &[u8], left: Addr, right: Addr, none: &[u8]) -> Refusal
+    requires { ⌜ now none ≡ [] ⌝ }
+    requires { ⌜ Sound (now ground) left ⌝ }
+    requires { ⌜ Sound (now ground) right ⌝ }
+    ensures { λ r. ⌜ r ≡ apartIn (boundsIn (now (ground .entry)) left right) (merged (now (ground .entry)) left right) ⌝ }
+{
+    let Gathered::Is(c, e) = gather(ground, left, right) else {
+        return Refusal::BadFrame;
+    };
+    build_table::apart(none, ground, c, none, none, e)
+}
+
+// Two index pages that were judged and meet.
 fn merge_indexes(a: &mut [u8], next: usize, left: Addr, right: Addr, m: Call, none: &[u8]) -> Built
     requires { ⌜ next ≤ length (now a) ⌝ }
     requires { ⌜ now none ≡ [] ⌝ }
@@ -145,7 +165,7 @@ fn merge_indexes(a: &mut [u8], next: usize, left: Addr, right: Addr, m: Call, no
     build_table::build_index(a, next, none, c, m, none, none, e)
 }
 
-// Two leaves that were judged.
+// Two leaves that were judged and meet.
 fn merge_leaves(a: &mut [u8], next: usize, left: Addr, right: Addr, m: Call, none: &[u8]) -> Built
     requires { ⌜ next ≤ length (now a) ⌝ }
     requires { ⌜ now none ≡ [] ⌝ }
@@ -170,9 +190,20 @@ fn merge_kinds(a: &mut [u8], next: usize, left: Addr, right: Addr, m: Call, none
     ensures { λ _. ⌜ now (a .exit) ≡ kindsArena (now (a .entry)) next m left right ⌝ }
 {
     let k = kinds_of(&a[..next], left, right);
+    let met = meets(&a[..next], left, right);
     match k {
-        Kinds::Leaves => merge_leaves(a, next, left, right, m, none),
-        Kinds::Indexes => merge_indexes(a, next, left, right, m, none),
+        Kinds::Leaves => {
+            if met {
+                return merge_leaves(a, next, left, right, m, none);
+            }
+            Built::Refused(apart(&a[..next], left, right, none))
+        }
+        Kinds::Indexes => {
+            if met {
+                return merge_indexes(a, next, left, right, m, none);
+            }
+            Built::Refused(apart(&a[..next], left, right, none))
+        }
         Kinds::Mixed => Built::Refused(Refusal::MixedKinds),
         Kinds::Bad => Built::Refused(Refusal::BadFrame),
     }

@@ -1,2 +1,3 @@
 pub mod Order
+pub mod Bounds
 pub mod Version

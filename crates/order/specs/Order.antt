@@ -23,6 +23,11 @@ isEqual Less = false
 isEqual Equal = true
 isEqual Greater = false
 
+abbrev pub isLess : Order → Bool
+isLess Less = true
+isLess Equal = false
+isLess Greater = false
+
 -- seen from the other side
 abbrev pub flip : Order → Order
 flip Less = Greater

@@ -1,8 +1,10 @@
 // The order of byte strings, compared eight bytes at a time, and the order of versions.
 ghost use mathlib.Core.Path.{_≡_};
+ghost use mathlib.Core.List.{_++_};
 ghost use Prim.Native.Nat.{_≤_};
 ghost use lib.ListN.{length, drop};
-ghost use Rattle.order.specs.Order.{byNumber, cmpBytes, isEqual, startsWith, Lesser};
+ghost use Rattle.order.specs.Order.{byNumber, cmpBytes, isEqual, isLess, startsWith, Lesser};
+ghost use Rattle.order.specs.Bounds.{belowBy, meet};
 ghost use Rattle.order.specs.Version.{verOf, newerThan};
 
 pub enum Order {
@@ -115,6 +117,16 @@ pub fn is_equal(c: Order) -> bool
     }
 }
 
+pub fn is_less(c: Order) -> bool
+    ensures { λ r. ⌜ r ≡ isLess c ⌝ }
+{
+    match c {
+        Order::Less => true,
+        Order::Equal => false,
+        Order::Greater => false,
+    }
+}
+
 // Whether the bytes p begin s.
 pub fn starts_with(p: &[u8], s: &[u8]) -> bool
     ensures { λ r. ⌜ r ≡ startsWith (now (p .entry)) (now (s .entry)) ⌝ }
@@ -124,6 +136,39 @@ pub fn starts_with(p: &[u8], s: &[u8]) -> bool
         return false;
     }
     is_equal(compare(p, &s[..n]))
+}
+
+// A string in two parts, p and r behind it, against x: x's first bytes against p, and r where they are p.
+pub fn compare_joined(p: &[u8], r: &[u8], x: &[u8]) -> Order
+    ensures { λ o. ⌜ o ≡ cmpBytes (now (p .entry) ++ now (r .entry)) (now (x .entry)) ⌝ }
+{
+    let n = p.len();
+    if starts_with(p, x) {
+        return compare(r, &x[n..]);
+    }
+    compare(p, x)
+}
+
+// ---- boundaries
+
+// Whether what compares so with hi is below it; an empty hi is none.
+pub fn below_by(c: Order, hi: &[u8]) -> bool
+    ensures { λ r. ⌜ r ≡ belowBy c (now (hi .entry)) ⌝ }
+{
+    if hi.len() == 0 {
+        return true;
+    }
+    is_less(c)
+}
+
+// Whether a page that ends at hi meets one that begins at lo.
+pub fn meets(hi: &[u8], lo: &[u8]) -> bool
+    ensures { λ r. ⌜ r ≡ meet (now (hi .entry)) (now (lo .entry)) ⌝ }
+{
+    if hi.len() == 0 {
+        return false;
+    }
+    is_equal(compare(hi, lo))
 }
 
 // A version: the writing transaction and the number of the command in it.

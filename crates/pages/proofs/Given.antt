@@ -1,7 +1,7 @@
 -- What a sound page gives, slot by slot: each record can be read, each key is above the one before, each head's history resolves.
 -- Assumes nothing.
 use Prim.Native.Nat.{ℕ, zero, suc, _+_, _*_, _≤_, _<_}
-use mathlib.Core.Path.{_≡_, refl, sym, ap, _∙_}
+use mathlib.Core.Path.{_≡_, refl, sym, ap, _∙_, subst}
 use mathlib.Core.Bool.{Bool, true, false, cond, _||_}
 use mathlib.Core.List.{List, _++_}
 use native.Mathlib.Omega.{arith}
@@ -11,7 +11,7 @@ use Rattle.spans.specs.Span.{part}
 use Rattle.numbers.specs.Number.{leAt}
 use Rattle.order.specs.declared.Order.{Order}
 use Rattle.order.specs.declared.Ver.{Ver}
-use Rattle.order.specs.Order.{cmpBytes}
+use Rattle.order.specs.Order.{cmpBytes, isLess}
 use Rattle.order.specs.Version.{newerThan}
 use Rattle.order.proofs.Laws.{cmp-front}
 use Rattle.frames.specs.declared.Addr.{Addr}
@@ -23,8 +23,8 @@ use Rattle.records.specs.declared.RecRead.{RecRead}
 use Rattle.values.specs.Keys.{verIn}
 use Rattle.records.specs.Records.{recAt}
 use Rattle.pages.specs.declared.OldRead.{OldRead}
-use Rattle.pages.specs.Sound.{isLess, inOrder, slotsOf, slotsFrom, slotsOk, histOk, oldAt, chainOf, chainFrom, entered, headOk, multiOf, chainsOf, chainsFrom, chainsOk, remotesAt, hintsOk, soundBody}
-use Rattle.pages.specs.Meaning.{Page, Said, nothing, says, prefixOf, keyOf, pageSays, meaningOf, meaning}
+use Rattle.pages.specs.Sound.{inOrder, slotsOf, slotsFrom, slotsOk, histOk, oldAt, chainOf, chainFrom, entered, headOk, multiOf, chainsOf, chainsFrom, chainsOk, remotesAt, hintsOk}
+use Rattle.pages.specs.Meaning.{Page, Said, nothing, says, prefixOf, keyOf, pageSays, meaningOf, meaning, pageBounded, soundBody}
 
 no : {A : Type 0} → false ≡ true → A
 no e = absurd (let z : _≡_ {A = ℕ} 0 1 = cc in omega arith)
@@ -36,7 +36,7 @@ yes false u e = no e
 
 -- ---- the page
 
--- a page that says something was opened, is no history page, and is sound in its three parts
+-- a page that says something was opened, is no history page, and is sound in its four parts
 pub record Sound (s : List ℕ) (a : Addr) (p : Page) : Type 0 where
   pub body : Body
   pub opened : openAt s a ≡ Opened.Is body
@@ -45,17 +45,27 @@ pub record Sound (s : List ℕ) (a : Addr) (p : Page) : Type 0 where
   pub slots : slotsOk s body ≡ true
   pub chains : chainsOk s body ≡ true
   pub hints : hintsOk s body ≡ true
+  pub bounded : pageBounded p ≡ true
 
-body-given : (s : List ℕ) (b : Body) → soundBody s b ≡ true → (b .kind ≡ 2 → ⊥) × (slotsOk s b ≡ true) × (chainsOk s b ≡ true) × (hintsOk s b ≡ true)
+-- a body that is sound
+record Whole (s : List ℕ) (b : Body) : Type 0 where
+  kind : b .kind ≡ 2 → ⊥
+  slots : slotsOk s b ≡ true
+  chains : chainsOk s b ≡ true
+  hints : hintsOk s b ≡ true
+  bounds : pageBounded (pageSays s b) ≡ true
+
+body-given : (s : List ℕ) (b : Body) → soundBody s b ≡ true → Whole s b
 unfolding soundBody
 body-given s b e = go (eqb (b .kind) 2) refl e
   where
-    go : (t : Bool) → eqb (b .kind) 2 ≡ t → cond t false (cond (slotsOk s b) (cond (chainsOk s b) (hintsOk s b) false) false) ≡ true → (b .kind ≡ 2 → ⊥) × (slotsOk s b ≡ true) × (chainsOk s b ≡ true) × (hintsOk s b ≡ true)
+    go : (t : Bool) → eqb (b .kind) 2 ≡ t → cond t false (cond (slotsOk s b) (cond (chainsOk s b) (cond (hintsOk s b) (pageBounded (pageSays s b)) false) false) false) ≡ true → Whole s b
     go true q e′ = no e′
     go false q e′ =
         let a1 = yes (slotsOk s b) _ e′ in
         let a2 = yes (chainsOk s b) _ (a1 .1) in
-        (eqb-false (b .kind) 2 q, a1 .0, a2 .0, a2 .1)
+        let a3 = yes (hintsOk s b) _ (a2 .1) in
+        record { kind = eqb-false (b .kind) 2 q; slots = a1 .0; chains = a2 .0; hints = a3 .0; bounds = a3 .1 }
 
 pub sound-given : (s : List ℕ) (a : Addr) (p : Page) → meaning s a ≡ says p → Sound s a p
 unfolding meaning
@@ -68,7 +78,7 @@ sound-given s a p e = go (openAt s a) refl e
     by b o true q e′ =
         let g = body-given s b q in
         let x : pageSays s b ≡ p = cc in
-        record { body = b; opened = o; said = x; kind = g .0; slots = g .1; chains = g .2; hints = g .3 }
+        record { body = b; opened = o; said = x; kind = g .kind; slots = g .slots; chains = g .chains; hints = g .hints; bounded = subst (λ (q : Page). pageBounded q ≡ true) x (g .bounds) }
     by b o false q e′ = absurd (bad e′)
 
     go : (o : Opened) → openAt s a ≡ o → meaningOf s o ≡ says p → Sound s a p

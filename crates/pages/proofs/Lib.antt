@@ -3,6 +3,7 @@ pub mod Turns
 pub mod Olds
 pub mod Given
 pub mod Rows
+pub mod Ends
 pub mod Says
 pub mod Decided
 pub mod Numbers

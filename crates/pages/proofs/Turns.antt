@@ -21,8 +21,8 @@ use Rattle.values.specs.Keys.{verIn}
 use Rattle.records.specs.Records.{recAt}
 use Rattle.pages.specs.declared.Checked.{Checked}
 use Rattle.pages.specs.declared.OldRead.{OldRead}
-use Rattle.pages.specs.Sound.{inOrder, slotsFrom, slotsOk, soundBody, histOk, oldAt, chainFrom, headOk, multiOf, chainsFrom, chainsOk, remotesAt, hintsOk, entered}
-use Rattle.pages.specs.Meaning.{meaning, checkOf}
+use Rattle.pages.specs.Sound.{inOrder, slotsFrom, slotsOk, histOk, oldAt, chainFrom, headOk, multiOf, chainsFrom, chainsOk, remotesAt, hintsOk, entered}
+use Rattle.pages.specs.Meaning.{pageSays, pageBounded, soundBody, meaning, checkOf}
 
 -- a turn spends one of what is left
 pub spend : (n i : ℕ) → i < n → n - i ≡ suc (n - (i + 1))
@@ -155,6 +155,10 @@ module _ (s : List ℕ) (b : Body) where
     unfolding soundBody
     body-chains e f = rw (ne-eqb _ _ k, e, f)
 
-    pub body-hints : (t : Bool) → slotsOk s b ≡ true → chainsOk s b ≡ true → hintsOk s b ≡ t → soundBody s b ≡ t
+    pub body-hints : slotsOk s b ≡ true → chainsOk s b ≡ true → hintsOk s b ≡ false → soundBody s b ≡ false
     unfolding soundBody
-    body-hints t e f g = rw (ne-eqb _ _ k, e, f, g)
+    body-hints e f g = rw (ne-eqb _ _ k, e, f, g)
+
+    pub body-bounds : (t : Bool) → slotsOk s b ≡ true → chainsOk s b ≡ true → hintsOk s b ≡ true → pageBounded (pageSays s b) ≡ t → soundBody s b ≡ t
+    unfolding soundBody
+    body-bounds t e f g h = rw (ne-eqb _ _ k, e, f, g) h

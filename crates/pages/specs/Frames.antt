@@ -17,7 +17,8 @@ use Rattle.values.specs.Keys.{keyAt}
 use Rattle.values.specs.Vals.{valAt}
 use Rattle.records.specs.declared.ValRead.{ValRead}
 use Rattle.records.specs.Records.{valOf}
-use Rattle.pages.specs.Sound.{slotsOk, soundBody}
+use Rattle.pages.specs.Sound.{slotsOk}
+use Rattle.pages.specs.Meaning.{soundBody}
 
 -- a leaf or index page; a history page, all its slots
 abbrev pub pageOk : List ℕ → Opened → Bool

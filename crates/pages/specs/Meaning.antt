@@ -1,12 +1,13 @@
 -- What a page says: its boundaries, prefix and sibling and its records in order, or nothing where it is not sound.
 -- Assumes nothing.
 use Prim.Native.Nat.{ℕ, zero, suc, _+_, _*_}
-use mathlib.Core.List.{List, [], _∷_, _++_}
-use mathlib.Core.Bool.{cond}
+use mathlib.Core.List.{List, [], _∷_, _++_, map}
+use mathlib.Core.Bool.{Bool, false, cond}
 use lib.Dec.{eqb}
 use Rattle.spans.specs.Span.{part}
 use Rattle.numbers.specs.Number.{leAt}
 use Rattle.order.specs.declared.Ver.{Ver}
+use Rattle.order.specs.Bounds.{bounded}
 use Rattle.frames.specs.declared.Addr.{Addr}
 use Rattle.frames.specs.declared.PageId.{PageId}
 use Rattle.frames.specs.declared.Body.{Body}
@@ -19,7 +20,7 @@ use Rattle.values.specs.Keys.{verIn}
 use Rattle.records.specs.Records.{recAt}
 use Rattle.pages.specs.declared.OldRead.{OldRead}
 use Rattle.pages.specs.declared.Checked.{Checked}
-use Rattle.pages.specs.Sound.{oldAt, soundBody}
+use Rattle.pages.specs.Sound.{slotsOk, oldAt, chainsOk, hintsOk}
 
 -- an older version and its value
 pub record Older : Type 0 where
@@ -107,6 +108,21 @@ pageSays s b =
       sibling = b .sibling;
       rows = cond (eqb (b .kind) 1) (index (childrenFrom s b (b .elems) 0)) (leaf (headsFrom s b (b .elems) 0));
     }
+
+-- ---- sound
+
+abbrev pub keysOf : Rows → List (List ℕ)
+keysOf (leaf hs) = map (λ h. h .key) hs
+keysOf (index cs) = map (λ c. c .key) cs
+
+-- order 4, "Sound frames keep the same rule": lo below hi, each key between them
+abbrev pub pageBounded : Page → Bool
+pageBounded p = bounded (p .lo) (p .hi) (keysOf (p .rows))
+
+-- a leaf or index page is sound; "a history page .. where a page is wanted" is not
+unfoldable pub soundBody : List ℕ → Body → Bool
+soundBody s b =
+    cond (eqb (b .kind) 2) false (cond (slotsOk s b) (cond (chainsOk s b) (cond (hintsOk s b) (pageBounded (pageSays s b)) false) false) false)
 
 abbrev pub meaningOf : List ℕ → Opened → Said
 meaningOf s (Opened.Is b) = cond (soundBody s b) (says (pageSays s b)) nothing

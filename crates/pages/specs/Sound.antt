@@ -1,4 +1,4 @@
--- When a page is sound: document 01's sentence, one boolean function to each loop of the check.
+-- When a page is sound: document 01's sentence, one boolean function to each loop of the check. The whole of it, with the boundaries, stands in Meaning.
 -- Assumes nothing.
 use Prim.Native.Nat.{ℕ, zero, suc, _+_, _*_}
 use mathlib.Core.Path.{_≡_}
@@ -7,9 +7,8 @@ use mathlib.Core.Bool.{Bool, true, false, _||_, cond}
 use lib.Dec.{ltb, leb, eqb}
 use Rattle.spans.specs.Span.{part}
 use Rattle.numbers.specs.Number.{leAt}
-use Rattle.order.specs.declared.Order.{Order}
 use Rattle.order.specs.declared.Ver.{Ver}
-use Rattle.order.specs.Order.{cmpBytes}
+use Rattle.order.specs.Order.{cmpBytes, isLess}
 use Rattle.order.specs.Version.{newerThan}
 use Rattle.frames.specs.declared.Addr.{Addr}
 use Rattle.frames.specs.declared.Body.{Body}
@@ -22,11 +21,6 @@ use Rattle.records.specs.Records.{recAt}
 use Rattle.pages.specs.declared.OldRead.{OldRead}
 
 -- ---- "records stand gapless in slot order, keys rise strictly (history pages excepted)"
-
-abbrev pub isLess : Order → Bool
-isLess Order.Less = true
-isLess Order.Equal = false
-isLess Order.Greater = false
 
 -- the key rest at ra against the one before it, at la; the prefix in front is common to both
 unfoldable pub inOrder : List ℕ → ℕ → ℕ → ℕ → ℕ → ℕ → ℕ → Bool
@@ -141,7 +135,3 @@ hintsOk s b =
     (cond (leb (b .end + 4) (b .tail))
     (cond (leb (remotesAt s b + 4) (b .tail)) (leb (remotesAt s b + 4 + 8 * leAt 4 s (remotesAt s b)) (b .tail)) false)
     false)
-
--- a leaf or index page is sound; "a history page .. where a page is wanted" is not
-unfoldable pub soundBody : List ℕ → Body → Bool
-soundBody s b = cond (eqb (b .kind) 2) false (cond (slotsOk s b) (cond (chainsOk s b) (hintsOk s b) false) false)

@@ -1,11 +1,12 @@
 // Pages: what a page says, the check that decides whether it says anything, its boundaries, its old versions and its hints.
 ghost use mathlib.Core.Path.{_≡_};
+ghost use mathlib.Core.Bool.{true};
 ghost use Prim.Native.Nat.{_+_, _≤_};
 ghost use lib.ListN.{length};
 ghost use Rattle.frames.specs.Layout.{Inside};
 ghost use Rattle.pages.specs.Boundaries.{boundsAt, partIn, loAt, hiAt, prefixAt};
-ghost use Rattle.pages.specs.Sound.{isLess, inOrder, slotsOk, historyAt, histOk, oldIn, oldAt, chainFrom, entered, headOk, multiOf, chainsOk, hintsOk, Known};
-ghost use Rattle.pages.specs.Meaning.{meaning, checkOf};
+ghost use Rattle.pages.specs.Sound.{inOrder, slotsOk, historyAt, histOk, oldIn, oldAt, chainFrom, entered, headOk, multiOf, chainsOk, hintsOk, Known};
+ghost use Rattle.pages.specs.Meaning.{pageSays, pageBounded, meaning, checkOf};
 ghost use Rattle.pages.specs.HintsAt.{hintsOf, historyHintsAt, remoteHintsAt, hintIn};
 use frames::Addr;
 use frames::BaseHeader;
@@ -14,22 +15,11 @@ use frames::NULL_ADDR;
 use frames::Opened;
 use frames::PageId;
 use frames::Refusal;
-use order::Order;
 use order::Ver;
 use records::Rec;
 use records::RecRead;
 
 // ---- the check
-
-fn is_less(c: Order) -> bool
-    ensures { λ r. ⌜ r ≡ isLess c ⌝ }
-{
-    match c {
-        Order::Less => true,
-        Order::Equal => false,
-        Order::Greater => false,
-    }
-}
 
 // Whether the key rest at ra rises over the one before it, at la; in a history page and at the first slot any does.
 fn in_order(s: &[u8], kind: u8, i: usize, la: usize, ln: usize, ra: usize, rn: usize) -> bool
@@ -39,7 +29,7 @@ fn in_order(s: &[u8], kind: u8, i: usize, la: usize, ln: usize, ra: usize, rn: u
     if (kind == Body::HISTORY) | (i == 0) {
         return true;
     }
-    is_less(order::compare(spans::part_of(s, la, ln), spans::part_of(s, ra, rn)))
+    order::is_less(order::compare(spans::part_of(s, la, ln), spans::part_of(s, ra, rn)))
 }
 
 // Whether every slot's record can be read, gapless and in order.
@@ -291,6 +281,31 @@ fn hints_ok(s: &[u8], b: Body) -> bool
     p + 4 + 8 * (numbers::read_u32(s, p) as usize) <= b.tail
 }
 
+// Whether lo is below hi and each key between them: of keys that rise the first and the last decide.
+fn bounded(s: &[u8], b: Body) -> bool
+    requires { ⌜ Inside (now s) b ⌝ }
+    requires { ⌜ (b .kind ≡ 2 → ⊥) ⌝ }
+    requires { ⌜ slotsOk (now s) b ≡ true ⌝ }
+    ensures { λ r. ⌜ r ≡ pageBounded (pageSays (now (s .entry)) b) ⌝ }
+{
+    let lo_at = b.at + BaseHeader::HDR_LEN + 4 * b.elems;
+    let lo = spans::part_of(s, lo_at, b.lo_len);
+    let hi = spans::part_of(s, lo_at + b.lo_len, b.hi_len);
+    if b.elems == 0 {
+        return order::below_by(order::compare(lo, hi), hi);
+    }
+    let RecRead::Is(x) = records::rec_at(s, b, 0) else {
+        return false;
+    };
+    let RecRead::Is(y) = records::rec_at(s, b, b.elems - 1) else {
+        return false;
+    };
+    let p = spans::part_of(s, lo_at, b.prefix_len);
+    let low = order::compare_joined(p, spans::part_of(s, x.rest_at, x.rest_len), lo);
+    let high = order::compare_joined(p, spans::part_of(s, y.rest_at, y.rest_len), hi);
+    !order::is_less(low) & order::below_by(high, hi)
+}
+
 pub enum Checked {
     Sound,
     Refused(Refusal),
@@ -309,7 +324,9 @@ pub fn check(s: &[u8], a: Addr) -> Checked
     if slots_ok(s, b) {
         if chains_ok(s, b) {
             if hints_ok(s, b) {
-                return Checked::Sound;
+                if bounded(s, b) {
+                    return Checked::Sound;
+                }
             }
         }
     }

@@ -9,7 +9,7 @@ use native.Mathlib.Omega.{arith}
 use native.Mathlib.Decide.{decLe}
 use native.Mathlib.Nat.{lt-of-not-le}
 use lib.ListN.{length, take, drop, getD, length-take, length-drop, List·getD-eq-default}
-use lib.Seq.{take-take, drop-drop, getD-take, getD-drop, take-add, drop-cons, take-append-seam, drop-append-seam, take-length, drop-append-le, take-append-le}
+use lib.Seq.{take-take, drop-drop, getD-take, getD-drop, take-add, drop-cons, take-append-seam, drop-append-seam, take-length, drop-append-le, take-append-le, take-all}
 use borrow.Author.Tests.{le-leb, lt-leb}
 use Rattle.spans.specs.Span.{part, partOr}
 
@@ -87,3 +87,7 @@ partOr-out s i n h =
 -- a byte before the end of what two lists share
 pub getD-agree : (a b : List ℕ) (k m d : ℕ) → k < m → take m a ≡ take m b → getD a k d ≡ getD b k d
 getD-agree a b k m d h e = sym (getD-take m a k d h) ∙ ap (λ (l : List ℕ). getD l k d) e ∙ getD-take m b k d h
+
+-- the part of a slice from k to its end
+pub tail-part : (s : List ℕ) (k : ℕ) → take (length s - k) (drop k s) ≡ drop k s
+tail-part s k = take-all (length s - k) (drop k s) (omega (arith, length-drop k s))

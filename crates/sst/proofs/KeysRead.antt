@@ -9,7 +9,7 @@ use borrow.Author.Tests.{lt-ltb, le-ltb, ltb-true, ltb-false}
 use lib.ListN.{length}
 use lib.Dec.{ltb}
 use Rattle.order.specs.declared.Ver.{Ver}
-use Rattle.order.specs.Order.{cmpBytes}
+use Rattle.order.specs.Order.{cmpBytes, isLess}
 use Rattle.frames.specs.declared.Addr.{Addr}
 use Rattle.frames.specs.declared.Body.{Body}
 use Rattle.frames.specs.declared.Opened.{Opened}
@@ -17,7 +17,6 @@ use Rattle.frames.specs.Layout.{openAt}
 use Rattle.records.specs.declared.RecRead.{RecRead}
 use Rattle.records.specs.Records.{recAt}
 use Rattle.records.specs.Parts.{prefixIn}
-use Rattle.pages.specs.Sound.{isLess}
 use Rattle.sst.specs.declared.Cmp.{Cmp}
 use Rattle.sst.specs.declared.Cmp.the-variants.{Less, Equal, Greater, Refuse}
 use Rattle.sst.specs.declared.Halved.{Halved}

@@ -8,6 +8,7 @@ pub mod Rising
 pub mod KeysRead
 pub mod PageKeys
 pub mod Answers
+pub mod Neighbours
 pub mod Only
 pub mod Places
 pub mod Decided

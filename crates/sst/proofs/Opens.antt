@@ -1,13 +1,12 @@
 -- What a page that is ready for a search tells.
 -- Assumes nothing.
-use Prim.Native.Nat.{ℕ, _+_, _*_, _-_, _≤_}
+use Prim.Native.Nat.{ℕ, _+_, _*_, _≤_}
 use mathlib.Core.Path.{_≡_, refl, sym, ap, _∙_}
 use mathlib.Core.Bool.{Bool, true, false, cond, _||_}
 use mathlib.Core.List.{List}
 use native.Mathlib.Omega.{arith}
 use borrow.Author.Tests.{eq-eqb, ne-eqb, eqb-true, eqb-false}
-use lib.ListN.{length, take, drop, length-drop}
-use lib.Seq.{take-all}
+use lib.ListN.{length}
 use lib.Dec.{eqb}
 use Rattle.spans.proofs.Part.{length-part}
 use Rattle.spans.proofs.Tests.{ask, dont}
@@ -45,10 +44,6 @@ pub prefix-length : (s : List ℕ) (b : Body) → Inside s b → length (prefixI
 prefix-length s b i =
     ap length (prefix-part s b i)
     ∙ length-part s (b .at + baseLen + 4 * b .elems) (b .«prefix_len») (omega (arith, i .slots, i .records, i .payload, i .arena, i .prefix))
-
--- the part of a slice from k to its end (`spans`)
-pub tail-part : (s : List ℕ) (k : ℕ) → take (length s - k) (drop k s) ≡ drop k s
-tail-part s k = take-all (length s - k) (drop k s) (omega (arith, length-drop k s))
 
 -- ---- a page that is ready
 

@@ -10,7 +10,7 @@ use lib.Dec.{eqb}
 use Rattle.spans.specs.Span.{part}
 use Rattle.order.specs.declared.Order.{Order}
 use Rattle.order.specs.declared.Ver.{Ver}
-use Rattle.order.specs.Order.{cmpBytes, flip, startsWith}
+use Rattle.order.specs.Order.{cmpBytes, flip, startsWith, isLess}
 use Rattle.order.specs.Version.{newerThan}
 use Rattle.order.proofs.Laws.{cmp-flip, cmp-less, cmp-greater, cmp-trans, cmp-front, cmp-beside, cmp-apart, starts-split}
 use Rattle.frames.specs.declared.Addr.{Addr}
@@ -22,7 +22,7 @@ use Rattle.records.specs.declared.Rec.{Rec}
 use Rattle.records.specs.declared.RecRead.{RecRead}
 use Rattle.records.specs.Records.{recAt}
 use Rattle.records.proofs.Inside.{at-inside, prefix-part}
-use Rattle.pages.specs.Sound.{isLess, slotsOk}
+use Rattle.pages.specs.Sound.{slotsOk}
 use Rattle.pages.specs.Meaning.{Head, Child, Rows, leaf, index, Page, prefixOf, keyOf, headOf, childOf, rowsFrom, headsFrom, childrenFrom, pageSays}
 use Rattle.pages.proofs.Given.{every-slot, keys-rise}
 use Rattle.pages.proofs.Rows.{rows-many}

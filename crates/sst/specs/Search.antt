@@ -8,7 +8,7 @@ use lib.Dec.{ltb, eqb}
 use Rattle.spans.specs.Span.{part}
 use Rattle.numbers.specs.Number.{leAt}
 use Rattle.order.specs.declared.Ver.{Ver}
-use Rattle.order.specs.Order.{cmpBytes, startsWith}
+use Rattle.order.specs.Order.{cmpBytes, startsWith, isLess}
 use Rattle.order.specs.Version.{verOf, newerThan}
 use Rattle.frames.specs.declared.Addr.{Addr}
 use Rattle.frames.specs.declared.Body.{Body}
@@ -20,7 +20,6 @@ use Rattle.records.specs.declared.RecRead.{RecRead}
 use Rattle.values.specs.Keys.{verIn}
 use Rattle.records.specs.Records.{keyAtSlot, recAt}
 use Rattle.records.specs.Parts.{prefixIn}
-use Rattle.pages.specs.Sound.{isLess}
 use Rattle.pages.specs.Boundaries.{place}
 use Rattle.sst.specs.declared.Cmp.{Cmp}
 use Rattle.sst.specs.declared.Halved.{Halved}

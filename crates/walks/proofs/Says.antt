@@ -63,7 +63,7 @@ pub record IsIndex (s : List ℕ) (a : Addr) (p : Page) (cs : List Child) : Type
   pub children : childrenFrom s (sound .body) (sound .body .elems) 0 ≡ cs
 
 module _ (s : List ℕ) (a : Addr) (p : Page) (m : meaning s a ≡ says p) where
-  is-leaf : (hs : List Head) → p .rows ≡ leaf hs → IsLeaf s a p hs
+  pub is-leaf : (hs : List Head) → p .rows ≡ leaf hs → IsLeaf s a p hs
   unfolding pageSays
   is-leaf hs e =
       let g = sound-given s a p m in
@@ -77,7 +77,7 @@ module _ (s : List ℕ) (a : Addr) (p : Page) (m : meaning s a ≡ says p) where
           let x : headsFrom s (g .body) (g .body .elems) 0 ≡ hs = cc in
           record { sound = g; kind = omega (arith, open-kind s a (g .body) (g .opened), n1, n2); heads = x }
 
-  is-index : (cs : List Child) → p .rows ≡ index cs → IsIndex s a p cs
+  pub is-index : (cs : List Child) → p .rows ≡ index cs → IsIndex s a p cs
   unfolding pageSays
   is-index cs e =
       let g = sound-given s a p m in

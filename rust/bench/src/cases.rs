@@ -79,13 +79,15 @@ impl Case {
         list::write_entries(&self.entries(0, self.keys.len()))
     }
 
-    /// Two leaves, the lower half of the keys and the upper.
+    /// Two leaves, the lower half of the keys and the upper: neighbours, whose boundaries meet at the upper's first key.
     pub fn halves(&self) -> (Arena, Built, Built) {
         let mut arena = self.empty();
         let (n, half) = (self.keys.len(), self.keys.len() / 2);
-        let left = arena.build_leaf(8, LIMIT, BUDGET, &STAMP, &BOUNDS, &self.entries(0, half));
+        let (below, from) =
+            (Bounds { hi: &self.keys[half], ..BOUNDS }, Bounds { lo: &self.keys[half], ..BOUNDS });
+        let left = arena.build_leaf(8, LIMIT, BUDGET, &STAMP, &below, &self.entries(0, half));
         let right =
-            arena.build_leaf(left.next, LIMIT, BUDGET, &STAMP, &BOUNDS, &self.entries(half, n));
+            arena.build_leaf(left.next, LIMIT, BUDGET, &STAMP, &from, &self.entries(half, n));
         (arena, left, right)
     }
 

@@ -34,9 +34,12 @@ fn main() -> Result<(), Box<dyn Error>> {
     }
     assert_eq!((info.len, info.hi, info.sibling), (4, Some(&b"k9"[..]), PageId::new(3)));
 
-    // the wrong way round the keys do not rise, and nothing is written
+    // the wrong way round the keys do not rise, a page with a gap before it is no neighbour, and nothing is written
+    let apart = Bounds { lo: b"k6", hi: Some(b"k9"), sibling: None };
+    let apart = leaf(&mut arena, apart, &[("k8", 9, "eight")])?;
     let next = arena.next();
     assert_eq!(arena.merge(right, left, Build::default()), Err(Refusal::OutOfOrder));
+    assert_eq!(arena.merge(left, apart, Build::default()), Err(Refusal::Outside));
     assert_eq!(arena.next(), next);
     Ok(())
 }

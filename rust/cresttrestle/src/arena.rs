@@ -62,7 +62,8 @@ impl Default for Build {
     }
 }
 
-/// A page's place in the tree. The bytes that `lo` and `hi` share are dropped from its keys, which must all begin with them.
+/// A page's place in the tree. Its keys lie between: each is `lo` or above it, and below `hi`. The bytes that `lo` and `hi` share are dropped
+/// from them.
 ///
 /// ```
 /// use cresttrestle::{Bounds, PageId};
@@ -75,7 +76,7 @@ impl Default for Build {
 pub struct Bounds<'b> {
     /// The lower boundary, at most 4,096 bytes.
     pub lo: &'b [u8],
-    /// The upper boundary, at most 4,096 bytes. An empty one is none.
+    /// The upper boundary, above `lo`, at most 4,096 bytes. An empty one is none.
     pub hi: Option<&'b [u8]>,
     /// The page to the right.
     pub sibling: Option<PageId>,
@@ -178,6 +179,11 @@ impl<'a> Arena<'a> {
     ///
     /// list.push(b"ab2", Ver::new(9, 0), b"newer, but behind")?;
     /// assert_eq!(arena.new_leaf(list.bytes(), bounds, Build::default()), Err(Refusal::OutOfOrder));
+    ///
+    /// // the key that the next page begins with is not this page's
+    /// let mut list = RowList::lent(&mut buffer)?;
+    /// list.push(b"ac", Ver::new(5, 0), b"next")?;
+    /// assert_eq!(arena.new_leaf(list.bytes(), bounds, Build::default()), Err(Refusal::Outside));
     /// # Ok::<(), Box<dyn std::error::Error>>(())
     /// ```
     pub fn new_leaf(
@@ -223,10 +229,11 @@ impl<'a> Arena<'a> {
     }
 
     /// Builds one page of two: every record of the left, then of the right, with the left's `lo` and the right's `hi` and sibling.
+    /// The two are neighbours: the left has a `hi`, and it is the right's `lo` ([`Outside`](Refusal::Outside) otherwise).
     /// Both pages stay. A value in a frame of its own that is still at or above the limit keeps that frame.
     ///
     /// ```
-    /// # use cresttrestle::{Arena, Bounds, Build, RowList, Ver};
+    /// # use cresttrestle::{Arena, Bounds, Build, Refusal, RowList, Ver};
     /// # let mut bytes = [0; 1024];
     /// # let mut arena = Arena::new(&mut bytes);
     /// # let (mut a, mut b) = ([0; 64], [0; 64]);
@@ -234,10 +241,17 @@ impl<'a> Arena<'a> {
     /// left.push(b"a", Ver::new(5, 0), b"left")?;
     /// let mut right = RowList::lent(&mut b)?;
     /// right.push(b"b", Ver::new(5, 0), b"right")?;
-    /// let left = arena.new_leaf(left.bytes(), Bounds::default(), Build::default())?;
-    /// let right = arena.new_leaf(right.bytes(), Bounds::default(), Build::default())?;
+    /// let below_b = Bounds { hi: Some(b"b"), ..Bounds::default() };
+    /// let from_b = Bounds { lo: b"b", ..Bounds::default() };
+    /// let left = arena.new_leaf(left.bytes(), below_b, Build::default())?;
+    /// let right = arena.new_leaf(right.bytes(), from_b, Build::default())?;
     /// let both = arena.merge(left, right, Build::default())?;
     /// assert_eq!(arena.page(both).walk(..)?.count(), 2);
+    ///
+    /// // the merged page has no `hi`: nothing is to its right
+    /// let empty = RowList::lent(&mut a)?;
+    /// let apart = arena.new_leaf(empty.bytes(), Bounds::default(), Build::default())?;
+    /// assert_eq!(arena.merge(both, apart, Build::default()), Err(Refusal::Outside));
     /// # Ok::<(), Box<dyn std::error::Error>>(())
     /// ```
     pub fn merge(&mut self, left: Addr, right: Addr, build: Build) -> Result<Addr, Refusal> {

@@ -4,7 +4,7 @@ use core::fmt;
 
 use crate::sys;
 
-/// Why a call was refused: the lowest number of the list that applies. A refusal changes nothing, no byte of an arena.
+/// Why a call was refused: the first of the list that applies. A refusal changes nothing, no byte of an arena.
 ///
 /// ```
 /// use cresttrestle::{Addr, Refusal, View};
@@ -32,6 +32,9 @@ pub enum Refusal {
     OutOfOrder = sys::CT_OUT_OF_ORDER as u8,
     /// Building or merging: a key that does not begin with the page's prefix.
     WrongPrefix = sys::CT_WRONG_PREFIX as u8,
+    /// Building or merging: a key below `lo` or not below `hi`, or a `lo` that is not below `hi`. Merging: the left page has no `hi`, or it
+    /// is not the right page's `lo`. Its number is 10; it is judged before the two below.
+    Outside = sys::CT_OUTSIDE as u8,
     /// Over 65,535 entries, or a page over 16,777,216 bytes.
     TooBig = sys::CT_TOO_BIG as u8,
     /// The frames do not fit behind the next free address.
@@ -39,8 +42,8 @@ pub enum Refusal {
 }
 
 impl Refusal {
-    /// Every refusal, lowest number first.
-    pub const ALL: [Refusal; 9] = [
+    /// Every refusal, in the order in which a call judges them: 10 stands between 7 and 8.
+    pub const ALL: [Refusal; 10] = [
         Refusal::BadLimit,
         Refusal::BadArena,
         Refusal::BadList,
@@ -48,28 +51,27 @@ impl Refusal {
         Refusal::MixedKinds,
         Refusal::OutOfOrder,
         Refusal::WrongPrefix,
+        Refusal::Outside,
         Refusal::TooBig,
         Refusal::NoRoom,
     ];
 
-    /// The number, 1 to 9.
+    /// The number, 1 to 10.
     pub const fn number(self) -> u8 {
         self as u8
     }
 
-    /// The refusal of a number, none for 0 and above 9.
+    /// The refusal of a number, none for 0 and above 10.
     ///
     /// ```
     /// use cresttrestle::Refusal;
     ///
     /// assert_eq!(Refusal::of(9), Some(Refusal::NoRoom));
+    /// assert_eq!(Refusal::of(10), Some(Refusal::Outside));
     /// assert_eq!(Refusal::of(0), None);
     /// ```
-    pub const fn of(number: u8) -> Option<Refusal> {
-        match number {
-            1..=9 => Some(Self::ALL[number as usize - 1]),
-            _ => None,
-        }
+    pub fn of(number: u8) -> Option<Refusal> {
+        Self::ALL.into_iter().find(|why| why.number() == number)
     }
 
     /// What a C call returned: 0 is an answer.
@@ -78,7 +80,7 @@ impl Refusal {
             return Ok(());
         }
         let why = u8::try_from(status).ok().and_then(Refusal::of);
-        Err(why.expect("the library returns 0 to 9"))
+        Err(why.expect("the library returns 0 to 10"))
     }
 }
 
@@ -101,6 +103,9 @@ impl fmt::Display for Refusal {
             Refusal::OutOfOrder => "out of order: an entry is not above the one before",
             Refusal::WrongPrefix => {
                 "wrong prefix: a key does not begin with the page's prefix"
+            }
+            Refusal::Outside => {
+                "outside: a key or boundary that does not lie between lo and hi, or pages whose boundaries do not meet"
             }
             Refusal::TooBig => "too big: over 65,535 entries, or a page over 16,777,216 bytes",
             Refusal::NoRoom => {

@@ -9,6 +9,7 @@ pub const CT_BAD_FRAME: u32 = 4;
 pub const CT_MIXED_KINDS: u32 = 5;
 pub const CT_OUT_OF_ORDER: u32 = 6;
 pub const CT_WRONG_PREFIX: u32 = 7;
+pub const CT_OUTSIDE: u32 = 10;
 pub const CT_TOO_BIG: u32 = 8;
 pub const CT_NO_ROOM: u32 = 9;
 

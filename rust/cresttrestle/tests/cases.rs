@@ -152,6 +152,113 @@ fn p13_another_temperature() {
     assert_eq!((record.key().prefix, record.key().rest), (&[0x00][..], &[0xd4][..]));
 }
 
+fn children(keys: &[&[u8]]) -> Vec<u8> {
+    let mut buffer = vec![0; 256];
+    let mut list = IndexList::lent(&mut buffer).unwrap();
+    keys.iter().for_each(|key| list.push(key, PageId::new(1)).unwrap());
+    list.bytes().to_vec()
+}
+
+/// Order 4's worked table, leaf and index page; the address behind the page where the table gives it.
+#[test]
+fn keys_between_the_boundaries() {
+    use Refusal::{NoRoom, OutOfOrder, Outside, WrongPrefix};
+    type Worked<'w> = (&'w [u8], Option<&'w [u8]>, &'w [&'w [u8]], usize, Option<Refusal>);
+    let worked: [Worked<'_>; 13] = [
+        (b"d", Some(b"h"), &[b"gzz"], 512, None),
+        (b"d", Some(b"h"), &[b"h"], 512, Some(Outside)),
+        (b"d", Some(b"h"), &[b"czz"], 512, Some(Outside)),
+        (b"d", None, &[b"czz"], 512, Some(Outside)),
+        (b"h", Some(b"d"), &[], 512, Some(Outside)),
+        (b"d", Some(b"d"), &[], 512, Some(Outside)),
+        (b"da", Some(b"dc"), &[b"d"], 512, Some(Outside)),
+        (b"da", Some(b"dc"), &[b"dc"], 512, Some(Outside)),
+        (b"da", Some(b"dc"), &[b"x"], 512, Some(WrongPrefix)),
+        (b"d", Some(b"h"), &[b"x", b"e"], 512, Some(OutOfOrder)),
+        (b"", Some(b"h"), &[b""], 512, None),
+        (b"d", Some(b"h"), &[b"h"], 8, Some(Outside)),
+        (b"d", Some(b"h"), &[b"e"], 8, Some(NoRoom)),
+    ];
+    let build = Build::default();
+    for (lo, hi, keys, len, refused) in worked {
+        let bounds = Bounds { lo, hi, sibling: None };
+        let leaf: Vec<(&[u8], _, &[u8])> =
+            keys.iter().map(|&key| (key, (1, 0), &b"v"[..])).collect();
+        let (mut a, mut b) = (vec![7; len], vec![7; len]);
+        let leaf = Arena::new(&mut a).new_leaf(&rows(&leaf), bounds, build);
+        let index = Arena::new(&mut b).new_intl(&children(keys), bounds, build);
+        assert_eq!((leaf.err(), index.err()), (refused, refused), "{lo:?} {hi:?} {keys:?}");
+        assert!(refused.is_none() || a == vec![7; len] && b == a, "a refusal changes nothing");
+    }
+    let bounds = Bounds { lo: b"d", hi: Some(b"h"), sibling: None };
+    let (mut a, mut b) = ([0; 512], [0; 512]);
+    let (mut leaf, mut index) = (Arena::new(&mut a), Arena::new(&mut b));
+    leaf.new_leaf(&rows(&[(b"d", (1, 0), b"v")]), bounds, build).unwrap();
+    index.new_intl(&children(&[b"d"]), bounds, build).unwrap();
+    assert_eq!((leaf.next(), index.next()), (Addr::new(112), Addr::new(96)));
+}
+
+/// Order 4's merges: A `d`..`h`, B `h`..`p`, C `p`.. with a key each, E `h`..`p` and N without keys.
+#[test]
+fn merges_of_neighbours() {
+    use Refusal::{OutOfOrder, Outside, WrongPrefix};
+    let mut bytes = [0; 1024];
+    let mut arena = Arena::new(&mut bytes);
+    let mut page = |lo: &[u8], hi: &[u8], key: Option<&[u8]>| {
+        let list: Vec<(&[u8], _, &[u8])> =
+            key.map(|key| (key, (1, 0), &b"v"[..])).into_iter().collect();
+        let bounds = Bounds { lo, hi: Some(hi), sibling: None };
+        arena.new_leaf(&rows(&list), bounds, Build::default()).unwrap()
+    };
+    let a = page(b"d", b"h", Some(b"e"));
+    let b = page(b"h", b"p", Some(b"i"));
+    let c = page(b"p", b"", Some(b"q"));
+    let e = page(b"h", b"p", None);
+    let n = page(b"", b"", None);
+    let next = arena.next();
+    assert_eq!(next, Addr::new(472));
+    let mut merge = |left, right| {
+        let mut arena = Arena::resume(&mut bytes, next);
+        arena.merge(left, right, Build::default()).map(|_| arena.next())
+    };
+    assert_eq!(merge(a, b), Ok(Addr::new(600)));
+    assert!(merge(a, e).is_ok() && merge(b, c).is_ok());
+    for (left, right, why) in [
+        (a, c, Outside),
+        (b, a, OutOfOrder),
+        (e, a, WrongPrefix),
+        (c, n, Outside),
+        (n, n, Outside),
+        (e, e, Outside),
+        (a, a, OutOfOrder),
+    ] {
+        assert_eq!(merge(left, right), Err(why), "{left} {right}");
+    }
+}
+
+/// A page from before order 4, lo `d`, no hi, key `c`: its lo was `c` when it was built here.
+#[test]
+fn a_page_from_before_order_4() {
+    let mut bytes = [0; 512];
+    let mut arena = Arena::new(&mut bytes);
+    let list = rows(&[(b"c", (1, 0), b"v")]);
+    let old = arena.new_leaf(&list, Bounds { lo: b"c", ..Bounds::default() }, Build::default());
+    let right = Bounds { lo: b"d", hi: Some(b"h"), sibling: None };
+    let (old, right) = (old.unwrap(), arena.new_leaf(&rows(&[]), right, Build::default()).unwrap());
+    let next = arena.next();
+    // behind the headers and one slot
+    bytes[8 + 32 + 40 + 4] = b'd';
+    let mut arena = Arena::resume(&mut bytes, next);
+    assert_eq!(arena.merge(old, right, Build::default()), Err(Refusal::BadFrame));
+    let page = arena.page(old);
+    assert_eq!(page.check(), Err(Refusal::BadFrame));
+    assert_eq!(page.info().unwrap().lo, b"d");
+    assert_eq!(page.search(b"c").unwrap().unwrap().value, b"v");
+    assert_eq!(page.as_of(b"c", Ver::NEWEST).unwrap().unwrap().value, b"v");
+    assert_eq!(page.walk(..).unwrap().count(), 1);
+    assert_eq!(page.range(Some(b"c"), Some(b"d")).unwrap().count(), 1);
+}
+
 #[test]
 fn lists_that_are_full_stay() {
     let mut buffer = [0; 26];
@@ -300,9 +407,10 @@ fn refusals_by_fold_and_by_next() {
 
 #[test]
 fn refusals_by_number() {
-    for (n, why) in (1..).zip(Refusal::ALL) {
+    // the order in which they are judged
+    for (n, why) in [1, 2, 3, 4, 5, 6, 7, 10, 8, 9].into_iter().zip(Refusal::ALL) {
         assert_eq!((why.number(), Refusal::of(n)), (n, Some(why)));
         assert!(!why.to_string().is_empty());
     }
-    assert_eq!(Refusal::of(10), None);
+    assert_eq!((Refusal::of(0), Refusal::of(11)), (None, None));
 }

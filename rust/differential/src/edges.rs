@@ -1,4 +1,4 @@
-//! Cases that random ones seldom meet, run every time: pages at the table's largest counts and sizes.
+//! Cases that random ones seldom meet, run every time: pages at the table's largest counts and sizes, and what comes before number 8.
 
 use oracle::answer::Stamp;
 use oracle::sample::Row;
@@ -13,8 +13,23 @@ fn row(n: u32, value: usize) -> Row {
 }
 
 fn leaf(name: usize, rows: Vec<Row>) -> Op {
-    let (next, stamp, place) = (Next::Free, Stamp::default(), Place::default());
+    leaf_at(name, Place::default(), rows)
+}
+
+fn leaf_at(name: usize, place: Place, rows: Vec<Row>) -> Op {
+    let (next, stamp) = (Next::Free, Stamp::default());
     Op::Leaf { name, next, sizes: SIZES, stamp, place, list: List::Rows(rows) }
+}
+
+/// Boundaries by numbers, as the rows' keys; 0 is none.
+fn between(lo: u32, hi: u32) -> Place {
+    let edge = |n: u32| if n == 0 { Vec::new() } else { n.to_be_bytes().to_vec() };
+    Place { sibling: 0, lo: edge(lo), hi: edge(hi) }
+}
+
+fn merge(name: usize, left: usize, right: usize) -> Op {
+    let (left, right) = (At::Built(left), At::Built(right));
+    Op::Merge { name, next: Next::Free, sizes: SIZES, stamp: Stamp::default(), left, right }
 }
 
 fn case(len: usize, ops: Vec<Op>) -> Case {
@@ -42,14 +57,6 @@ fn entries() -> Vec<Case> {
             ask(1, Read::Lower { key, txid: u64::MAX, cmd: u32::MAX }),
             ask(1, Read::Walk { begin: 65_500, end: 65_535 }),
         ]
-    };
-    let merge = |name, left, right| Op::Merge {
-        name,
-        next: Next::Free,
-        sizes: SIZES,
-        stamp: Stamp::default(),
-        left: At::Built(left),
-        right: At::Built(right),
     };
     let last = row(70_000, 0);
     let more = row(70_001, 0);
@@ -81,13 +88,16 @@ fn entries() -> Vec<Case> {
             ]
         }),
         case(6_000_000, {
-            let left = leaf(1, (0..65_534).map(|n| row(n, 0)).collect());
+            let left = leaf_at(1, between(0, 70_000), (0..65_534).map(|n| row(n, 0)).collect());
             vec![
                 left,
-                leaf(2, vec![last.clone()]),
-                leaf(3, vec![last, more]),
-                merge(4, 1, 2),
-                merge(5, 1, 3),
+                leaf_at(2, between(70_000, 0), vec![last.clone()]),
+                leaf_at(3, between(70_000, 0), vec![last, more.clone()]),
+                // the same keys without the boundary that the left page has
+                leaf_at(4, between(70_001, 0), vec![more.clone(), row(70_002, 0)]),
+                merge(5, 1, 2),
+                merge(6, 1, 3),
+                merge(7, 1, 4),
             ]
         }),
     ]
@@ -111,7 +121,28 @@ fn payload() -> Vec<Case> {
     vec![fits, too_large]
 }
 
+/// 65,536 entries of which one lies outside, in an arena that has no room for them: 10, though 8 and 9 apply too.
+pub fn outside() -> Case {
+    let rows: Vec<Row> = (1..=65_536).map(|n| row(n, 0)).collect();
+    let children = rows.iter().map(|row| (row.key.clone(), 1)).collect();
+    let index = Op::Index {
+        name: 5,
+        next: Next::Free,
+        stamp: Stamp::default(),
+        place: between(2, 0),
+        list: List::Children(children),
+    };
+    let ops = vec![
+        leaf_at(1, between(2, 0), rows.clone()),
+        leaf_at(2, between(0, 65_536), rows.clone()),
+        leaf_at(3, between(7, 7), rows.clone()),
+        leaf_at(4, between(1, 65_537), rows),
+        index,
+    ];
+    case(4096, ops)
+}
+
 /// All of them.
 pub fn cases() -> Vec<Case> {
-    [entries(), payload()].concat()
+    [entries(), payload(), vec![outside()]].concat()
 }

@@ -219,9 +219,9 @@ fn summary(count: &Count, took: Duration) {
         counts.iter().map(|(name, n)| format!("{name} {n}")).collect::<Vec<_>>().join(", ")
     };
     println!("cases: {}", list(&count.kinds));
-    println!("calls: {}", list(&count.calls));
-    let numbers: Vec<String> = (1..10).map(|n| format!("{n}: {}", count.refused[n])).collect();
-    println!("answered {}, refused by number {}", count.refused[0], numbers.join(", "));
+    println!("calls: {}", list(&count.calls()));
+    let numbers: Vec<String> = (1..=10).map(|n| format!("{n}: {}", count.with(n))).collect();
+    println!("answered {}, refused by number {}", count.with(0), numbers.join(", "));
     println!(
         "compare: {} cases, {} questions (mace's Rust asked {} times beside the model, {} rows as of a version and ranges picked from the list), {:.1} s, {:.0} cases/s: all answers and all bytes equal",
         count.cases,

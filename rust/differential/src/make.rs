@@ -3,7 +3,7 @@
 
 use oracle::answer::Stamp;
 use oracle::image::{self, Item};
-use oracle::judge::{HIST_PAGE_BUDGET, MAX_BUDGET, MIN_BUDGET};
+use oracle::judge::{HIST_PAGE_BUDGET, MAX_BUDGET, MAX_KEY, MIN_BUDGET};
 use oracle::list::Child;
 use oracle::prng::Prng;
 use oracle::sample::{self, Row};
@@ -99,19 +99,20 @@ impl Make {
         self.rng.pick(&[HIST_PAGE_BUDGET, RUST_HIST_PAGE_BUDGET as u64])
     }
 
-    /// Boundaries that share the prefix, mostly.
+    /// Boundaries that rise, mostly with the prefix in common.
     fn place(&mut self, prefix: &[u8]) -> Place {
         let (lo, hi) = sample::bounds(&mut self.rng, prefix);
         let sibling = if self.rng.once_in(2) { 0 } else { self.rng.number() };
         Place { sibling, lo, hi }
     }
 
-    fn keys(&mut self, prefix: &[u8], most: usize) -> Vec<Vec<u8>> {
+    /// Keys that lie between the boundaries, many at their edges.
+    fn keys(&mut self, place: &Place, most: usize) -> Vec<Vec<u8>> {
         let count = self.rng.below(most + 1);
-        let mut keys = sample::keys(&mut self.rng, prefix, count);
-        if self.rng.once_in(30) {
-            // a key of the greatest length
-            let longest = [prefix, &vec![0x61; 4096 - prefix.len()]].concat();
+        let mut keys = sample::keys_between(&mut self.rng, &place.lo, &place.hi, count);
+        // a key of the greatest length
+        let longest = [&place.lo[..], &vec![0x61; MAX_KEY - place.lo.len()]].concat();
+        if self.rng.once_in(30) && bounds(place).hold(&longest) {
             keys.push(longest);
             keys.sort();
             keys.dedup();
@@ -290,7 +291,7 @@ impl Make {
     fn leaf_page(&mut self, most: usize) -> Page {
         let prefix = sample::prefix(&mut self.rng);
         let (place, sizes) = (self.place(&prefix), self.sizes());
-        let keys = self.keys(&prefix, most);
+        let keys = self.keys(&place, most);
         let rows = self.rows(&keys, sizes.limit as usize, sizes.budget);
         let at = self.build_leaf(Next::Free, sizes, place, rows.clone());
         Page { at, index: false, prefix, keys, rows }
@@ -312,9 +313,9 @@ impl Make {
     fn index_case(&mut self) -> usize {
         let prefix = sample::prefix(&mut self.rng);
         let place = self.place(&prefix);
-        let keys = self.keys(&prefix, 40);
+        let keys = self.keys(&place, 40);
         let children = self.children(&keys);
-        let left = self.build_index(Next::Free, place, children);
+        let left = self.build_index(Next::Free, place.clone(), children);
         let index = |at, prefix: &[u8], keys: &[Vec<u8>]| Page {
             at,
             index: true,
@@ -324,50 +325,44 @@ impl Make {
         };
         self.ask(&index(left, &prefix, &keys), 8);
         if self.rng.once_in(2) {
-            // merged with a second part, which may be in order or not
-            let more = sample::keys(&mut self.rng, &prefix, 4);
-            let right = if self.rng.once_in(3) {
-                let greatest = keys.last().cloned().unwrap_or_default();
-                more.into_iter().filter(|key| *key > greatest).collect()
-            } else {
-                more
-            };
-            let (place, children) = (self.place(&prefix), self.children(&right));
-            let right_at = self.build_index(Next::Free, place, children);
+            // merged with its neighbour, or now and then with a page from anywhere
+            let meets = !place.hi.is_empty() && !self.rng.once_in(4);
+            let right = Place { hi: Vec::new(), lo: place.hi, sibling: 1 };
+            let right = if meets { right } else { self.place(&prefix) };
+            let more = self.keys(&right, 4);
+            let children = self.children(&more);
+            let right_at = self.build_index(Next::Free, right, children);
             let sizes = self.sizes();
             let at = self.merge(left, right_at, sizes);
-            self.ask(&index(at, &prefix, &[keys, right].concat()), 6);
+            self.ask(&index(at, &prefix, &[keys, more].concat()), 6);
         }
         self.length()
     }
 
-    /// Rows cut into two or three pages at any row, also inside the versions of a key, merged in every grouping.
+    /// Two or three neighbours, merged in every grouping; now and then pages whose boundaries do not meet.
     fn merge_case(&mut self) -> usize {
         let prefix = sample::prefix(&mut self.rng);
         let outer = self.place(&prefix);
-        let keys = self.keys(&prefix, 12);
+        let keys = self.keys(&outer, 12);
         let one_size = self.sizes();
         let same = self.rng.once_in(2);
-        let mut rows = self.rows(&keys, one_size.limit as usize, one_size.budget);
-        let all = rows.clone();
-        let parts = self.rng.between(2, 3);
+        let all = self.rows(&keys, one_size.limit as usize, one_size.budget);
+        let most = self.rng.between(1, 2);
+        let sides = if self.rng.once_in(5) {
+            self.apart(&outer, &all, most + 1)
+        } else {
+            let cuts = sample::cuts(&mut self.rng, &outer.lo, &outer.hi, &keys, most);
+            let parted = sample::parted(&outer.lo, &outer.hi, &cuts, &all, |row| &row.key);
+            let place = |(sibling, (lo, hi, rows)): (u64, (&[u8], &[u8], _))| {
+                (Place { sibling, lo: lo.to_vec(), hi: hi.to_vec() }, rows)
+            };
+            (0..).zip(parted).map(place).collect()
+        };
+        let parts = sides.len();
         let mut pages = Vec::new();
-        for k in 0..parts {
-            let take = if k + 1 == parts { rows.len() } else { self.rng.below(rows.len() + 1) };
-            let rest = rows.split_off(take);
-            let part = std::mem::replace(&mut rows, rest);
-            // the outer boundaries, and inside them the same or none: pages with and without a prefix of their own
-            let (no_lo, no_hi) =
-                (k > 0 && self.rng.once_in(2), k + 1 < parts && self.rng.once_in(2));
-            let lo = if no_lo { Vec::new() } else { outer.lo.clone() };
-            let hi = if no_hi { Vec::new() } else { outer.hi.clone() };
+        for (place, rows) in sides {
             let sizes = if same { one_size } else { self.sizes() };
-            pages.push(self.build_leaf(
-                Next::Free,
-                sizes,
-                Place { sibling: k as u64, lo, hi },
-                part,
-            ));
+            pages.push(self.build_leaf(Next::Free, sizes, place, rows));
         }
         let mut sizes = || if same { one_size } else { self.sizes() };
         let groupings = [sizes(), sizes(), sizes(), sizes(), sizes()];
@@ -382,9 +377,16 @@ impl Make {
             let (prefix, keys, rows) = (prefix.clone(), keys.clone(), all.clone());
             self.ask(&Page { at, index: false, prefix, keys, rows }, 3);
         }
-        // once more with an empty page, or the wrong way round, or with itself
-        let again = match self.rng.below(4) {
-            0 => self.build_leaf(Next::Free, groupings[4], Place::default(), Vec::new()),
+        if self.rng.once_in(3) {
+            self.merge(pages[1], pages[0], groupings[4]);
+        }
+        // once more with an empty neighbour or an empty page without boundaries, or the wrong way round, or with itself
+        let again = match self.rng.below(5) {
+            0 => {
+                let place = Place { sibling: 9, lo: outer.hi, hi: Vec::new() };
+                self.build_leaf(Next::Free, groupings[4], place, Vec::new())
+            }
+            4 => self.build_leaf(Next::Free, groupings[4], Place::default(), Vec::new()),
             1 => pages[0],
             2 => merged[0],
             _ => pages[pages.len() - 1],
@@ -394,6 +396,24 @@ impl Make {
         self.read(last, Read::Info);
         self.read(pages[0], Read::Check);
         self.length()
+    }
+
+    /// Pages of rows cut at any row, also inside the versions of a key. Each page has the outer boundaries or none, so that its keys lie
+    /// between them; two such pages never meet.
+    fn apart(&mut self, outer: &Place, rows: &[Row], parts: usize) -> Vec<(Place, Vec<Row>)> {
+        let mut rows = rows.to_vec();
+        let mut pages = Vec::new();
+        for k in 0..parts {
+            let take = if k + 1 == parts { rows.len() } else { self.rng.below(rows.len() + 1) };
+            let rest = rows.split_off(take);
+            let part = std::mem::replace(&mut rows, rest);
+            let (no_lo, no_hi) =
+                (k > 0 && self.rng.once_in(2), k + 1 < parts && self.rng.once_in(2));
+            let lo = if no_lo { Vec::new() } else { outer.lo.clone() };
+            let hi = if no_hi { Vec::new() } else { outer.hi.clone() };
+            pages.push((Place { sibling: k as u64, lo, hi }, part));
+        }
+        pages
     }
 
     fn delta_row(&mut self, key: Vec<u8>, limit: usize) -> Row {
@@ -441,7 +461,6 @@ impl Make {
     fn large_case(&mut self) -> usize {
         let count = self.rng.pick(&[100, 255, 256, 257, 400, 1000, 2000]);
         let prefix = sample::prefix(&mut self.rng);
-        let place = self.place(&prefix);
         let mut keys: Vec<Vec<u8>> = (0..count)
             .map(|_| {
                 let n = self.rng.below(60_000) as u32;
@@ -450,6 +469,11 @@ impl Make {
             .collect();
         keys.sort();
         keys.dedup();
+        // boundaries as near as can be, or far, or none
+        let last = [&keys[keys.len() - 1][..], &[0]].concat();
+        let lo = self.rng.pick(&[keys[0].clone(), prefix.clone(), Vec::new()]);
+        let hi = self.rng.pick(&[last, [&prefix[..], &[0xff]].concat(), Vec::new()]);
+        let place = Place { sibling: 0, lo, hi };
         let (at, index, rows) = if self.rng.once_in(2) {
             let children = self.children(&keys);
             (self.build_index(Next::Free, place, children), true, Vec::new())
@@ -483,13 +507,14 @@ impl Make {
     fn history_case(&mut self) -> usize {
         let mut end = 0;
         let mut pages = Vec::new();
-        for key in [b"p", b"q"] {
+        for (key, lo, hi) in [(b"p", "", "q"), (b"q", "q", "")] {
             let budget = match self.rng.below(4) {
                 0 | 1 => self.named_budget(),
                 2 => MIN_BUDGET,
                 _ => self.rng.between(MIN_BUDGET as usize, MAX_BUDGET as usize) as u64,
             };
-            let (sizes, place) = (Sizes { limit: 65_536, budget }, Place::default());
+            let sizes = Sizes { limit: 65_536, budget };
+            let place = Place { sibling: 0, lo: lo.into(), hi: hi.into() };
             let rows = self.long_history(key, budget);
             end += leaf_end(sizes, &place, &rows);
             let at = self.build_leaf(Next::Free, sizes, place, rows.clone());
@@ -508,7 +533,8 @@ impl Make {
     fn refused_case(&mut self) -> usize {
         let prefix = sample::prefix(&mut self.rng);
         let place = self.place(&prefix);
-        let keys = self.keys(&prefix, 5);
+        let prefix = image::prefix(&place.lo, &place.hi).to_vec();
+        let keys = self.keys(&place, 5);
         let index = self.rng.once_in(3);
         let sizes = self.sizes();
         let mut rows = self.rows(&keys, sizes.limit as usize, sizes.budget);
@@ -520,11 +546,17 @@ impl Make {
         } else {
             self.build_leaf(Next::Free, sizes, place.clone(), rows.clone())
         };
-        // one thing wrong, or two: the lowest number counts
+        let neighbour = if self.rng.once_in(2) {
+            Place { sibling: 0, lo: place.hi.clone(), hi: Vec::new() }
+        } else {
+            Place { sibling: 0, lo: Vec::new(), hi: place.lo.clone() }
+        };
+        self.outside_alone(index, sizes, &place, rows.clone(), children.clone());
+        // one thing wrong, or two: the first number of the table counts
         let (mut sizes, mut place, mut next) = (sizes, place, Next::Free);
         let mut bytes = None;
         for _ in 0..self.rng.between(1, 2) {
-            match self.rng.below(9) {
+            match self.rng.below(12) {
                 0 => sizes.limit = self.rng.pick(&[0, 65_536, 65_537, u64::MAX]),
                 1 => {
                     sizes.budget = self.rng.pick(&[
@@ -542,6 +574,11 @@ impl Make {
                 5 => self.disorder(&mut rows, &mut children),
                 6 => self.other_prefix(&mut rows, &mut children, &prefix),
                 7 => self.too_long(&mut rows, &mut children),
+                8 | 9 => self.outside(&mut rows, &mut children, &place),
+                10 => {
+                    let fallen = sample::bounds_fallen(&mut self.rng, &place.lo, &place.hi);
+                    (place.lo, place.hi) = fallen.unwrap_or((vec![1], vec![1]));
+                }
                 _ => {
                     let list = if index {
                         List::Children(children.clone())
@@ -564,14 +601,12 @@ impl Make {
             Op::Leaf { name, next, sizes, stamp, place, list }
         });
         // a merge with the other kind, a delta, nothing, itself; deltas with the same wrong numbers
-        let other = match self.rng.below(4) {
+        let usual = Sizes { limit: 64, budget: 256 };
+        let other = match self.rng.below(5) {
             0 => self.build_index(Next::Free, Place::default(), vec![(b"zz".to_vec(), 1)]),
-            1 => self.build_leaf(
-                Next::Free,
-                Sizes { limit: 64, budget: 256 },
-                Place::default(),
-                Vec::new(),
-            ),
+            1 => self.build_leaf(Next::Free, usual, Place::default(), Vec::new()),
+            // a neighbour, where there is a boundary
+            4 => self.build_leaf(Next::Free, usual, neighbour, Vec::new()),
             2 => At::Raw(self.next()),
             _ => good,
         };
@@ -592,6 +627,31 @@ impl Make {
             room.saturating_add_signed(self.rng.pick(&[-9, -8, -1, 0, 1, 8]))
         } else {
             self.length()
+        }
+    }
+
+    /// Nothing wrong but one key outside, or boundaries that do not rise.
+    fn outside_alone(
+        &mut self,
+        index: bool,
+        sizes: Sizes,
+        place: &Place,
+        mut rows: Vec<Row>,
+        mut children: Vec<(Vec<u8>, u64)>,
+    ) {
+        let mut place = place.clone();
+        if self.rng.once_in(5) {
+            let fallen = sample::bounds_fallen(&mut self.rng, &place.lo, &place.hi);
+            (place.lo, place.hi) = fallen.unwrap_or((vec![1], vec![1]));
+            rows.clear();
+            children.clear();
+        } else {
+            self.outside(&mut rows, &mut children, &place);
+        }
+        if index {
+            self.build_index(Next::Free, place, children);
+        } else {
+            self.build_leaf(Next::Free, sizes, place, rows);
         }
     }
 
@@ -631,6 +691,15 @@ impl Make {
         }
         rows.push(Row { key: key.clone(), txid: 1, cmd: 0, value: Vec::new() });
         children.push((key, 1));
+    }
+
+    /// One key more, in order, that lies outside the boundaries.
+    fn outside(&mut self, rows: &mut Vec<Row>, children: &mut Vec<(Vec<u8>, u64)>, place: &Place) {
+        let Some(key) = sample::key_outside(&mut self.rng, &place.lo, &place.hi) else { return };
+        let at = rows.partition_point(|row| row.key < key);
+        rows.insert(at, Row { key: key.clone(), txid: 1, cmd: 0, value: Vec::new() });
+        let at = children.partition_point(|child| child.0 < key);
+        children.insert(at, (key, 1));
     }
 
     /// The last entry's key or value is as long as the table lets it be, or longer.
@@ -694,6 +763,10 @@ impl Make {
         let leaf = self.build_leaf(Next::Free, sizes, place(), rows.clone());
         let children = self.children(&keys);
         let index = self.build_index(Next::Free, place(), children);
+        // neighbours without keys
+        let right = || Place { sibling: 0, lo: b"pz".to_vec(), hi: Vec::new() };
+        let behind = self.build_leaf(Next::Free, sizes, right(), Vec::new());
+        let index_behind = self.build_index(Next::Free, right(), Vec::new());
         let row = Row { key: key(0), txid: 20, cmd: 5, value: b"remote".to_vec() };
         let (name, stamp) = (self.name(), self.stamp());
         let delta = At::Built(name);
@@ -706,7 +779,7 @@ impl Make {
         let end = leaf_end(sizes, &place(), &rows);
         for _ in 0..self.rng.between(1, 4) {
             let at = self.rng.below(end + 200);
-            let damage = match self.rng.below(16) {
+            let damage = match self.rng.below(20) {
                 0 => Op::Put { at, bytes: vec![self.rng.number() as u8] },
                 1 => Op::Put { at, bytes: vec![self.rng.pick(&[0, 1, 2, 8, 0x7f, 0x80, 0xff])] },
                 2 => Op::Put { at, bytes: vec![self.rng.below(24) as u8] },
@@ -723,6 +796,19 @@ impl Make {
                     to: at & !7,
                     len: self.rng.pick(&[32, 72, 104]),
                 },
+                // a letter of lo or hi, or of a key: the page may be unsound by its boundaries alone
+                16 | 17 => {
+                    let by = 72 + 4 * keys.len() + self.rng.below(4);
+                    let bytes = vec![self.rng.pick(b"opqabcdyz")];
+                    Op::Strike { frame: self.rng.pick(&[leaf, index]), slot: None, by, bytes }
+                }
+                18 | 19 => {
+                    // behind the length of the key, a leaf's behind the version too
+                    let (frame, by) = self.rng.pick(&[(leaf, 13), (index, 1)]);
+                    let slot = self.rng.pick(&[0, keys.len() - 1]);
+                    let bytes = vec![self.rng.pick(b"ABabcdyz{")];
+                    Op::Strike { frame, slot: Some(slot), by, bytes }
+                }
                 // the headers of a frame, its slots and first bytes; the first history page stands at 8
                 8..=11 => {
                     let frame = self.rng.pick(&[leaf, leaf, index, delta, tree, At::Raw(8)]);
@@ -766,11 +852,18 @@ impl Make {
         ] {
             self.everything(at, keys.len());
         }
-        for (left, right) in [(leaf, leaf), (leaf, index), (index, index), (delta, leaf)] {
+        for (left, right) in [
+            (leaf, behind),
+            (index, index_behind),
+            (leaf, leaf),
+            (leaf, index),
+            (index, index),
+            (delta, leaf),
+        ] {
             let sizes = self.sizes();
             self.merge(left, right, sizes);
         }
-        end + 1400
+        end + 2000
     }
 
     /// What damage stores: a byte, a number of four or eight bytes at an edge, a length that is too long or not in its shortest form.

@@ -6,6 +6,7 @@ use cresttrestle::{
 };
 use oracle::answer::Stamp;
 use oracle::image;
+use oracle::list;
 use oracle::sample::Row;
 
 use crate::case::{Names, Op, Place, Read, Sizes, damage};
@@ -38,6 +39,16 @@ pub enum Fault {
     Headless,
     /// As of a version: the history is followed one row short.
     Short,
+    /// A leaf: the numbers are judged as they count, so 10 comes behind 8 and 9.
+    Last,
+    /// A leaf: a key that is hi counts as inside.
+    HiInside,
+    /// A leaf: a key that is lo counts as outside.
+    LoOutside,
+    /// The check asks for nothing of the boundaries.
+    Unbounded,
+    /// A merge does not compare boundaries: it asks only that the right page's first key is above the left's.
+    FirstKeys,
 }
 
 /// The arena, the second buffer and what is lent beside them.
@@ -155,13 +166,7 @@ impl Ours {
                 let (lo, hi, sibling) = (b.bytes(), Some(c.bytes()), PageId::new(place.sibling));
                 let (next, build) = (names.next(*next), build(*sizes, stamp));
                 let end = built(arena.bytes_mut(), next, say, |arena| {
-                    let answer = arena.new_leaf(a.bytes(), Bounds { lo, hi, sibling }, build);
-                    let disorder = answer == Err(Refusal::OutOfOrder) && !place.hi.is_empty();
-                    if fault == Fault::Number && disorder {
-                        Err(Refusal::WrongPrefix)
-                    } else {
-                        answer
-                    }
+                    new_leaf(arena, a.bytes(), Bounds { lo, hi, sibling }, build, fault)
                 });
                 if let (Fault::Byte, Some(end), 201..) = (fault, end, list.len()) {
                     arena.bytes_mut()[end - 1] ^= 1;
@@ -179,7 +184,7 @@ impl Ours {
                 let (left, right) = (Addr::new(names.at(*left)), Addr::new(names.at(*right)));
                 let (next, build) = (names.next(*next), build(*sizes, stamp));
                 let bytes = arena.bytes_mut();
-                let end = built(bytes, next, say, |arena| arena.merge(left, right, build));
+                let end = built(bytes, next, say, |arena| merge(arena, left, right, build, fault));
                 if let (Fault::Refused, None, Some(last)) = (fault, end, bytes.last_mut()) {
                     *last ^= 1;
                 }
@@ -211,6 +216,9 @@ impl Ours {
         match read {
             Read::Check => match page.check() {
                 Ok(()) => say.name("sound"),
+                Err(_) if *fault == Fault::Unbounded && sound_elsewhere(view, page) => {
+                    say.name("sound")
+                }
                 Err(why) => refused(say, why),
             },
             Read::Info => match page.info() {
@@ -358,6 +366,70 @@ impl Ours {
             }
         }
     }
+}
+
+/// A leaf, or the wrong answer that a fault makes of it.
+fn new_leaf(
+    arena: &mut Arena<'_>,
+    list: &[u8],
+    bounds: Bounds<'_>,
+    build: Build,
+    fault: Fault,
+) -> Result<Addr, Refusal> {
+    let hi = bounds.hi.unwrap_or_default();
+    let entries = list::entries(list).unwrap_or_default();
+    // just above a boundary: what is below this is the boundary or below it
+    let above = |edge: &[u8]| [edge, &[0]].concat();
+    match fault {
+        Fault::HiInside if entries.last().is_some_and(|e| e.key == hi) => {
+            return arena.new_leaf(list, Bounds { hi: Some(&above(hi)), ..bounds }, build);
+        }
+        Fault::LoOutside if entries.first().is_some_and(|e| e.key == bounds.lo) => {
+            return arena.new_leaf(list, Bounds { lo: &above(bounds.lo), ..bounds }, build);
+        }
+        _ => {}
+    }
+    match arena.new_leaf(list, bounds, build) {
+        Err(Refusal::OutOfOrder) if fault == Fault::Number && !hi.is_empty() => {
+            Err(Refusal::WrongPrefix)
+        }
+        // without boundaries nothing is outside, and what is behind 10 is judged
+        Err(Refusal::Outside) if fault == Fault::Last => {
+            let behind = arena.new_leaf(list, Bounds::default(), build).err();
+            Err(behind.unwrap_or(Refusal::Outside))
+        }
+        answer => answer,
+    }
+}
+
+/// A merge, or the wrong answer that a fault makes of it.
+fn merge(
+    arena: &mut Arena<'_>,
+    left: Addr,
+    right: Addr,
+    build: Build,
+    fault: Fault,
+) -> Result<Addr, Refusal> {
+    let answer = arena.merge(left, right, build);
+    let first = |page: Addr| {
+        let record = arena.page(page).walk(..1).ok()?.next()?.ok()?;
+        Some([record.key().prefix, record.key().rest].concat())
+    };
+    match (fault, answer, first(left), first(right)) {
+        (Fault::FirstKeys, Err(Refusal::Outside), Some(a), Some(b)) if a < b => Ok(arena.next()),
+        _ => answer,
+    }
+}
+
+/// Whether a page is sound with a lo and a hi of the same lengths that hold nearly every key: all of it but its boundaries.
+fn sound_elsewhere(view: View<'_>, page: Page<'_>) -> bool {
+    let Ok(info) = page.info() else { return false };
+    let mut bytes = view.bytes().to_vec();
+    for (edge, byte) in [(info.lo, 0), (info.hi.unwrap_or_default(), 0xff)] {
+        let at = edge.as_ptr() as usize - view.bytes().as_ptr() as usize;
+        bytes[at..at + edge.len()].fill(byte);
+    }
+    View::new(&bytes).page(page.addr()).check().is_ok()
 }
 
 /// The row as of a version, or the wrong one that a fault makes of it.

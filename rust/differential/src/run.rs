@@ -30,10 +30,24 @@ pub struct Count {
     pub rust: u64,
     /// How often a row as of a version or a range was also picked from the list that its page was made from.
     pub picked: u64,
-    pub calls: BTreeMap<&'static str, u64>,
     pub kinds: BTreeMap<&'static str, u64>,
-    /// By number; 0 counts the answers.
-    pub refused: [u64; 10],
+    /// By call and number; number 0 counts the answers.
+    pub answers: BTreeMap<(&'static str, u8), u64>,
+}
+
+impl Count {
+    /// How often each call was asked.
+    pub fn calls(&self) -> BTreeMap<&'static str, u64> {
+        self.answers.iter().fold(BTreeMap::new(), |mut calls, ((call, _), times)| {
+            *calls.entry(*call).or_default() += times;
+            calls
+        })
+    }
+
+    /// How often any call was refused with a number, or answered (0).
+    pub fn with(&self, number: u8) -> u64 {
+        self.answers.iter().filter(|((_, n), _)| *n == number).map(|(_, times)| times).sum()
+    }
 }
 
 /// Runs cases; keeps its memory from one to the next.
@@ -122,8 +136,7 @@ impl Runner {
         theirs.apply(op, names, judge);
         if !op.call().is_empty() {
             self.count.questions += 1;
-            *self.count.calls.entry(op.call()).or_default() += 1;
-            self.count.refused[usize::from(judge.number())] += 1;
+            *self.count.answers.entry((op.call(), judge.number())).or_default() += 1;
         }
         let texts = |what: String| Difference {
             what,

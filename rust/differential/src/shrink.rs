@@ -86,9 +86,13 @@ pub fn shrink(mut case: Case, most: Duration, mut differs: impl FnMut(&Case) -> 
     }
 }
 
-/// Every key and probe of a case.
+/// Every key, boundary and probe of a case: keys lie between boundaries, and neighbours share one.
 fn each_key(case: &mut Case, f: &mut dyn FnMut(&mut Vec<u8>)) {
     for op in &mut case.ops {
+        if let Op::Leaf { place, .. } | Op::Index { place, .. } = op {
+            f(&mut place.lo);
+            f(&mut place.hi);
+        }
         match op {
             Op::Leaf { list: List::Rows(rows), .. } => {
                 rows.iter_mut().for_each(|row| f(&mut row.key))

@@ -13,9 +13,16 @@ fn random_cases() {
         }
     }
     // the cases are worth something: every call is asked, and every number but 8 (see edges.rs) is met
-    for (number, &times) in runner.count.refused.iter().enumerate() {
-        assert!(times > 0 || number == 8, "nothing was refused with {number}");
+    let count = &runner.count;
+    for number in 0..=10 {
+        assert!(count.with(number) > 0 || number == 8, "nothing was refused with {number}");
     }
-    assert!(runner.count.picked > 4000, "{} rows picked from lists", runner.count.picked);
-    assert_eq!(runner.count.calls.len(), 18, "{:?}", runner.count.calls);
+    assert!(count.picked > 4000, "{} rows picked from lists", count.picked);
+    assert_eq!(count.calls().len(), 18, "{:?}", count.calls());
+    // builds and merges are mostly accepted, and each is refused with 10 often enough (tests/sampler.rs counts the kinds)
+    for (call, answered, outside) in [("leaf", 600, 50), ("index", 200, 15), ("merge", 200, 50)] {
+        let times = |number| count.answers.get(&(call, number)).copied().unwrap_or(0);
+        assert!(times(0) > answered, "{call}: {} answered", times(0));
+        assert!(times(10) > outside, "{call}: {} refused with 10", times(10));
+    }
 }

@@ -6,7 +6,7 @@ use differential::case::{Case, List, Op};
 use differential::run::{Difference, Runner};
 use differential::shrink::shrink;
 use differential::stops::forked;
-use differential::{Fault, make, script};
+use differential::{Fault, edges, make, script};
 
 /// The first difference that a fault makes, made small; with its script.
 fn found(fault: Fault) -> (Case, Difference, String) {
@@ -86,6 +86,35 @@ fn the_head_never_considered() {
 #[test]
 fn a_history_one_row_short() {
     small(Fault::Short, "as of", 2, 2);
+}
+
+#[test]
+fn ten_judged_last() {
+    small(Fault::Last, "leaf", 1, 1);
+    // 8, which random cases do not meet, is judged behind 10 too
+    let case = edges::outside();
+    assert_eq!(Runner::new(Fault::None).run(&case), None);
+    assert!(Runner::new(Fault::Last).run(&case).is_some());
+}
+
+#[test]
+fn hi_counted_as_inside() {
+    small(Fault::HiInside, "leaf", 1, 1);
+}
+
+#[test]
+fn lo_counted_as_outside() {
+    small(Fault::LoOutside, "leaf", 1, 1);
+}
+
+#[test]
+fn a_check_without_boundaries() {
+    small(Fault::Unbounded, "check", 3, 1);
+}
+
+#[test]
+fn a_merge_that_looks_at_first_keys() {
+    small(Fault::FirstKeys, "merge", 3, 2);
 }
 
 #[test]

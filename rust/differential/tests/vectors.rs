@@ -22,5 +22,5 @@ fn every_vector() {
             panic!("{}: {difference:?}\n{script}", path.display());
         }
     }
-    assert_eq!(runner.count.cases, 719);
+    assert_eq!(runner.count.cases, 748);
 }

@@ -17,6 +17,23 @@ pub struct Bounds<'a> {
     pub hi: &'a [u8],
 }
 
+impl Bounds<'_> {
+    /// "below a nonempty hi": an empty hi is none, and all bytes are below none.
+    fn below_hi(&self, bytes: &[u8]) -> bool {
+        self.hi.is_empty() || bytes < self.hi
+    }
+
+    /// Order 4, of the boundaries alone: not "a lo not below a nonempty hi".
+    pub fn rise(&self) -> bool {
+        self.below_hi(self.lo)
+    }
+
+    /// Order 4, of a whole key: neither "below lo" nor "not below a nonempty hi".
+    pub fn hold(&self, key: &[u8]) -> bool {
+        self.lo <= key && self.below_hi(key)
+    }
+}
+
 /// A build, merge or delta that was done: the frame and the new next free address.
 #[derive(Clone, Copy, Debug, PartialEq, Eq)]
 pub struct Built {

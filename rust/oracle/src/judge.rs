@@ -1,6 +1,7 @@
-//! Document 01's numbers of refusal for builds, merges and deltas, from the paper alone.
-//! "Each is judged on the whole input, lower numbers first": every judgement below asks its
-//! questions in the table's order and stops at the first that applies.
+//! Document 01's numbers of refusal for builds, merges and deltas, and those that the orders add, from
+//! the papers alone. "Each is judged on the whole input, lower numbers first", but for 10, "judged
+//! after 7 and before 8": every judgement below asks its questions in the order 1 2 3 4 5 6 7 10 8 9
+//! and stops at the first that applies.
 //! What is accepted comes back as the items that the page will hold, for `image` and the Rust.
 
 use crate::answer::{Bounds, What};
@@ -31,6 +32,9 @@ pub const WRONG_PREFIX: Number = 7;
 pub const TOO_BIG: Number = 8;
 /// "next plus all rounded frames exceeds the arena"
 pub const NO_ROOM: Number = 9;
+/// Order 4: "a key below lo, or not below a nonempty hi, is refused, a lo not below a nonempty hi too,
+/// and a merge needs the left hi to equal the right lo, with a left page without hi refused"
+pub const OUTSIDE: Number = 10;
 
 pub const MAX_KEY: usize = 4_096;
 pub const MAX_VALUE: usize = 65_536;
@@ -84,7 +88,36 @@ fn room_ok(arena_len: usize, next: u64, frames: usize) -> Result<(), Number> {
     refuse_if(next as usize + frames > arena_len, NO_ROOM)
 }
 
-/// Numbers 6 to 9 of a leaf, whether its items come from a list or from two pages.
+/// Numbers 7 and 10 of the keys that a page is to hold. Boundaries that do not rise are 10 on a page
+/// without keys too.
+fn keys_ok<'k>(
+    bounds: &Bounds,
+    keys: impl Iterator<Item = &'k [u8]> + Clone,
+) -> Result<(), Number> {
+    let prefix = image::prefix(bounds.lo, bounds.hi);
+    refuse_if(keys.clone().any(|key| !key.starts_with(prefix)), WRONG_PREFIX)?;
+    refuse_if(!bounds.rise() || keys.into_iter().any(|key| !bounds.hold(key)), OUTSIDE)
+}
+
+/// Numbers 6, 7 and 10 of a leaf, whether its items come from a list or from two pages.
+fn leaf_keys_ok(bounds: &Bounds, items: &[Item]) -> Result<(), Number> {
+    leaf_order_ok(items)?;
+    keys_ok(bounds, items.iter().map(|i| &i.key[..]))
+}
+
+/// The same of an index page.
+fn index_keys_ok(bounds: &Bounds, children: &[Child]) -> Result<(), Number> {
+    index_order_ok(children)?;
+    keys_ok(bounds, children.iter().map(|c| c.key))
+}
+
+/// Number 10 of a merge beside its keys': "the left hi to equal the right lo, with a left page without
+/// hi refused", also where the right lo is empty too.
+fn meet_ok(left_hi: &[u8], right_lo: &[u8]) -> Result<(), Number> {
+    refuse_if(left_hi.is_empty() || left_hi != right_lo, OUTSIDE)
+}
+
+/// Numbers 8 and 9 of a leaf.
 fn leaf_fits(
     arena_len: usize,
     next: u64,
@@ -93,32 +126,26 @@ fn leaf_fits(
     bounds: &Bounds,
     items: &[Item],
 ) -> Result<(), Number> {
-    leaf_order_ok(items)?;
-    let prefix = image::prefix(bounds.lo, bounds.hi);
-    refuse_if(items.iter().any(|i| !i.key.starts_with(prefix)), WRONG_PREFIX)?;
     refuse_if(items.len() > MAX_ENTRIES, TOO_BIG)?;
     let sizes = image::leaf_sizes(limit as usize, budget as usize, bounds, items);
     refuse_if(sizes.payload > MAX_PAYLOAD, TOO_BIG)?;
     room_ok(arena_len, next, sizes.frames)
 }
 
-/// Numbers 6 to 9 of an index page. Its payload is its size: there are no hints.
+/// Numbers 8 and 9 of an index page. Its payload is its size: there are no hints.
 fn index_fits(
     arena_len: usize,
     next: u64,
     bounds: &Bounds,
     children: &[Child],
 ) -> Result<(), Number> {
-    index_order_ok(children)?;
-    let prefix = image::prefix(bounds.lo, bounds.hi);
-    refuse_if(children.iter().any(|c| !c.key.starts_with(prefix)), WRONG_PREFIX)?;
     refuse_if(children.len() > MAX_ENTRIES, TOO_BIG)?;
     let size = image::index_size(bounds, children);
     refuse_if(size > MAX_PAYLOAD, TOO_BIG)?;
     room_ok(arena_len, next, image::rounded(size))
 }
 
-/// A leaf build: 1, 2, 3, 6, 7, 8, 9.
+/// A leaf build: 1, 2, 3, 6, 7, 10, 8, 9.
 pub fn leaf<'a>(
     arena_len: usize,
     next: u64,
@@ -133,11 +160,12 @@ pub fn leaf<'a>(
     next_ok(arena_len, next)?;
     let entries = list::entries(list)?;
     let items: Vec<Item> = entries.iter().map(Item::arriving).collect();
+    leaf_keys_ok(bounds, &items)?;
     leaf_fits(arena_len, next, limit, budget, bounds, &items)?;
     Ok(entries)
 }
 
-/// An index build: 1 (for lo and hi only, DECIDED 19), 2, 3, 6, 7, 8, 9.
+/// An index build: 1 (for lo and hi only, DECIDED 19), 2, 3, 6, 7, 10, 8, 9.
 pub fn index<'a>(
     arena_len: usize,
     next: u64,
@@ -147,6 +175,7 @@ pub fn index<'a>(
     bounds_ok(bounds)?;
     next_ok(arena_len, next)?;
     let children = list::children(list)?;
+    index_keys_ok(bounds, &children)?;
     index_fits(arena_len, next, bounds, &children)?;
     Ok(children)
 }
@@ -157,7 +186,7 @@ pub enum Merged {
     Index { sibling: u64, lo: Vec<u8>, hi: Vec<u8>, children: Vec<(Vec<u8>, u64)> },
 }
 
-/// A merge: 1, 2, 4, 5, 6, 7, 8, 9.
+/// A merge: 1, 2, 4, 5, 6, 7, 10, 8, 9.
 /// "What a merge reads must be sound within the arena below the next free address: the check run
 /// on that part of the arena says exactly that" (DECIDED 20).
 pub fn merge(
@@ -185,21 +214,20 @@ pub fn merge(
         let mut children = page_children(below, left)?;
         children.extend(page_children(below, right)?);
         let lent: Vec<Child> = children.iter().map(|(key, pid)| Child { key, pid: *pid }).collect();
+        index_keys_ok(&bounds, &lent)?;
+        meet_ok(l.hi(below), r.lo(below))?;
         index_fits(arena.len(), next, &bounds, &lent)?;
         Ok(Merged::Index { sibling, lo, hi, children })
     } else {
         // A crafted sound page can stand for more records than memory holds (heads may share
-        // their old versions), so the records are counted first; 6 and 7 need each key's first
+        // their old versions), so the records are counted first; 6, 7 and 10 need each key's first
         // and last record only, and still come before 8.
         let many = count(below, left)? + count(below, right)? > MAX_ENTRIES as u64;
         let mut items = page_items(below, left, many)?;
         items.extend(page_items(below, right, many)?);
-        if many {
-            leaf_order_ok(&items)?;
-            let prefix = image::prefix(&lo, &hi);
-            refuse_if(items.iter().any(|i| !i.key.starts_with(prefix)), WRONG_PREFIX)?;
-            return Err(TOO_BIG);
-        }
+        leaf_keys_ok(&bounds, &items)?;
+        meet_ok(l.hi(below), r.lo(below))?;
+        refuse_if(many, TOO_BIG)?;
         leaf_fits(arena.len(), next, limit, budget, &bounds, &items)?;
         Ok(Merged::Leaf { sibling, lo, hi, items })
     }

@@ -4,7 +4,7 @@
 
 use std::cmp::Ordering;
 
-use crate::answer::{Found, Step, What};
+use crate::answer::{Bounds, Found, Step, What};
 use crate::judge::{BAD_FRAME, MAX_KEY, MAX_VALUE, Number};
 
 /// `Err(4)` unless the byte read is as laid out.
@@ -127,6 +127,10 @@ impl Page {
 
     pub fn prefix<'a>(&self, arena: &'a [u8]) -> &'a [u8] {
         &self.lo(arena)[..self.prefix_len]
+    }
+
+    fn bounds<'a>(&self, arena: &'a [u8]) -> Bounds<'a> {
+        Bounds { sibling: self.sibling, lo: self.lo(arena), hi: self.hi(arena) }
     }
 }
 
@@ -444,13 +448,26 @@ fn hint_counts(arena: &[u8], page: &Page) -> Result<Option<(usize, usize)>, Numb
     Ok(Some((histories, remotes)))
 }
 
+/// Order 4: "each key between", as a whole key. The judgement of one key by its rest; one buffer serves them all.
+fn between(arena: &[u8], page: &Page) -> impl FnMut(&[u8]) -> Result<(), Number> {
+    let (bounds, prefix_len) = (page.bounds(arena), page.prefix_len);
+    let mut key = page.prefix(arena).to_vec();
+    move |rest| {
+        key.truncate(prefix_len);
+        key.extend(rest);
+        laid_out(bounds.hold(&key))
+    }
+}
+
 fn sound_leaf(arena: &[u8], page: &Page) -> Result<(), Number> {
     let mut before: Option<&[u8]> = None;
     let mut many = false;
     let mut last = None;
+    let mut between = between(arena, page);
     gapless(arena, page, |pos| {
         let record = leaf_record(arena, page, pos)?;
         laid_out(before.is_none_or(|b| b < record.rest))?;
+        between(record.rest)?;
         before = Some(record.rest);
         resolve(arena, &record.value)?;
         if let Some(h) = &record.value.history {
@@ -467,17 +484,21 @@ fn sound_leaf(arena: &[u8], page: &Page) -> Result<(), Number> {
 
 fn sound_index(arena: &[u8], page: &Page) -> Result<(), Number> {
     let mut before: Option<&[u8]> = None;
+    let mut between = between(arena, page);
     gapless(arena, page, |pos| {
         let (rest, _, end) = index_record(arena, page, pos)?;
         laid_out(before.is_none_or(|b| b < rest))?;
+        between(rest)?;
         before = Some(rest);
         Ok(end)
     })
 }
 
-/// "A check call says so or 4." It takes leaf and index pages (DECIDED 24).
+/// "A check call says so or 4." It takes leaf and index pages (DECIDED 24). Order 4: "Sound frames keep
+/// the same rule", here and nowhere else; the bytes of lo and hi are no fields of the header.
 pub fn check(arena: &[u8], addr: u64) -> Result<(), Number> {
     let page = page(arena, addr)?;
+    laid_out(page.bounds(arena).rise())?;
     if page.is_index() { sound_index(arena, &page) } else { sound_leaf(arena, &page) }
 }
 

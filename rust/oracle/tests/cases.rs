@@ -1,5 +1,6 @@
 //! Document 01's cases by number, as the Rust and the model both give them.
 
+use oracle::Ver;
 use oracle::answer::{Bounds, Built, Found, Stamp, Step, What};
 use oracle::arena::Arena;
 use oracle::both::Both;
@@ -239,6 +240,135 @@ fn p13_other_prefix() {
     let built = both.leaf(8, 64, 256, &STAMP, &bounds, &list).unwrap();
     assert_eq!(both.search(built.addr, &[0xfe, 0xd4]), Ok((None, 0)));
     assert!(both.search(built.addr, &[0, 0xd4]).unwrap().0.is_some());
+}
+
+/// Order 4's worked table: lo, hi, keys, and what a leaf and an index page of them answer, each key with (1, 0) `v` or page id 1.
+#[test]
+fn keys_between_the_boundaries() {
+    type Worked =
+        (&'static [u8], &'static [u8], &'static [&'static [u8]], usize, [Result<u64, u8>; 2]);
+    let none: &[&[u8]] = &[];
+    // the next free address where the table gives it, else 0
+    let worked: [Worked; 18] = [
+        (b"d", b"h", &[b"d"], 4096, [Ok(112), Ok(96)]),
+        (b"d", b"h", &[b"gzz"], 4096, [Ok(0), Ok(0)]),
+        (b"d", b"h", &[b"h"], 4096, [Err(10), Err(10)]),
+        (b"d", b"h", &[b"czz"], 4096, [Err(10), Err(10)]),
+        (b"d", b"", &[b"czz"], 4096, [Err(10), Err(10)]),
+        (b"h", b"d", none, 4096, [Err(10), Err(10)]),
+        (b"d", b"d", none, 4096, [Err(10), Err(10)]),
+        (b"da", b"dc", &[b"d"], 4096, [Err(10), Err(10)]),
+        (b"da", b"dc", &[b"dc"], 4096, [Err(10), Err(10)]),
+        (b"da", b"dc", &[b"x"], 4096, [Err(7), Err(7)]),
+        (b"d", b"h", &[b"x", b"e"], 4096, [Err(6), Err(6)]),
+        (b"", b"h", &[b""], 4096, [Ok(0), Ok(0)]),
+        (b"d", b"h", &[b"h"], 8, [Err(10), Err(10)]),
+        (b"d", b"h", &[b"e"], 8, [Err(9), Err(9)]),
+        // beside the table: no boundaries hold every key, and lower numbers come first
+        (b"", b"", &[b"", b"\xff"], 4096, [Ok(0), Ok(0)]),
+        (b"d", b"h", &[b"h", b"h"], 4096, [Err(6), Err(6)]),
+        (b"da", b"da", &[b"x"], 4096, [Err(7), Err(7)]),
+        (b"da", b"da", &[b"da"], 4096, [Err(10), Err(10)]),
+    ];
+    for (lo, hi, keys, len, expected) in worked {
+        let bounds = Bounds { sibling: 0, lo, hi };
+        let rows: Vec<Row> = keys.iter().map(|key| row(key, 1, 0, b"v")).collect();
+        let children: Vec<_> = keys.iter().map(|key| (key.to_vec(), 1)).collect();
+        let (mut page, mut tree) = (arena(len), arena(len));
+        let built = [
+            page.leaf(8, 64, 256, &Stamp::default(), &bounds, &list_of(&rows)),
+            tree.index(8, &Stamp::default(), &bounds, &index_list_of(&children)),
+        ];
+        for (built, expected) in built.into_iter().zip(expected) {
+            let about = format!("{lo:?} {hi:?} {keys:?}");
+            match expected {
+                Ok(0) => assert_eq!(built.map(|b| b.addr), Ok(8), "{about}"),
+                _ => assert_eq!(built, expected.map(|next| Built { addr: 8, next }), "{about}"),
+            }
+        }
+        for both in [page, tree].iter_mut().filter(|_| expected[0].is_ok()) {
+            assert_eq!(both.check(8), Ok(()));
+        }
+    }
+    // "hi is nonempty and lo is not below it" comes before 8 and 9, whatever the entries are
+    let many: Vec<Row> = (0..65_536u64).map(|i| row(b"d", 65_536 - i, 0, b"")).collect();
+    let bounds = Bounds { sibling: 0, lo: b"d", hi: b"d" };
+    assert_eq!(judge::leaf(8, 8, 64, 256, &bounds, &list_of(&many)), Err(10));
+}
+
+/// Order 4's merges: A `d`..`h`, B `h`..`p`, C `p`..none, E `h`..`p` without keys, N without boundaries or keys.
+#[test]
+fn merges_of_neighbours() {
+    let mut both = arena(4096);
+    let mut next = 8;
+    let mut page = |lo: &[u8], hi: &[u8], rows: &[Row]| {
+        let bounds = Bounds { sibling: 0, lo, hi };
+        let built = both.leaf(next, 64, 256, &Stamp::default(), &bounds, &list_of(rows)).unwrap();
+        next = built.next;
+        built.addr
+    };
+    let a = page(b"d", b"h", &[row(b"e", 1, 0, b"v")]);
+    let b = page(b"h", b"p", &[row(b"i", 1, 0, b"v")]);
+    let c = page(b"p", b"", &[row(b"q", 1, 0, b"v")]);
+    let e = page(b"h", b"p", &[]);
+    let n = page(b"", b"", &[]);
+    assert_eq!(next, 472);
+    let mut merge = |left, right| both.merge(472, 64, 256, &Stamp::default(), left, right);
+    assert_eq!(merge(a, b), Ok(Built { addr: 472, next: 600 }));
+    assert_eq!(merge(a, e).map(|built| built.addr), Ok(472));
+    assert_eq!(merge(b, c).map(|built| built.addr), Ok(472));
+    for (left, right, number) in
+        [(a, c, 10), (b, a, 6), (e, a, 7), (c, n, 10), (n, n, 10), (e, e, 10), (a, a, 6)]
+    {
+        assert_eq!(merge(left, right), Err(number), "{left} {right}");
+    }
+}
+
+/// A page from before order 4, as the Rust builds it: lo `d`, no hi, key `c`. The check and a merge say 4; every other reader answers
+/// as the Rust does, which judges nothing.
+#[test]
+fn a_page_from_before_order_4() {
+    let mut arena = Arena::new(4096, 0);
+    let (before, right) = (Bounds { lo: b"d", ..NONE }, Bounds { lo: b"d", hi: b"h", sibling: 0 });
+    let old = list::Entry { key: b"c", txid: 1, cmd: 0, value: b"v" };
+    let page = arena.build_leaf(8, 64, 256, &STAMP, &before, &[old]);
+    let tree = arena.build_index(page.next, &STAMP, &before, &[list::Child { key: b"c", pid: 1 }]);
+    let neighbour = arena.build_leaf(tree.next, 64, 256, &STAMP, &right, &[]);
+    let bytes = arena.bytes();
+    assert_eq!(model::check(bytes, page.addr), Err(4));
+    assert_eq!(model::check(bytes, tree.addr), Err(4));
+    for (left, right) in [(page, neighbour), (neighbour, page), (tree, tree), (page, tree)] {
+        let merged = judge::merge(bytes, neighbour.next, 64, 256, left.addr, right.addr);
+        assert_eq!(merged.err(), Some(4));
+    }
+    let found = Found { pos: 0, txid: 1, cmd: 0, value: b"v" };
+    let (by_rust, of_tree) = (arena.leaf_page(page.addr), arena.index_page(tree.addr));
+    assert_eq!(model::search(bytes, page.addr, b"c"), Ok((Some(found), 1)));
+    assert_eq!(by_rust.find(b"c"), (Some(found), 1));
+    assert_eq!(model::as_of(bytes, page.addr, b"c", 1, 0), Ok((Some(found), 1)));
+    for probe in [&b""[..], b"c", b"ca", b"d", b"x"] {
+        let mut reads = 0u32;
+        let pos = by_rust.lower_bound(probe, Ver::new(1, 0), &mut reads);
+        assert_eq!(model::lower_bound(bytes, page.addr, probe, 1, 0), Ok((pos, reads)));
+        let mut reads = 0u32;
+        let floor = of_tree.floor(probe, &mut reads);
+        assert_eq!(model::floor(bytes, tree.addr, probe), Ok((floor, reads)));
+    }
+    assert_eq!(model::lo(bytes, page.addr), Ok(&b"d"[..]));
+    assert_eq!(model::hi(bytes, page.addr), Ok(None));
+    assert_eq!(model::prefix(bytes, page.addr), Ok(&b""[..]));
+    let (step, _) = model::Walk::forward(bytes, page.addr, 0, 1).unwrap().step().unwrap().unwrap();
+    assert_eq!(step, by_rust.steps(0, 1)[0]);
+    let mut laid = crate::arena(128);
+    let new = list::Entry { key: b"x", txid: 1, cmd: 0, value: b"new" };
+    let delta = laid.leaf_delta(8, 64, &STAMP, &new).unwrap().addr;
+    let overlay = model::overlay(bytes, page.addr, laid.arena.bytes(), delta, b"c");
+    assert_eq!(overlay, Ok(model::Laid::Page(b"v")));
+    // the page is outside the domain of equality now
+    let mut both = Both::new(Arena::from_bytes(bytes));
+    assert_eq!(both.search(page.addr, b"c"), Ok((Some(found), 1)));
+    assert_eq!(both.walk(page.addr, 0, 1).1, None);
+    assert_eq!((both.asked.both, both.asked.model_alone), (0, 2));
 }
 
 #[test]

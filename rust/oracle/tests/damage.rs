@@ -32,8 +32,12 @@ fn every_kind() -> (Vec<u8>, Vec<u64>) {
             &index_list_of(&[(b"pa".to_vec(), 1), (b"pb".to_vec(), 2)]),
         )
         .unwrap();
+    // a neighbour, so that a merge may be accepted
+    let right = Bounds { sibling: 0, lo: b"pz", hi: b"" };
+    let row = [row(b"pz", 9, 5, b"right")];
+    let neighbour = both.leaf(index.next, 64, 256, &STAMP, &right, &list_of(&row)).unwrap();
     let e = Entry { key: b"pa", txid: 9, cmd: 5, value: b"remote" };
-    let delta = both.leaf_delta(index.next, 4, &STAMP, &e).unwrap();
+    let delta = both.leaf_delta(neighbour.next, 4, &STAMP, &e).unwrap();
     let tree = both.index_delta(delta.next, &STAMP, &Child { key: b"pa", pid: 5 }).unwrap();
     let bytes = both.arena.bytes()[..tree.next as usize].to_vec();
     let all = (0..bytes.len() as u64 + 16).step_by(8).collect();
@@ -97,8 +101,12 @@ fn many_bytes_damaged() {
     let (bytes, all) = every_kind();
     let frames = frames(&bytes, &all);
     let mut rng = Prng::new(5);
+    let pages: Vec<u64> =
+        frames.iter().copied().filter(|&addr| model::page(&bytes, addr).is_ok()).collect();
+    let mut merged = 0;
     for _ in 0..4000 {
-        let mut both = Both::new(Arena::from_bytes(&bytes));
+        let room = vec![0; 1024];
+        let mut both = Both::new(Arena::from_bytes(&[&bytes[..], &room].concat()));
         for _ in 0..rng.between(1, 6) {
             let at = rng.below(bytes.len());
             both.arena.bytes_mut()[at] = match rng.below(3) {
@@ -109,9 +117,11 @@ fn many_bytes_damaged() {
             };
         }
         read_everything(&mut both, &frames);
-        let (left, right) = (rng.pick(&frames), rng.pick(&frames));
-        let _ = both.merge(bytes.len() as u64, 64, 256, &STAMP, left, right);
+        let (left, right) = (rng.pick(&pages), rng.pick(&pages));
+        let answer = both.merge(bytes.len() as u64, 64, 256, &STAMP, left, right);
+        merged += usize::from(answer.is_ok());
     }
+    assert!(merged > 100, "{merged} merges of damaged pages that are still sound");
 }
 
 #[test]

@@ -1,5 +1,7 @@
 //! The model and the Rust on random inputs: `Both` panics where they differ.
 
+use std::collections::BTreeMap;
+
 use oracle::answer::{Bounds, Stamp};
 use oracle::arena::Arena;
 use oracle::both::Both;
@@ -76,7 +78,7 @@ fn leaves() {
         let prefix = sample::prefix(&mut rng);
         let (lo, hi) = sample::bounds(&mut rng, &prefix);
         let count = rng.below(20);
-        let keys = sample::keys(&mut rng, &prefix, count);
+        let keys = sample::keys_between(&mut rng, &lo, &hi, count);
         let limit = limit(&mut rng);
         let most = rng.pick(&[2, 5, 30]);
         let rows = sample::rows(&mut rng, &keys, most, limit);
@@ -95,24 +97,28 @@ fn indexes() {
         let prefix = sample::prefix(&mut rng);
         let (lo, hi) = sample::bounds(&mut rng, &prefix);
         let count = rng.below(40);
-        let keys = sample::keys(&mut rng, &prefix, count);
+        let keys = sample::keys_between(&mut rng, &lo, &hi, count);
         let children: Vec<_> = keys.iter().map(|k| (k.clone(), rng.number())).collect();
         let mut both = Both::new(Arena::new(1 << 17, rng.number() as u8));
         let bounds = Bounds { sibling: rng.number(), lo: &lo, hi: &hi };
         let stamp = stamp(&mut rng);
         let built = both.index(8, &stamp, &bounds, &index_list_of(&children)).unwrap();
         read_all(&mut both, &mut rng, built.addr, &prefix, &keys);
-        // and merged with a second part, which may be in order or not
-        let right: Vec<_> =
-            sample::keys(&mut rng, &prefix, 3).into_iter().map(|k| (k, 1)).collect();
-        let other =
-            both.index(built.next, &stamp, &Bounds::default(), &index_list_of(&right)).unwrap();
+        // and merged with a second page, whose boundaries mostly meet the first one's
+        let right_lo = if rng.once_in(4) { sample::rest(&mut rng) } else { hi.clone() };
+        let bounds = Bounds { sibling: 2, lo: &right_lo, hi: &[] };
+        let right = sample::keys_between(&mut rng, &right_lo, &[], 3);
+        let children: Vec<_> = right.iter().map(|k| (k.clone(), 1)).collect();
+        let other = both.index(built.next, &stamp, &bounds, &index_list_of(&children)).unwrap();
         let merged = both.merge(other.next, 64, 256, &stamp, built.addr, other.addr);
-        let in_order = match (keys.last(), right.first()) {
-            (Some(a), Some((b, _))) => a < b,
-            _ => true,
-        };
-        assert_eq!(merged.is_ok(), in_order);
+        if !hi.is_empty() && right_lo == hi {
+            let keys = [keys, right].concat();
+            read_all(&mut both, &mut rng, merged.unwrap().addr, &prefix, &keys);
+        } else {
+            // no key can be without the prefix: the new page has no hi
+            let in_order = keys.last().is_none_or(|last| *last < right[0]);
+            assert_eq!(merged, Err(if in_order { 10 } else { 6 }));
+        }
     }
 }
 
@@ -123,29 +129,17 @@ fn merges() {
         let prefix = sample::prefix(&mut rng);
         let (lo, hi) = sample::bounds(&mut rng, &prefix);
         let count = rng.between(1, 12);
-        let keys = sample::keys(&mut rng, &prefix, count);
+        let keys = sample::keys_between(&mut rng, &lo, &hi, count);
         let limits = [limit(&mut rng), limit(&mut rng), limit(&mut rng)];
-        // cut at any row: also inside the versions of one key
-        let mut rows = sample::rows(&mut rng, &keys, 6, limits[0]);
-        let cut = rng.below(rows.len() + 1);
-        let right_rows = rows.split_off(cut);
+        let rows = sample::rows(&mut rng, &keys, 6, limits[0]);
+        let cuts = sample::cuts(&mut rng, &lo, &hi, &keys, 1);
+        let sides = sample::parted(&lo, &hi, &cuts, &rows, |row| &row.key);
         let mut both = Both::new(Arena::new(1 << 18, rng.number() as u8));
-        let left = leaf(
-            &mut both,
-            &mut rng,
-            8,
-            limits[0],
-            &Bounds { sibling: 1, lo: &lo, hi: &[] },
-            &rows,
-        );
-        let right = leaf(
-            &mut both,
-            &mut rng,
-            left.next,
-            limits[1],
-            &Bounds { sibling: 2, lo: &[], hi: &hi },
-            &right_rows,
-        );
+        let [(llo, lhi, left), (rlo, rhi, right)] = &sides[..] else { panic!("not one cut") };
+        let bounds = Bounds { sibling: 1, lo: llo, hi: lhi };
+        let left = leaf(&mut both, &mut rng, 8, limits[0], &bounds, left);
+        let bounds = Bounds { sibling: 2, lo: rlo, hi: rhi };
+        let right = leaf(&mut both, &mut rng, left.next, limits[1], &bounds, right);
         let (budget, stamp) = (budget(&mut rng), stamp(&mut rng));
         let built = both
             .merge(right.next, limits[2] as u64, budget, &stamp, left.addr, right.addr)
@@ -155,20 +149,96 @@ fn merges() {
         assert_eq!(both.check(left.addr), Ok(()));
         assert_eq!(both.check(right.addr), Ok(()));
         // a merge of the merged page with an empty one, at another limit
-        let empty = both
-            .leaf(
-                built.next,
-                64,
-                256,
-                &stamp,
-                &Bounds { sibling: 2, lo: &[], hi: &hi },
-                &list_of(&[]),
-            )
-            .unwrap();
-        let again = both
-            .merge(empty.next, limit(&mut rng) as u64, 300, &stamp, built.addr, empty.addr)
-            .unwrap();
-        read_all(&mut both, &mut rng, again.addr, &prefix, &keys);
+        let bounds = Bounds { sibling: 2, lo: &hi, hi: &[] };
+        let empty = both.leaf(built.next, 64, 256, &stamp, &bounds, &list_of(&[])).unwrap();
+        let limit = limit(&mut rng) as u64;
+        let again = both.merge(empty.next, limit, 300, &stamp, built.addr, empty.addr);
+        if hi.is_empty() {
+            assert_eq!(again, Err(10));
+        } else {
+            read_all(&mut both, &mut rng, again.unwrap().addr, &prefix, &keys);
+        }
+    }
+}
+
+/// Order 4 refuses what the sampler makes outside on purpose, with 10 and no other number, leaf and index page alike.
+#[test]
+fn refused_outside() {
+    let mut rng = Prng::new(7);
+    let (mut keys_refused, mut bounds_refused) = (0, 0);
+    for _ in 0..1500 {
+        let prefix = sample::prefix(&mut rng);
+        let (lo, hi) = sample::bounds(&mut rng, &prefix);
+        let count = rng.below(6);
+        let mut keys = sample::keys_between(&mut rng, &lo, &hi, count);
+        let stamp = stamp(&mut rng);
+        let mut both = Both::new(Arena::new(1 << 15, 1));
+        let mut number = |lo: &[u8], hi: &[u8], keys: &[Vec<u8>]| {
+            let bounds = Bounds { sibling: 0, lo, hi };
+            let rows = sample::rows(&mut rng, keys, 3, 8);
+            let children: Vec<_> = keys.iter().map(|k| (k.clone(), 1)).collect();
+            let before = both.asked.both;
+            let leaf = both.leaf(8, 8, 256, &stamp, &bounds, &list_of(&rows)).err();
+            let index = both.index(8, &stamp, &bounds, &index_list_of(&children)).err();
+            assert_eq!(leaf, index);
+            // what is refused the Rust is not asked about
+            assert_eq!(both.asked.both - before, if leaf.is_none() { 2 } else { 0 });
+            leaf
+        };
+        assert_eq!(number(&lo, &hi, &keys), None);
+        let mut again = Prng::new(count as u64);
+        if let Some((lo, hi)) = sample::bounds_fallen(&mut again, &lo, &hi) {
+            assert_eq!(number(&lo, &hi, &[]), Some(10));
+            bounds_refused += 1;
+        }
+        if let Some(key) = sample::key_outside(&mut again, &lo, &hi) {
+            keys.push(key);
+            keys.sort();
+            assert_eq!(number(&lo, &hi, &keys), Some(10));
+            keys_refused += 1;
+        }
+    }
+    assert!(keys_refused > 1000 && bounds_refused > 1000, "{keys_refused} {bounds_refused}");
+}
+
+/// The sampler makes each kind of place for a key and of boundaries, and often enough.
+#[test]
+fn the_sampler_meets_the_boundaries() {
+    let mut rng = Prng::new(8);
+    let mut kinds = BTreeMap::<&str, usize>::new();
+    let mut met =
+        |all: &[&'static str]| all.iter().for_each(|kind| *kinds.entry(kind).or_default() += 1);
+    for _ in 0..2000 {
+        let prefix = sample::prefix(&mut rng);
+        let (lo, hi) = sample::bounds(&mut rng, &prefix);
+        let keys = sample::keys_between(&mut rng, &lo, &hi, 6);
+        let bounds = Bounds { sibling: 0, lo: &lo, hi: &hi };
+        assert!(bounds.rise() && keys.iter().all(|key| bounds.hold(key)));
+        met(&sample::lies(&lo, &hi, &keys));
+        if let Some(key) = sample::key_outside(&mut rng, &lo, &hi) {
+            assert!(!bounds.hold(&key));
+            met(&sample::lies(&lo, &hi, &[key])[1..]);
+        }
+        if let Some((lo, hi)) = sample::bounds_fallen(&mut rng, &lo, &hi) {
+            assert!(!Bounds { sibling: 0, lo: &lo, hi: &hi }.rise());
+            met(&sample::lies(&lo, &hi, &[]));
+        }
+        let cuts = sample::cuts(&mut rng, &lo, &hi, &keys, 2);
+        let sides = sample::parted(&lo, &hi, &cuts, &keys, |key| key);
+        assert!(sides.windows(2).all(|two| two[0].1 == two[1].0 && !two[0].1.is_empty()));
+        assert!(sides.iter().flat_map(|side| side.2.clone()).eq(keys.clone()));
+        met(if cuts.len() == 2 { &["three sides"] } else { &["two sides"] });
+        for side in &sides {
+            met(if side.2.is_empty() { &["an empty side"] } else { &["a side with keys"] });
+        }
+        for cut in &cuts {
+            met(if keys.contains(cut) { &["a cut at a key"] } else { &["a cut between keys"] });
+        }
+    }
+    // seven ways that boundaries lie, five of keys inside and five outside, six of sides and cuts
+    assert_eq!(kinds.len(), 23, "{kinds:?}");
+    for (kind, times) in kinds {
+        assert!(times >= if kind == "two sides" { 10 } else { 40 }, "{kind}: {times} times");
     }
 }
 
@@ -179,7 +249,7 @@ fn deltas_and_overlays() {
         let prefix = sample::prefix(&mut rng);
         let (lo, hi) = sample::bounds(&mut rng, &prefix);
         let count = rng.below(6);
-        let keys = sample::keys(&mut rng, &prefix, count);
+        let keys = sample::keys_between(&mut rng, &lo, &hi, count);
         let limit = limit(&mut rng);
         let rows = sample::rows(&mut rng, &keys, 3, limit);
         let mut page = Both::new(Arena::new(1 << 17, 3));

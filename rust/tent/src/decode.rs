@@ -295,6 +295,33 @@ impl Base {
     }
 }
 
+// ---- boundaries
+
+/// A page's boundaries. An empty hi is none.
+#[derive(Clone, Copy, Debug)]
+pub struct Edges<'a> {
+    pub lo: &'a [u8],
+    pub hi: &'a [u8],
+}
+
+impl Edges<'_> {
+    /// Whether lo is below hi.
+    pub fn rise(&self) -> bool {
+        self.hi.is_empty() || self.lo < self.hi
+    }
+
+    /// On which side of the boundaries a whole key lies, nothing where it lies between them.
+    pub fn outside(&self, key: &[u8]) -> Option<&'static str> {
+        if key < self.lo {
+            Some("below lo")
+        } else if !self.hi.is_empty() && key >= self.hi {
+            Some("not below hi")
+        } else {
+            None
+        }
+    }
+}
+
 // ---- records
 
 #[derive(Clone, Copy, Debug, PartialEq, Eq, PartialOrd, Ord)]

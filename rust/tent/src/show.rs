@@ -80,6 +80,13 @@ pub fn frame(arena: &[u8], addr: u64, look: Look) -> Shown {
     Shown { text, verdict, faults, lines, answers }
 }
 
+/// What a page says of all its keys: the bytes that stand before each, and what they lie between, where that can be told.
+#[derive(Clone, Copy)]
+struct Keys<'k> {
+    prefix: &'k [u8],
+    edges: Option<Edges<'k>>,
+}
+
 /// A history page that was judged: its records, those that can be read.
 struct Old<'a> {
     addr: u64,
@@ -274,10 +281,20 @@ impl<'a> Teller<'a> {
             };
             self.say(2, format!("{name:<8}{words}"));
         }
+        // where the header's faults leave no boundaries, or no key can lie between them, the keys are not held against them
+        let mut edges = match (lo, hi) {
+            (Some(lo), Some(hi)) if base.prefix_len <= lo.len() => Some(Edges { lo, hi }),
+            _ => None,
+        };
+        if edges.is_some_and(|edges| !edges.rise()) {
+            self.mark(2, Fault { at: page.place(from), words: "lo is not below hi".into() });
+            edges = None;
+        }
+        let keys = Keys { prefix, edges };
         let end = if frame.node_type == INDEX {
-            self.children(&page, &base, prefix)
+            self.children(&page, &base, keys)
         } else {
-            self.heads(&page, &base, prefix)
+            self.heads(&page, &base, keys)
         };
         if let Some(end) = end.filter(|&end| end <= page.bytes.len()) {
             self.unused(1, "unused tail", page.place(end), &page.bytes[end..]);
@@ -334,12 +351,12 @@ impl<'a> Teller<'a> {
         expected
     }
 
-    fn children(&mut self, page: &Part<'a>, base: &Base, prefix: &[u8]) -> Option<usize> {
+    fn children(&mut self, page: &Part<'a>, base: &Base, keys: Keys) -> Option<usize> {
         self.say(1, format!("keys: {}", base.elems));
         let mut before: Option<&[u8]> = None;
         self.slots(page, base, |t, pos, at| {
             let (rest, pid, end) = t.keep(2, index_record(page, at, base.prefix_len))?;
-            let key = [prefix, rest].concat();
+            let key = [keys.prefix, rest].concat();
             t.say(
                 2,
                 format!(
@@ -349,6 +366,7 @@ impl<'a> Teller<'a> {
                 ),
             );
             t.rising(page.place(at), &mut before, rest);
+            t.between(page.place(at), keys.edges, &key);
             t.lines.push(Line { key, what: What::Child(pid) });
             Some(end)
         })
@@ -362,14 +380,23 @@ impl<'a> Teller<'a> {
         *before = Some(rest);
     }
 
-    fn heads(&mut self, page: &Part<'a>, base: &Base, prefix: &[u8]) -> Option<usize> {
+    /// Each key is lo or above it, and below hi.
+    fn between(&mut self, at: usize, edges: Option<Edges>, key: &[u8]) {
+        if let Some(side) = edges.and_then(|edges| edges.outside(key)) {
+            let words = format!("key {} is outside the boundaries: {side}", self.key(key));
+            self.mark(3, Fault { at, words });
+        }
+    }
+
+    fn heads(&mut self, page: &Part<'a>, base: &Base, keys: Keys) -> Option<usize> {
         self.say(1, format!("keys: {}", base.elems));
         let (mut before, mut many, mut all) = (None, false, 0);
         let end = self.slots(page, base, |t, pos, at| {
             let (rest, version, from) = t.keep(2, leaf_key(page, at, base.prefix_len))?;
-            let key = [prefix, rest].concat();
+            let key = [keys.prefix, rest].concat();
             t.say(2, format!("slot {pos}, record at {}: key {}", page.place(at), t.key(&key)));
             t.rising(page.place(at), &mut before, rest);
+            t.between(page.place(at), keys.edges, &key);
             let value = t.keep(3, value(page, from, true))?;
             all += 1;
             t.open = t.look.as_of;

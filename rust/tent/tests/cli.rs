@@ -220,6 +220,48 @@ fn ranges_backward_and_merges() {
     assert!(f.ok(&["check", "i"]).starts_with("sound: index page"));
 }
 
+/// Order 4: neighbours meet at a boundary; a page that leaves a gap, one without hi and the wrong way round are refused, by number.
+#[test]
+fn only_neighbours_merge() {
+    let f = Folder::new("neighbours");
+    let page = |name: &str, rows: &str, bounds: &[&str]| {
+        f.write(name, rows);
+        f.ok(&[&["make", "a", name], bounds].concat());
+        last_page(&f)
+    };
+    // order 4's A, B, C, E and N
+    let a = page("A.csv", "e,1,v\n", &["--lo", "d", "--hi", "h"]);
+    let b = page("B.csv", "i,1,v\n", &["--lo", "h", "--hi", "p"]);
+    let c = page("C.csv", "q,1,v\n", &["--lo", "p"]);
+    let e = page("E.csv", "", &["--lo", "h", "--hi", "p"]);
+    let n = page("N.csv", "", &[]);
+    for (left, right) in [(&a, &c), (&c, &n), (&n, &n), (&e, &e)] {
+        f.stops(10, "boundaries do not meet", &["merge", "a", left, right]);
+    }
+    f.stops(6, "out of order", &["merge", "a", &b, &a]);
+    f.stops(6, "out of order", &["merge", "a", &a, &a]);
+    f.stops(7, "wrong prefix", &["merge", "a", &e, &a]);
+    assert_eq!(f.ok(&["merge", "a", &a, &b]), "page 472 next 600\n");
+    assert_eq!(f.ok(&["list", "a"]), "e,1,v\ni,1,v\n");
+    f.ok(&["merge", "a", &a, &e]);
+    f.ok(&["merge", "a", &b, &c]);
+    assert_eq!(f.ok(&["list", "a"]), "i,1,v\nq,1,v\n");
+}
+
+/// Order 4: a page from before it, whose first key is below its lo, is told as damaged, and its row is still found.
+#[test]
+fn a_key_below_lo_is_told_in_words() {
+    let f = Folder::new("below");
+    f.write("rows.csv", "c,1,v\n");
+    f.ok(&["make", "a", "rows.csv", "--lo", "c", "--size", "112"]);
+    let mut bytes = f.read("a");
+    bytes[84] = b'd';
+    f.write("a", &bytes);
+    f.stops(4, "key \"c\" 63 is outside the boundaries: below lo", &["check", "a"]);
+    assert_eq!(f.ok(&["get", "a", "c"]), "c,1,v\n");
+    assert_eq!(f.ok(&["list", "a"]), "c,1,v\n");
+}
+
 /// The address of the last page, as `check` tells it.
 fn last_page(f: &Folder) -> String {
     let said = f.ok(&["check", "a"]);
@@ -311,6 +353,11 @@ fn every_refusal_by_number_changes_nothing() {
     f.stops(7, "wrong prefix", &["make", "a", "falling.csv", "--lo", "ba", "--hi", "bd"]);
     // a key from elsewhere is a key that is not there
     f.stops(32, "none", &["get", "a", "xa"]);
+    f.stops(10, "refused 10, outside", &["make", "a", "rows.csv", "--lo", "bb"]);
+    f.stops(10, "outside", &["make", "a", "rows.csv", "--lo", "ba", "--hi", "bc"]);
+    f.stops(10, "outside", &["make", "a", "rows.csv", "--lo", "x", "--hi", "b"]);
+    f.write("index-b.csv", "ba,1\n");
+    f.stops(10, "outside", &["make", "a", "index-b.csv", "--index", "--hi", "ba"]);
     f.write("many.csv", (0..65_536).map(|i| format!("k{i},1,\n")).collect::<String>());
     f.stops(8, "too big", &["make", "new", "many.csv"]);
     f.stops(9, "--size makes it longer", &["make", "a", "rows.csv"]);

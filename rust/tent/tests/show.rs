@@ -1,7 +1,7 @@
 //! The page printer is held against the proved library: it must say "sound" exactly where the check says 0, and print what the walk
 //! lists; on a sound page it must mark, as of a version, what the lookup answers. Pages come from the judge's vectors (built, merged, crafted and damaged ones) and from random damage to them.
 
-use cresttrestle::{Addr, Ver, View};
+use cresttrestle::{Addr, Arena, Bounds, Build, IndexList, PageId, RowList, Ver, View};
 use oracle::prng::Prng;
 use oracle::text;
 use std::path::Path;
@@ -287,6 +287,57 @@ fn damage_in_words() {
             "{words:?} is not in\n{}",
             shown.text
         );
+    }
+}
+
+/// Order 4 in words: a page `pc`..`pm` with keys `pc`, `pe`, `pl`, built by the library, its lo, hi or a key damaged. Nothing else is wrong,
+/// so these are all faults; where the boundaries do not rise, that is said once and not of each key.
+#[test]
+fn outside_in_words() {
+    let (mut rows, mut buffer, mut bytes) = (vec![0; 256], vec![0; 256], vec![0; 512]);
+    let (mut list, mut children) =
+        (RowList::lent(&mut rows).unwrap(), IndexList::lent(&mut buffer).unwrap());
+    for key in [b"pc", b"pe", b"pl"] {
+        list.push(key, Ver::new(9, 5), b"v").unwrap();
+        children.push(key, PageId::new(1)).unwrap();
+    }
+    let bounds = Bounds { lo: b"pc", hi: Some(b"pm"), sibling: None };
+    let mut arena = Arena::new(&mut bytes);
+    let leaf = arena.new_leaf(list.bytes(), bounds, Build::default()).unwrap().get();
+    let index = arena.new_intl(children.bytes(), bounds, Build::default()).unwrap().get();
+    // behind the headers and three slots: lo, hi, then the records; a key's rest is the byte behind its length, a leaf's behind its version too
+    for (page, rest, record) in [(leaf, 13, 20), (index, 1, 10)] {
+        let (lo, hi) = (page as usize + 84, page as usize + 86);
+        let first = hi + 2;
+        let key = |slot: usize| first + slot * record + rest;
+        let at = |slot: usize| first + slot * record;
+        let outside = |slot: usize, key: &str, hex: &str, side: &str| {
+            let at = at(slot);
+            format!("at {at} (0x{at:x}): key \"{key}\" {hex} is outside the boundaries: {side}")
+        };
+        let falls = format!("at {lo} (0x{lo:x}): lo is not below hi");
+        for (place, byte, faults) in [
+            (lo + 1, b'b', vec![]),
+            (lo + 1, b'd', vec![outside(0, "pc", "7063", "below lo")]),
+            (
+                lo + 1,
+                b'l',
+                vec![outside(0, "pc", "7063", "below lo"), outside(1, "pe", "7065", "below lo")],
+            ),
+            (lo + 1, b'm', vec![falls.clone()]),
+            (lo + 1, b'n', vec![falls.clone()]),
+            (hi + 1, b'n', vec![]),
+            (hi + 1, b'l', vec![outside(2, "pl", "706c", "not below hi")]),
+            (hi + 1, b'c', vec![falls.clone()]),
+            (key(0), b'b', vec![outside(0, "pb", "7062", "below lo")]),
+            (key(2), b'm', vec![outside(2, "pm", "706d", "not below hi")]),
+        ] {
+            let mut damaged = bytes.clone();
+            damaged[place] = byte;
+            assert_eq!(agree(&damaged, page), faults.is_empty());
+            let said = show::frame(&damaged, page, CUT).faults;
+            assert_eq!(said.iter().map(ToString::to_string).collect::<Vec<_>>(), faults);
+        }
     }
 }
 

@@ -1,12 +1,10 @@
-use native.Mathlib.Omega.{arith}
-use mathlib.Core.Path.{_≡_, refl, sym, ap, _∙_}
+use mathlib.Core.Path.{refl, sym, _∙_}
 use borrow.Author.Tests.{not-true, not-false}
-use Prim.Native.Nat.{ℕ}
 use denote.Ref.{now}
 use lib.Seq.{length-take-le}
 use Rattle.build_image.specs.Call.{callOf}
 use Rattle.base.specs.Calls.{boundsFrom}
-use Rattle.base.proofs.Calls.{next-ground, held, inside, bounds-are, list-bad, at-first, list-is, bounds-ok, sane, new-one, new-two, new-three, new-on}
+use Rattle.base.proofs.Calls.{next-ground, held, bounds-are, list-bad, at-first, list-is, bounds-ok, sane, new-one, new-two, new-three, new-on}
 use borrow.Author.Needs.{needs}
 use Rattle.base.proofs.new_leaf.Statement.{statement}
 use Rattle.base.proofs.new_leaf.Tie as tie
@@ -73,7 +71,7 @@ calc-prefix-requires : tie.Need-calc-prefix-requires
 calc-prefix-requires c κs = search needs
 
 build-leaf-requires : tie.Need-build-leaf-requires
-build-leaf-requires c κs = (next-ground _ _ _ (c .before .before .before .before .before .before .before .before .before .before .before .before .before .next-ok .ensures) (not-false _ (c .before .before .before .before .before .before .before .before .before .before .before .before .if2 .left)), (held (now (c .before .before .before .before .before .before .before .before .before .before .before .before .before .before .before .before .before .before .before .before .args .lo)) (now (c .before .before .before .before .before .before .before .before .before .before .before .before .before .before .before .before .before .before .before .before .args .hi)) _ _ _ _ _ (c .before .before .before .boundary-of .ensures) (c .before .before .boundary-of2 .ensures) (c .before .calc-prefix .ensures) _ (bounds-ok (c .before .before .before .before .before .before .before .before .before .before .before .before .before .before .before .before .before .before .before .before .args .limit) (c .before .before .before .before .before .before .before .before .before .before .before .before .before .before .before .before .before .before .before .before .args .budget) (now (c .before .before .before .before .before .before .before .before .before .before .before .before .before .before .before .before .before .before .before .before .args .lo)) (now (c .before .before .before .before .before .before .before .before .before .before .before .before .before .before .before .before .before .before .before .before .args .hi)) _ (c .before .before .before .before .before .before .before .before .before .before .before .before .before .before .before .limits-ok .ensures) (not-false _ (c .before .before .before .before .before .before .before .before .before .before .before .before .before .before .if1 .left))) refl, (inside (now (c .before .before .before .before .before .before .before .before .before .before .before .before .before .before .before .before .before .before .before .before .args .lo)) (now (c .before .before .before .before .before .before .before .before .before .before .before .before .before .before .before .before .before .before .before .before .args .hi)) _ _ _ _ _ (c .before .before .before .boundary-of .ensures) (c .before .before .boundary-of2 .ensures) (c .before .calc-prefix .ensures), rw (c .before .before .before .before .call-of .ensures) (sane (c .before .before .before .before .before .before .before .before .before .before .before .before .before .before .before .before .before .before .before .before .args .limit) (c .before .before .before .before .before .before .before .before .before .before .before .before .before .before .before .before .before .before .before .before .args .budget) (now (c .before .before .before .before .before .before .before .before .before .before .before .before .before .before .before .before .before .before .before .before .args .lo)) (now (c .before .before .before .before .before .before .before .before .before .before .before .before .before .before .before .before .before .before .before .before .args .hi)) _ (c .before .before .before .before .before .before .before .before .before .before .before .before .before .before .before .limits-ok .ensures) (not-false _ (c .before .before .before .before .before .before .before .before .before .before .before .before .before .before .if1 .left)) _ _ _))))
+build-leaf-requires c κs = (next-ground _ _ _ (c .before .before .before .before .before .before .before .before .before .before .before .before .before .next-ok .ensures) (not-false _ (c .before .before .before .before .before .before .before .before .before .before .before .before .if2 .left)), (held (now (c .before .before .before .before .before .before .before .before .before .before .before .before .before .before .before .before .before .before .before .before .args .lo)) (now (c .before .before .before .before .before .before .before .before .before .before .before .before .before .before .before .before .before .before .before .before .args .hi)) _ _ _ _ _ (c .before .before .before .boundary-of .ensures) (c .before .before .boundary-of2 .ensures) (c .before .calc-prefix .ensures) _ (bounds-ok (c .before .before .before .before .before .before .before .before .before .before .before .before .before .before .before .before .before .before .before .before .args .limit) (c .before .before .before .before .before .before .before .before .before .before .before .before .before .before .before .before .before .before .before .before .args .budget) (now (c .before .before .before .before .before .before .before .before .before .before .before .before .before .before .before .before .before .before .before .before .args .lo)) (now (c .before .before .before .before .before .before .before .before .before .before .before .before .before .before .before .before .before .before .before .before .args .hi)) _ (c .before .before .before .before .before .before .before .before .before .before .before .before .before .before .before .limits-ok .ensures) (not-false _ (c .before .before .before .before .before .before .before .before .before .before .before .before .before .before .if1 .left))) refl, rw (c .before .before .before .before .call-of .ensures) (sane (c .before .before .before .before .before .before .before .before .before .before .before .before .before .before .before .before .before .before .before .before .args .limit) (c .before .before .before .before .before .before .before .before .before .before .before .before .before .before .before .before .before .before .before .before .args .budget) (now (c .before .before .before .before .before .before .before .before .before .before .before .before .before .before .before .before .before .before .before .before .args .lo)) (now (c .before .before .before .before .before .before .before .before .before .before .before .before .before .before .before .before .before .before .before .before .args .hi)) _ (c .before .before .before .before .before .before .before .before .before .before .before .before .before .before .before .limits-ok .ensures) (not-false _ (c .before .before .before .before .before .before .before .before .before .before .before .before .before .before .if1 .left)) _ _ _)))
 
 same-length-2 : tie.Need-same-length-2
 same-length-2 c = search needs

@@ -1,15 +1,11 @@
-use borrow.Author.Needs.{needs}
+-- `build_table::build_index` meets its contract. Assumes nothing.
 use native.Mathlib.Omega.{arith}
-use mathlib.Core.Path.{_≡_, refl, sym, ap, _∙_}
+use mathlib.Core.Path.{sym}
 use lib.Seq.{length-take-le}
 use Rattle.build_table.proofs.Judging.{index-refused, index-ready, index-small, index-built}
+use borrow.Author.Needs.{needs}
 use Rattle.build_table.proofs.build_index.Statement.{statement}
 use Rattle.build_table.proofs.build_index.Tie as tie
-use Rattle.build_table.proofs.build_index.Reads as reads
-use Rattle.build_table.proofs.build_index.Lts as lts
-use Rattle.build_table.proofs.judge_index.Reads as judge-index-reads
-use Rattle.frames.proofs.frame_len.Reads as frame-len-reads
-use Rattle.build_index.proofs.write_index.Reads as write-index-reads
 
 slice-reshare-prefix-judge-index : tie.Need-slice-reshare-prefix-judge-index
 slice-reshare-prefix-judge-index c = c .before .before .before .before .pre .0
@@ -18,7 +14,7 @@ slice-aggregate-judge-index : tie.Need-slice-aggregate-judge-index
 slice-aggregate-judge-index c = sym (length-take-le _ _ (c .before .before .before .before .before .pre .0))
 
 judge-index-requires : tie.Need-judge-index-requires
-judge-index-requires c κs = (c .before .before .before .before .before .pre .1 .0, c .before .before .before .before .before .pre .0)
+judge-index-requires c κs = (c .before .before .before .before .before .pre .1, c .before .before .before .before .before .pre .0)
 
 enum-known-v : tie.Need-enum-known-v
 enum-known-v c = search needs
@@ -27,28 +23,28 @@ enum-known-v-2 : tie.Need-enum-known-v-2
 enum-known-v-2 c = search needs
 
 write-index-requires : tie.Need-write-index-requires
-write-index-requires c κs = index-ready _ _ _ _ (c .before .before .before .before .before .before .before .before .before .before .args .m) _ _ _ (c .before .before .before .before .before .before .before .before .before .before .pre .0) (c .before .before .before .before .before .before .before .before .before .before .pre .1 .0) (c .before .before .before .before .before .before .before .before .before .before .pre .1 .1) _ (c .before .before .before .before .judge-index .ensures) _ _ (c .before .before .v2 .given .1)
+write-index-requires c κs = index-ready _ _ _ _ (c .before .before .before .before .before .before .before .before .before .before .args .m) _ _ _ (c .before .before .before .before .before .before .before .before .before .before .pre .0) (c .before .before .before .before .before .before .before .before .before .before .pre .1) _ (c .before .before .before .before .judge-index .ensures) _ _ (c .before .before .v2 .given .1)
 
 cast-frame-len : tie.Need-cast-frame-len
-cast-frame-len c = let z = index-small _ _ _ _ (c .before .before .before .before .before .before .before .before .before .before .before .before .before .args .m) _ _ _ (c .before .before .before .before .before .before .before .before .before .before .before .before .before .pre .0) (c .before .before .before .before .before .before .before .before .before .before .before .before .before .pre .1 .0) (c .before .before .before .before .before .before .before .before .before .before .before .before .before .pre .1 .1) _ (c .before .before .before .before .before .before .before .judge-index .ensures) _ _ (c .before .before .before .before .before .v2 .given .1) in omega (arith, z)
+cast-frame-len c = let z = index-small _ _ _ _ (c .before .before .before .before .before .before .before .before .before .before .before .before .before .args .m) _ _ _ (c .before .before .before .before .before .before .before .before .before .before .before .before .before .pre .0) (c .before .before .before .before .before .before .before .before .before .before .before .before .before .pre .1) _ (c .before .before .before .before .before .before .before .judge-index .ensures) _ _ (c .before .before .before .before .before .v2 .given .1) in omega (arith, z)
 
 frame-len-requires : tie.Need-frame-len-requires
 frame-len-requires c κs = search needs
 
 add-t24 : tie.Need-add-t24
-add-t24 c = let z = index-ready _ _ _ _ (c .before .before .before .before .before .before .before .before .before .before .before .before .before .before .args .m) _ _ _ (c .before .before .before .before .before .before .before .before .before .before .before .before .before .before .pre .0) (c .before .before .before .before .before .before .before .before .before .before .before .before .before .before .pre .1 .0) (c .before .before .before .before .before .before .before .before .before .before .before .before .before .before .pre .1 .1) _ (c .before .before .before .before .before .before .before .before .judge-index .ensures) _ _ (c .before .before .before .before .before .before .v2 .given .1) .room in omega (arith, z, c .frame-len .ensures, c .before .before .before .before .before .before .before .before .before .before .before .before .before .before .good .0)
+add-t24 c = let z = index-ready _ _ _ _ (c .before .before .before .before .before .before .before .before .before .before .before .before .before .before .args .m) _ _ _ (c .before .before .before .before .before .before .before .before .before .before .before .before .before .before .pre .0) (c .before .before .before .before .before .before .before .before .before .before .before .before .before .before .pre .1) _ (c .before .before .before .before .before .before .before .before .judge-index .ensures) _ _ (c .before .before .before .before .before .before .v2 .given .1) .room in omega (arith, z, c .frame-len .ensures, c .before .before .before .before .before .before .before .before .before .before .before .before .before .before .good .0)
 
 same-length : tie.Need-same-length
 same-length c = search needs
 
 returns : tie.Need-returns
-returns c = index-refused _ _ _ _ (c .before .before .before .before .before .before .before .before .before .args .m) _ _ _ (c .before .before .before .before .before .before .before .before .before .pre .0) (c .before .before .before .before .before .before .before .before .before .pre .1 .0) (c .before .before .before .before .before .before .before .before .before .pre .1 .1) _ (c .before .before .before .judge-index .ensures) _ (c .before .v .given .1)
+returns c = index-refused _ _ _ _ (c .before .before .before .before .before .before .before .before .before .args .m) _ _ _ (c .before .before .before .before .before .before .before .before .before .pre .0) (c .before .before .before .before .before .before .before .before .before .pre .1) _ (c .before .before .before .judge-index .ensures) _ (c .before .v .given .1)
 
 same-length-2 : tie.Need-same-length-2
 same-length-2 c = search needs
 
 returns-2 : tie.Need-returns-2
-returns-2 c = index-built _ _ _ _ (c .before .before .before .before .before .before .before .before .before .before .before .before .before .before .args .m) _ _ _ (c .before .before .before .before .before .before .before .before .before .before .before .before .before .before .pre .0) (c .before .before .before .before .before .before .before .before .before .before .before .before .before .before .pre .1 .0) (c .before .before .before .before .before .before .before .before .before .before .before .before .before .before .pre .1 .1) _ (c .before .before .before .before .before .before .before .before .judge-index .ensures) _ _ (c .before .before .before .before .before .before .v2 .given .1) _ _ (c .before .before .before .write-index .ensures) (c .frame-len .ensures)
+returns-2 c = index-built _ _ _ _ (c .before .before .before .before .before .before .before .before .before .before .before .before .before .before .args .m) _ _ _ (c .before .before .before .before .before .before .before .before .before .before .before .before .before .before .pre .0) (c .before .before .before .before .before .before .before .before .before .before .before .before .before .before .pre .1) _ (c .before .before .before .before .before .before .before .before .judge-index .ensures) _ _ (c .before .before .before .before .before .before .v2 .given .1) _ _ (c .before .before .before .write-index .ensures) (c .frame-len .ensures)
 
 pub build-index-spec : {M : Type 1} → statement M
 build-index-spec =

@@ -1,21 +1,18 @@
+-- `build_table::judge_index` meets its contract. Assumes nothing.
 use native.Mathlib.Omega.{arith}
-use mathlib.Core.Path.{_≡_, refl, sym, ap, _∙_}
+use mathlib.Core.Path.{sym, ap, _∙_}
 use borrow.Author.Tests.{not-true, not-false}
+use denote.Ref.{now}
+use Rattle.build_sources.specs.Source.{entries}
+use Rattle.build_table.specs.declared.IndexVerdict.the-variants.{No}
 use Rattle.build_sources.proofs.Judging.{risen-up, risen-not}
-use Rattle.build_table.proofs.Judging.{held-long, index-six, index-seven, index-many, index-large, index-full, index-fits}
+use Rattle.build_table.proofs.Judging.{held-shared, held-long, held-prefixed, index-six, index-outside, index-many, index-large, index-full, index-fits}
 use borrow.Author.Needs.{needs}
 use Rattle.build_table.proofs.judge_index.Statement.{statement}
 use Rattle.build_table.proofs.judge_index.Tie as tie
-use Rattle.build_table.proofs.judge_index.Reads as reads
-use Rattle.build_table.proofs.judge_index.Lts as lts
-use Rattle.build_table.proofs.begins_with.Reads as begins-with-reads
-use Rattle.frames.proofs.frame_len.Reads as frame-len-reads
-use Rattle.build_index.proofs.index_sums.Reads as index-sums-reads
-use Rattle.build_sources.proofs.rises.Reads as rises-reads
-use Rattle.spans.proofs.room.Reads as room-reads
 
 rises-requires : tie.Need-rises-requires
-rises-requires c κs = search needs
+rises-requires c κs = c .before .before .before .before .before .before .pre .0 .inside
 
 enum-known-n : tie.Need-enum-known-n
 enum-known-n c = search needs
@@ -24,16 +21,16 @@ enum-told : tie.Need-enum-told
 enum-told c = search needs
 
 returns : tie.Need-returns
-returns c = index-six _ _ _ _ _ (risen-not _ (sym (c .enum-told .given .1) ∙ c .before .before .rises .ensures))
+returns c = index-six _ _ _ (now (c .before .before .before .before .before .before .before .before .before .args .hi)) _ (c .before .before .before .before .before .before .before .before .before .args .e) (c .before .before .before .before .before .before .before .before .before .pre .0) _ (risen-not _ _ _ (sym (c .enum-told .given .1) ∙ c .before .before .rises .ensures))
 
-begins-with-requires : tie.Need-begins-with-requires
-begins-with-requires c κs = (c .before .before .before .before .before .before .before .before .before .pre .0 .within, c .before .before .before .before .before .before .before .before .before .pre .0 .shared)
+outside-requires : tie.Need-outside-requires
+outside-requires c κs = (c .before .before .before .before .before .before .before .before .before .before .before .pre .0 .inside .ground, held-shared _ _ _ _ (c .before .before .before .before .before .before .before .before .before .before .before .pre .0))
 
 returns-2 : tie.Need-returns-2
-returns-2 c = index-seven _ _ _ _ _ (risen-up _ _ (sym (c .before .before .before .n .given .1) ∙ c .before .before .before .before .before .rises .ensures) .0) (sym (c .before .begins-with .ensures) ∙ not-true _ (c .if1 .taken))
+returns-2 c = ap No (c .outside .ensures) ∙ index-outside _ _ _ (now (c .before .before .before .before .before .before .before .before .before .before .before .before .args .hi)) _ (c .before .before .before .before .before .before .before .before .before .before .before .before .args .e) (c .before .before .before .before .before .before .before .before .before .before .before .before .pre .0) _ (risen-up _ _ _ _ _ (sym (c .before .before .before .n .given .1) ∙ c .before .before .before .before .before .rises .ensures) .up) (sym ((risen-up _ _ _ _ _ (sym (c .before .before .before .n .given .1) ∙ c .before .before .before .before .before .rises .ensures) .inside)) ∙ not-true _ (c .before .if1 .taken))
 
 returns-3 : tie.Need-returns-3
-returns-3 c = index-many _ _ _ _ _ (risen-up _ _ (sym (c .before .before .before .before .n .given .1) ∙ c .before .before .before .before .before .before .rises .ensures) .0) (sym (c .before .before .begins-with .ensures) ∙ not-false _ (c .before .if1 .left)) _ (risen-up _ _ (sym (c .before .before .before .before .n .given .1) ∙ c .before .before .before .before .before .before .rises .ensures) .1) (c .if2 .taken)
+returns-3 c = index-many _ _ _ (now (c .before .before .before .before .before .before .before .before .before .before .before .before .args .hi)) _ (c .before .before .before .before .before .before .before .before .before .before .before .before .args .e) (c .before .before .before .before .before .before .before .before .before .before .before .before .pre .0) _ (risen-up _ _ _ _ _ (sym (c .before .before .before .n .given .1) ∙ c .before .before .before .before .before .rises .ensures) .up) (sym ((risen-up _ _ _ _ _ (sym (c .before .before .before .n .given .1) ∙ c .before .before .before .before .before .rises .ensures) .inside)) ∙ not-false _ (c .before .if1 .left)) _ (risen-up _ _ _ _ _ (sym (c .before .before .before .n .given .1) ∙ c .before .before .before .before .before .rises .ensures) .count) (c .if2 .taken)
 
 mul-size : tie.Need-mul-size
 mul-size c = search needs
@@ -48,13 +45,13 @@ add-size-3 : tie.Need-add-size-3
 add-size-3 c = search needs
 
 index-sums-requires : tie.Need-index-sums-requires
-index-sums-requires c κs = (held-long _ _ _ _ (c .before .before .before .before .before .before .before .before .before .before .before .before .before .before .pre .0) (sym (c .before .before .before .before .begins-with .ensures) ∙ not-false _ (c .before .before .before .if1 .left)), omega (arith, risen-up _ _ (sym (c .before .before .before .before .before .before .n .given .1) ∙ c .before .before .before .before .before .before .before .before .rises .ensures) .1, c .before .before .if2 .left))
+index-sums-requires c κs = (held-long _ _ _ _ (c .before .before .before .before .before .before .before .before .before .before .before .before .before .before .pre .0) _ (held-prefixed _ _ _ _ (c .before .before .before .before .before .before .before .before .before .before .before .before .before .before .pre .0) (entries (now (c .before .before .before .before .before .before .before .before .before .before .before .before .before .before .args .list)) (now (c .before .before .before .before .before .before .before .before .before .before .before .before .before .before .args .ground)) (c .before .before .before .before .before .before .before .before .before .before .before .before .before .before .args .from)) (sym ((risen-up _ _ _ _ _ (sym (c .before .before .before .before .before .n .given .1) ∙ c .before .before .before .before .before .before .before .rises .ensures) .inside)) ∙ not-false _ (c .before .before .before .if1 .left))), omega (arith, risen-up _ _ _ _ _ (sym (c .before .before .before .before .before .n .given .1) ∙ c .before .before .before .before .before .before .before .rises .ensures) .count, c .before .before .if2 .left))
 
 add-size-4 : tie.Need-add-size-4
 add-size-4 c = omega (arith, c .index-sums .ensures .1, c .before .before .before .before .before .before .before .before .before .before .before .before .before .before .before .pre .0 .ground, c .before .before .before .before .before .before .before .before .before .before .before .before .before .before .before .pre .0 .high, c .before .before .before .if2 .left)
 
 returns-4 : tie.Need-returns-4
-returns-4 c = index-large _ _ _ _ _ (risen-up _ _ (sym (c .before .before .before .before .before .before .before .before .n .given .1) ∙ c .before .before .before .before .before .before .before .before .before .before .rises .ensures) .0) (sym (c .before .before .before .before .before .before .begins-with .ensures) ∙ not-false _ (c .before .before .before .before .before .if1 .left)) _ (risen-up _ _ (sym (c .before .before .before .before .before .before .before .before .n .given .1) ∙ c .before .before .before .before .before .before .before .before .before .before .rises .ensures) .1) (c .before .before .before .before .if2 .left) _ (c .before .index-sums .ensures .0) (c .if3 .taken)
+returns-4 c = index-large _ _ _ (now (c .before .before .before .before .before .before .before .before .before .before .before .before .before .before .before .before .args .hi)) _ (c .before .before .before .before .before .before .before .before .before .before .before .before .before .before .before .before .args .e) (c .before .before .before .before .before .before .before .before .before .before .before .before .before .before .before .before .pre .0) _ (risen-up _ _ _ _ _ (sym (c .before .before .before .before .before .before .before .n .given .1) ∙ c .before .before .before .before .before .before .before .before .before .rises .ensures) .up) (sym ((risen-up _ _ _ _ _ (sym (c .before .before .before .before .before .before .before .n .given .1) ∙ c .before .before .before .before .before .before .before .before .before .rises .ensures) .inside)) ∙ not-false _ (c .before .before .before .before .before .if1 .left)) _ (risen-up _ _ _ _ _ (sym (c .before .before .before .before .before .before .before .n .given .1) ∙ c .before .before .before .before .before .before .before .before .before .rises .ensures) .count) (c .before .before .before .before .if2 .left) _ (c .before .index-sums .ensures .0) (c .if3 .taken)
 
 cast-frame-len : tie.Need-cast-frame-len
 cast-frame-len c = search needs
@@ -66,10 +63,10 @@ room-requires : tie.Need-room-requires
 room-requires c κs = search needs
 
 returns-5 : tie.Need-returns-5
-returns-5 c = index-full _ _ _ _ _ (risen-up _ _ (sym (c .before .before .before .before .before .before .before .before .before .before .before .n .given .1) ∙ c .before .before .before .before .before .before .before .before .before .before .before .before .before .rises .ensures) .0) (sym (c .before .before .before .before .before .before .before .before .before .begins-with .ensures) ∙ not-false _ (c .before .before .before .before .before .before .before .before .if1 .left)) _ (risen-up _ _ (sym (c .before .before .before .before .before .before .before .before .before .before .before .n .given .1) ∙ c .before .before .before .before .before .before .before .before .before .before .before .before .before .rises .ensures) .1) (c .before .before .before .before .before .before .before .if2 .left) _ (c .before .before .before .before .index-sums .ensures .0) (c .before .before .before .if3 .left) _ (c .before .before .frame-len .ensures) _ (c .before .room .ensures) (not-true _ (c .if4 .taken))
+returns-5 c = index-full _ _ _ (now (c .before .before .before .before .before .before .before .before .before .before .before .before .before .before .before .before .before .before .before .args .hi)) _ (c .before .before .before .before .before .before .before .before .before .before .before .before .before .before .before .before .before .before .before .args .e) (c .before .before .before .before .before .before .before .before .before .before .before .before .before .before .before .before .before .before .before .pre .0) _ (risen-up _ _ _ _ _ (sym (c .before .before .before .before .before .before .before .before .before .before .n .given .1) ∙ c .before .before .before .before .before .before .before .before .before .before .before .before .rises .ensures) .up) (sym ((risen-up _ _ _ _ _ (sym (c .before .before .before .before .before .before .before .before .before .before .n .given .1) ∙ c .before .before .before .before .before .before .before .before .before .before .before .before .rises .ensures) .inside)) ∙ not-false _ (c .before .before .before .before .before .before .before .before .if1 .left)) _ (risen-up _ _ _ _ _ (sym (c .before .before .before .before .before .before .before .before .before .before .n .given .1) ∙ c .before .before .before .before .before .before .before .before .before .before .before .before .rises .ensures) .count) (c .before .before .before .before .before .before .before .if2 .left) _ (c .before .before .before .before .index-sums .ensures .0) (c .before .before .before .if3 .left) _ (c .before .before .frame-len .ensures) _ (c .before .room .ensures) (not-true _ (c .if4 .taken))
 
 returns-6 : tie.Need-returns-6
-returns-6 c = index-fits _ _ _ _ _ (risen-up _ _ (sym (c .before .before .before .before .before .before .before .before .before .before .before .n .given .1) ∙ c .before .before .before .before .before .before .before .before .before .before .before .before .before .rises .ensures) .0) (sym (c .before .before .before .before .before .before .before .before .before .begins-with .ensures) ∙ not-false _ (c .before .before .before .before .before .before .before .before .if1 .left)) _ (risen-up _ _ (sym (c .before .before .before .before .before .before .before .before .before .before .before .n .given .1) ∙ c .before .before .before .before .before .before .before .before .before .before .before .before .before .rises .ensures) .1) (c .before .before .before .before .before .before .before .if2 .left) _ (c .before .before .before .before .index-sums .ensures .0) (c .before .before .before .if3 .left) _ (c .before .before .frame-len .ensures) _ (c .before .room .ensures) (not-false _ (c .if4 .left))
+returns-6 c = index-fits _ _ _ (now (c .before .before .before .before .before .before .before .before .before .before .before .before .before .before .before .before .before .before .before .args .hi)) _ (c .before .before .before .before .before .before .before .before .before .before .before .before .before .before .before .before .before .before .before .args .e) (c .before .before .before .before .before .before .before .before .before .before .before .before .before .before .before .before .before .before .before .pre .0) _ (risen-up _ _ _ _ _ (sym (c .before .before .before .before .before .before .before .before .before .before .n .given .1) ∙ c .before .before .before .before .before .before .before .before .before .before .before .before .rises .ensures) .up) (sym ((risen-up _ _ _ _ _ (sym (c .before .before .before .before .before .before .before .before .before .before .n .given .1) ∙ c .before .before .before .before .before .before .before .before .before .before .before .before .rises .ensures) .inside)) ∙ not-false _ (c .before .before .before .before .before .before .before .before .if1 .left)) _ (risen-up _ _ _ _ _ (sym (c .before .before .before .before .before .before .before .before .before .before .n .given .1) ∙ c .before .before .before .before .before .before .before .before .before .before .before .before .rises .ensures) .count) (c .before .before .before .before .before .before .before .if2 .left) _ (c .before .before .before .before .index-sums .ensures .0) (c .before .before .before .if3 .left) _ (c .before .before .frame-len .ensures) _ (c .before .room .ensures) (not-false _ (c .if4 .left))
 
 pub judge-index-spec : {M : Type 1} → statement M
 judge-index-spec =
@@ -79,7 +76,7 @@ judge-index-spec =
     enum-known-n
     enum-told
     returns
-    begins-with-requires
+    outside-requires
     returns-2
     returns-3
     mul-size

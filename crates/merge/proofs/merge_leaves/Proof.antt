@@ -1,13 +1,11 @@
-use native.Mathlib.Omega.{arith}
-use Prim.Native.Nat.{ℕ}
 use denote.Ref.{now}
-use mathlib.Core.Path.{_≡_, refl, sym, ap, _∙_}
+use mathlib.Core.Path.{sym, _∙_}
 use lib.Seq.{length-take-le}
 use Rattle.build_image.specs.Image.{Borders}
 use Rattle.build_sources.specs.Source.{Entry}
 use mathlib.Core.List.{List}
 use Rattle.build_table.specs.Leaf.{leafAnswer, leafArena}
-use Rattle.merge.proofs.Merging.{never-bad, is-held, is-inside, answered}
+use Rattle.merge.proofs.Merging.{never-bad, is-held, answered}
 use borrow.Author.Needs.{needs}
 use Rattle.merge.proofs.merge_leaves.Statement.{statement}
 use Rattle.merge.proofs.merge_leaves.Tie as tie
@@ -38,7 +36,7 @@ returns : tie.Need-returns
 returns c = absurd (never-bad _ _ _ (c .before .before .before .before .before .before .pre .1 .1 .1 .0) (c .before .before .before .before .before .before .pre .1 .1 .1 .1) (sym (c .before .before .gather .ensures) ∙ c .enum-told .given .1))
 
 build-leaf-requires : tie.Need-build-leaf-requires
-build-leaf-requires c κs = (c .before .before .before .before .before .before .before .before .pre .0, (is-held _ _ _ (c .before .before .before .before .before .before .before .before .pre .1 .1 .1 .0) (c .before .before .before .before .before .before .before .before .pre .1 .1 .1 .1) _ _ (sym (c .before .before .before .before .gather .ensures) ∙ c .before .before .c .given .1) _ (c .before .before .before .before .before .before .before .before .pre .1 .0), (is-inside _ _ _ (c .before .before .before .before .before .before .before .before .pre .1 .1 .1 .0) (c .before .before .before .before .before .before .before .before .pre .1 .1 .1 .1) _ _ (sym (c .before .before .before .before .gather .ensures) ∙ c .before .before .c .given .1) _ (c .before .before .before .before .before .before .before .before .pre .1 .0), c .before .before .before .before .before .before .before .before .pre .1 .1 .0)))
+build-leaf-requires c κs = (c .before .before .before .before .before .before .before .before .pre .0, (is-held _ _ _ (c .before .before .before .before .before .before .before .before .pre .1 .1 .1 .0) (c .before .before .before .before .before .before .before .before .pre .1 .1 .1 .1) _ _ (sym (c .before .before .before .before .gather .ensures) ∙ c .before .before .c .given .1) _ (c .before .before .before .before .before .before .before .before .pre .1 .0), c .before .before .before .before .before .before .before .before .pre .1 .1 .0))
 
 same-length-2 : tie.Need-same-length-2
 same-length-2 c = search needs

@@ -1,6 +1,6 @@
 -- `sst::halve_page` meets its contract. Assumes nothing.
 use Rattle.sst.specs.Search.{halved}
-use Rattle.sst.proofs.Opens.{tail-part}
+use Rattle.spans.proofs.Part.{tail-part}
 use borrow.Author.Needs.{needs}
 use Rattle.sst.proofs.halve_page.Statement.{statement}
 use Rattle.sst.proofs.halve_page.Tie as tie

@@ -31,7 +31,7 @@ fn key_lengths(out: &mut Out, rng: &mut Prng) {
             ));
             out.case(rng, |out, rng| {
                 let prefix = vec![0x70; prefix_len];
-                let (lo, hi) = ([&prefix[..], b"a"].concat(), [&prefix[..], b"b"].concat());
+                let (lo, hi) = (prefix.clone(), [&prefix[..], b"b"].concat());
                 let rows: Vec<Row> = (from..=to)
                     .map(|n| {
                         row(&[&prefix[..], &vec![0x61; n]].concat(), 9, n as u32, &rng.bytes(2))
@@ -68,18 +68,18 @@ fn long_keys(out: &mut Out, rng: &mut Prng) {
         (1, 4095),
         (100, 3996),
         (4095, 1),
-        (4096, 0),
+        (4095, 0),
         (3, 16),
     ] {
         out.note(&format!("a key of {rest_len} behind a prefix of {prefix_len}"));
         out.case(rng, |out, rng| {
             let prefix = vec![0x71; prefix_len];
-            let key = [&prefix[..], &sample::filling(rng, rest_len)].concat();
-            // with a hi that lo begins, the prefix is the whole of lo
-            let (lo, hi) = (
-                prefix.clone(),
-                if prefix_len < 4096 { [&prefix[..], b"z"].concat() } else { prefix.clone() },
-            );
+            let mut key = [&prefix[..], &sample::filling(rng, rest_len)].concat();
+            if rest_len > 0 {
+                key[prefix_len] = b'y';
+            }
+            // with a hi that lo begins, the prefix is the whole of lo: at most 4,095
+            let (lo, hi) = (prefix.clone(), [&prefix[..], b"z"].concat());
             let rows = [row(&key, 9, 1, b"new"), row(&key, 8, 1, b"older")];
             let (addr, next) = out.built(leaf(8, 64, 256, STAMP, (1, &lo, &hi), &list_of(&rows)));
             out.page(addr, 1);
@@ -216,44 +216,34 @@ fn boundaries(out: &mut Out, rng: &mut Prng) {
         (b"ma", b"mz"),
         (b"mmmmmmmma", b"mmmmmmmmz"),
         (b"m", b"mz"),
-        (b"mz", b"m"),
-        (b"mm", b"mm"),
+        (b"m", b"m\0"),
+        (b"mm", b"mm\0\0"),
     ];
     for (lo, hi) in pairs {
-        out.note("boundaries that share 0, 1 and many bytes; no comparison with the keys is made");
+        out.note("boundaries that share 0, 1 and many bytes; keys as near to them as can be");
         out.case(rng, |out, rng| {
-            let prefix = crate::image::prefix(lo, hi).to_vec();
-            let rows = sample::rows(
-                rng,
-                &[
-                    [&prefix[..], b""].concat(),
-                    [&prefix[..], b"k"].concat(),
-                    [&prefix[..], b"kk"].concat(),
-                ],
-                3,
-                8,
-            );
+            let keys = sample::keys_near(lo, hi);
+            let rows = sample::rows(rng, &keys, 3, 8);
             let (addr, next) =
                 out.built(leaf(8, 8, 256, STAMP, (u64::MAX, lo, hi), &list_of(&rows)));
-            out.page(addr, 3);
-            let children =
-                [([&prefix[..], b""].concat(), 1), ([&prefix[..], b"q"].concat(), u64::MAX)];
+            out.page(addr, keys.len());
+            let children: Vec<_> = keys.iter().map(|key| (key.clone(), rng.number())).collect();
             let (addr, _) = out.built(index(next, STAMP, (12, lo, hi), &index_list_of(&children)));
-            out.page(addr, 2);
+            out.page(addr, keys.len());
         });
     }
     out.note("boundaries of 4,096 that differ in their last byte");
     out.case(rng, |out, _| {
         let lo = vec![0x55; 4096];
-        let mut hi = lo.clone();
-        hi[4095] = 0x56;
+        let (mut between, mut hi) = (lo.clone(), lo.clone());
+        (between[4095], hi[4095]) = (0x56, 0x57);
         let (addr, _) = out.built(leaf(
             8,
             64,
             256,
             STAMP,
             (1, &lo, &hi),
-            &list_of(&[row(&lo, 1, 1, b"v"), row(&hi, 1, 1, b"w")]),
+            &list_of(&[row(&lo, 1, 1, b"v"), row(&between, 1, 1, b"w")]),
         ));
         out.page(addr, 2);
     });
@@ -320,8 +310,8 @@ fn index_pages(out: &mut Out, rng: &mut Prng) {
             let prefix = sample::prefix(rng);
             let (lo, hi) = sample::bounds(rng, &prefix);
             let count = rng.below(24);
-            let children: Vec<_> =
-                sample::keys(rng, &prefix, count).into_iter().map(|k| (k, rng.number())).collect();
+            let keys = sample::keys_between(rng, &lo, &hi, count);
+            let children: Vec<_> = keys.into_iter().map(|k| (k, rng.number())).collect();
             let stamp = sample::stamp(rng);
             let (addr, _) =
                 out.built(index(8, &stamp, (rng.number(), &lo, &hi), &index_list_of(&children)));
@@ -361,7 +351,7 @@ fn random_leaves(out: &mut Out, rng: &mut Prng) {
             let prefix = sample::prefix(rng);
             let (lo, hi) = sample::bounds(rng, &prefix);
             let count = rng.below(9);
-            let keys = sample::keys(rng, &prefix, count);
+            let keys = sample::keys_between(rng, &lo, &hi, count);
             let rows = sample::rows(rng, &keys, 7, limit);
             let stamp = sample::stamp(rng);
             let next = rng.pick(&[8u64, 8, 24]);

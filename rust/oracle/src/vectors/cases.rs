@@ -1,6 +1,6 @@
 //! cases.txt: document 01's cases by number, and every sentence of it that speaks of a run.
 
-use super::{NONE, Out, index, leaf};
+use super::{NONE, Out, Place, index, leaf};
 use crate::prng::Prng;
 use crate::sample::{Row, index_list_of, list_of, row};
 use crate::upstream::RUST_HIST_PAGE_BUDGET;
@@ -86,7 +86,7 @@ pub(super) fn write(out: &mut Out, _rng: &mut Prng) {
 
     out.note("P13 with order 3: lo 00 00, hi 00 FF, key 00 D4: probe FE D4 is none, 0 keys read");
     out.arena(1024, 4);
-    let bounds: (u64, &[u8], &[u8]) = (0, &[0, 0], &[0, 0xff]);
+    let bounds: Place = (0, &[0, 0], &[0, 0xff]);
     let (addr, _) =
         out.built(leaf(8, 64, 256, STAMP, bounds, &list_of(&[row(&[0, 0xd4], 5, 0, b"x")])));
     for probe in ["00d4", "fed4", "fe", "00", "-"] {
@@ -115,4 +115,94 @@ pub(super) fn write(out: &mut Out, _rng: &mut Prng) {
     out.arena(1024, 6);
     let (addr, _) = out.built(leaf(8, 64, 256, STAMP, NONE, &list_of(&p7)));
     out.say(format!("check {addr}"));
+
+    order_4(out);
+}
+
+/// Order 4's worked answers, the whole table and the merges.
+fn order_4(out: &mut Out) {
+    const ZERO: &str = "0 0 0 0";
+    let pages = |lo: &[u8], hi: &[u8], keys: &[&[u8]]| {
+        let rows: Vec<Row> = keys.iter().map(|key| row(key, 1, 0, b"v")).collect();
+        let children: Vec<_> = keys.iter().map(|key| (key.to_vec(), 1)).collect();
+        [
+            leaf(8, 64, 256, ZERO, (0, lo, hi), &list_of(&rows)),
+            index(8, ZERO, (0, lo, hi), &index_list_of(&children)),
+        ]
+    };
+    type Worked = (&'static [u8], &'static [u8], &'static [&'static [u8]]);
+    let built: [Worked; 3] = [(b"d", b"h", &[b"d"]), (b"d", b"h", &[b"gzz"]), (b"", b"h", &[b""])];
+    out.note("order 4: lo d, hi h, key d (leaf next 112, index next 96) or gzz; no lo, hi h, the empty key: built");
+    for (lo, hi, keys) in built {
+        for command in pages(lo, hi, keys) {
+            out.arena(200, 0x11);
+            let (addr, _) = out.built(command);
+            out.page(addr, 1);
+        }
+    }
+    out.note("order 4: refused with 10, but for key x with prefix d (7) and x then e (6)");
+    out.arena(1024, 0x12);
+    let refused: [Worked; 9] = [
+        (b"d", b"h", &[b"h"]),
+        (b"d", b"h", &[b"czz"]),
+        (b"d", b"", &[b"czz"]),
+        (b"h", b"d", &[]),
+        (b"d", b"d", &[]),
+        (b"da", b"dc", &[b"d"]),
+        (b"da", b"dc", &[b"dc"]),
+        (b"da", b"dc", &[b"x"]),
+        (b"d", b"h", &[b"x", b"e"]),
+    ];
+    for (lo, hi, keys) in refused {
+        for command in pages(lo, hi, keys) {
+            out.say(command);
+        }
+    }
+    out.note("order 4: an arena of 8 bytes: key h is 10, key e is 9");
+    out.arena(8, 0x13);
+    for command in [pages(b"d", b"h", &[b"h"]), pages(b"d", b"h", &[b"e"])].concat() {
+        out.say(command);
+    }
+
+    out.note("order 4: A d..h, B h..p, C p.. with a key each, E h..p and N without keys, next 472");
+    out.arena(1024, 0x14);
+    let places: [Worked; 5] = [
+        (b"d", b"h", &[b"e"]),
+        (b"h", b"p", &[b"i"]),
+        (b"p", b"", &[b"q"]),
+        (b"h", b"p", &[]),
+        (b"", b"", &[]),
+    ];
+    let mut next = 8;
+    let [a, b, c, e, n] = places.map(|(lo, hi, keys)| {
+        let rows: Vec<Row> = keys.iter().map(|key| row(key, 1, 0, b"v")).collect();
+        let (addr, after) = out.built(leaf(next, 64, 256, ZERO, (0, lo, hi), &list_of(&rows)));
+        next = after;
+        addr
+    });
+    let merge = |left, right| format!("merge {next} 64 256 {ZERO} {left} {right}");
+    out.note("order 4: A B at 472, next 600; A E; B C");
+    for (left, right, elems) in [(a, b, 2), (a, e, 1), (b, c, 2)] {
+        let (addr, _) = out.built(merge(left, right));
+        out.page(addr, elems);
+    }
+    out.note("order 4: A C 10, B A 6, E A 7, C N 10, N N 10, E E 10, A A 6");
+    for (left, right) in [(a, c), (b, a), (e, a), (c, n), (n, n), (e, e), (a, a)] {
+        out.say(merge(left, right));
+    }
+
+    out.note("order 4: a page from before the order, lo d, no hi, key c: check and merge 4, search for c still found");
+    out.arena(512, 0x15);
+    let (old, next) =
+        out.built(leaf(8, 64, 256, ZERO, (0, b"c", b""), &list_of(&[row(b"c", 1, 0, b"v")])));
+    let (after, next) = out.built(leaf(next, 64, 256, ZERO, (0, b"d", b"h"), &list_of(&[])));
+    // lo stands behind the headers and one slot
+    out.put(old as usize + 76, b"d");
+    out.page(old, 1);
+    for command in ["search A 63", "search A 64", "lower A 63 1 0", "lower A 64 1 0", "back A 0 0"]
+    {
+        out.say(command.replace('A', &old.to_string()));
+    }
+    out.say(format!("merge {next} 64 256 {ZERO} {old} {after}"));
+    out.say(format!("merge {next} 64 256 {ZERO} {after} {old}"));
 }

@@ -1,13 +1,18 @@
 //! crafted.txt: sound pages that no build writes. What soundness does not judge may be anything,
 //! and what it allows may be shared; every reader and merge must take it. Here too number 8.
 
-use super::{NONE, Out, index, leaf};
+use super::{NONE, Out, Place, index, leaf};
 use crate::prng::Prng;
 use crate::sample::{Row, index_list_of, list_of, row};
 use crate::text;
 use crate::upstream::RUST_HIST_PAGE_BUDGET;
 
 const STAMP: &str = "1 1 1 1";
+
+// Three neighbours; the keys `a` and `b` lie in the middle one.
+const BEFORE: Place = (0, b"", b"a");
+const MIDDLE: Place = (0, b"a", b"c");
+const BEHIND: Place = (0, b"c", b"");
 
 // Offsets in a page's frame.
 const LINK: usize = 8;
@@ -49,9 +54,9 @@ fn unjudged_bytes(out: &mut Out, rng: &mut Prng) {
     out.note("tail, rounding, hint addresses, group, txid, lsn and sibling changed: the page stays sound");
     out.arena(1024, 0);
     let rows = [row(b"a", 9, 0, b"head"), row(b"a", 8, 0, &[7; 40]), row(b"b", 9, 0, &[8; 70])];
-    let (page, next) = out.built(leaf(8, 64, 256, STAMP, (3, b"", b""), &list_of(&rows)));
+    let (page, next) = out.built(leaf(8, 64, 256, STAMP, (3, b"", b"c"), &list_of(&rows)));
     let (right, next) =
-        out.built(leaf(next, 64, 256, STAMP, NONE, &list_of(&[row(b"c", 1, 1, b"x")])));
+        out.built(leaf(next, 64, 256, STAMP, (0, b"c", b""), &list_of(&[row(b"c", 1, 1, b"x")])));
     let at = page as usize;
     let size = elems_u32(out, at + SIZE);
     let payload = elems_u32(out, at);
@@ -73,32 +78,43 @@ fn unjudged_bytes(out: &mut Out, rng: &mut Prng) {
     out.say(merge(next, 64, right, page));
 }
 
-/// prefix_len is judged against lo_len only: shorter than the common bytes, keys are shorter too.
+/// prefix_len is judged against lo_len only: shorter than the common bytes, the keys hold what is missing; longer, all of lo stands
+/// before each key. The keys lie between the boundaries either way.
 fn shorter_prefix(out: &mut Out) {
-    out.note("a prefix shorter than the boundaries' common bytes, and one with other boundaries behind it");
+    out.note("a prefix shorter than the boundaries' common bytes, as long, one byte longer, and longer than lo");
     for len in [0u8, 1, 2, 3, 4, 5] {
         out.arena(1024, 0);
-        let bounds: (u64, &[u8], &[u8]) = (3, b"abcd", b"abce");
+        // boundaries that share so many bytes, and then the byte that makes them share three
+        let mut lo = *b"abcd";
+        if len < 3 {
+            lo[len as usize] -= 0x20;
+        }
+        let bounds: Place = (3, &lo, b"abce");
         let (page, next) = out.built(leaf(
             8,
             64,
             256,
             STAMP,
             bounds,
-            &list_of(&[row(b"abcx", 9, 0, b"v"), row(b"abcy", 9, 0, b"w")]),
+            &list_of(&[row(b"abcdx", 9, 0, b"v"), row(b"abcdy", 9, 0, b"w")]),
         ));
         let (tree, next) =
-            out.built(index(next, STAMP, bounds, &index_list_of(&[(b"abcx".to_vec(), 9)])));
-        out.put(page as usize + PREFIX_LEN, &[len]);
-        out.put(tree as usize + PREFIX_LEN, &[len]);
-        for at in [page, tree] {
-            out.page(at, out.elems(at));
-            for probe in ["78", "6178", "616278", "61626378", "6162636478", "-"] {
+            out.built(index(next, STAMP, bounds, &index_list_of(&[(b"abcdx".to_vec(), 9)])));
+        let right: Place = (4, b"abce", b"abcf");
+        let (after, next) = out.built(leaf(next, 64, 256, STAMP, right, &list_of(&[])));
+        let (after_tree, next) = out.built(index(next, STAMP, right, &index_list_of(&[])));
+        for (at, after) in [(page, after), (tree, after_tree)] {
+            let elems = out.elems(at);
+            out.put(at as usize + PREFIX_LEN, &[len]);
+            out.put(at as usize + SLOTS + 4 * elems, b"abcd");
+            out.page(at, elems);
+            for probe in ["78", "6178", "616278", "6162636478", "616263646478", "-"] {
                 out.say(format!("search {at} {probe}"));
                 out.say(format!("floor {at} {probe}"));
                 out.say(format!("lower {at} {probe} 9 0"));
             }
             out.say(merge(next, 64, at, at));
+            out.say(merge(next, 64, at, after));
         }
     }
 }
@@ -139,8 +155,9 @@ fn history_shapes(out: &mut Out) {
     for (i, r) in rows[6..].iter_mut().enumerate() {
         r.txid = 46 - i as u64;
     }
-    let (page, next) = out.built(leaf(8, 64, 256, STAMP, NONE, &list_of(&rows)));
-    let (empty, next) = out.built(leaf(next, 64, 256, STAMP, NONE, &list_of(&[])));
+    let (page, next) = out.built(leaf(8, 64, 256, STAMP, MIDDLE, &list_of(&rows)));
+    let (before, next) = out.built(leaf(next, 64, 256, STAMP, BEFORE, &list_of(&[])));
+    let (behind, next) = out.built(leaf(next, 64, 256, STAMP, BEHIND, &list_of(&[])));
     let (first, second) = (value_at(out, page, 0), value_at(out, page, 1));
     for (slot, count) in [
         (0u16, 8u32),
@@ -163,20 +180,20 @@ fn history_shapes(out: &mut Out) {
         out.page(page, 2);
         out.say(format!("back {page} 1 0"));
         out.say(format!("search {page} 62"));
-        out.say(merge(next, 64, page, empty));
-        out.say(merge(next, 16, empty, page));
+        out.say(merge(next, 64, page, behind));
+        out.say(merge(next, 16, before, page));
     }
     out.note("two values with one remote, which a merge keeps twice or copies twice");
     out.arena(2048, 0);
     let rows = [row(b"a", 9, 0, &[1; 20]), row(b"b", 9, 0, &[2; 20])];
-    let (page, next) = out.built(leaf(8, 16, 256, STAMP, NONE, &list_of(&rows)));
-    let (empty, next) = out.built(leaf(next, 64, 256, STAMP, NONE, &list_of(&[])));
+    let (page, next) = out.built(leaf(8, 16, 256, STAMP, MIDDLE, &list_of(&rows)));
+    let (behind, next) = out.built(leaf(next, 64, 256, STAMP, BEHIND, &list_of(&[])));
     let (first, second) = (value_at(out, page, 0), value_at(out, page, 1));
     let remote = out.bytes()[first + 5..first + 13].to_vec();
     out.put(second + 5, &remote);
     out.page(page, 2);
     for limit in [16, 64] {
-        out.say(merge(next, limit, page, empty));
+        out.say(merge(next, limit, page, behind));
     }
 }
 
@@ -185,8 +202,8 @@ fn empty_remote(out: &mut Out) {
     out.note("a remote frame of size 0");
     out.arena(1024, 0);
     let (page, next) =
-        out.built(leaf(8, 1, 256, STAMP, NONE, &list_of(&[row(b"a", 9, 0, &[1; 8])])));
-    let (empty, next) = out.built(leaf(next, 64, 256, STAMP, NONE, &list_of(&[])));
+        out.built(leaf(8, 1, 256, STAMP, MIDDLE, &list_of(&[row(b"a", 9, 0, &[1; 8])])));
+    let (behind, next) = out.built(leaf(next, 64, 256, STAMP, BEHIND, &list_of(&[])));
     let value = value_at(out, page, 0);
     let remote =
         u64::from_le_bytes(out.bytes()[value + 5..value + 13].try_into().unwrap()) as usize;
@@ -198,7 +215,7 @@ fn empty_remote(out: &mut Out) {
     out.page(page, 1);
     out.say(format!("search {page} 61"));
     for limit in [1, 64] {
-        out.say(merge(next, limit, page, empty));
+        out.say(merge(next, limit, page, behind));
     }
 }
 
@@ -239,34 +256,53 @@ fn too_many_records(out: &mut Out) {
         rows.push(row(&key, 1000, 0, b""));
         rows.push(row(&key, 900 - i, 0, b""));
     }
-    // the 256th old version
+    // two old versions more: 256 for most, and one for the head that makes it too big alone
     rows.push(row(&[254, 0], 100, 0, b""));
+    rows.push(row(&[254, 0], 99, 0, b""));
+    // the page has all keys from 00 00 on and below ff 01
+    let (lo, hi): (&[u8], &[u8]) = (&[0, 0], &[255, 1]);
     let (page, next) =
-        out.built(leaf(8, 64, RUST_HIST_PAGE_BUDGET, STAMP, (0, b"", b"xy"), &list_of(&rows)));
-    let (empty, next) = out.built(leaf(next, 64, 256, STAMP, NONE, &list_of(&[])));
+        out.built(leaf(8, 64, RUST_HIST_PAGE_BUDGET, STAMP, (0, lo, hi), &list_of(&rows)));
+    let (before, next) = out.built(leaf(next, 64, 256, STAMP, (0, b"", lo), &list_of(&[])));
+    let (behind, next) = out.built(leaf(next, 64, 256, STAMP, (0, hi, b""), &list_of(&[])));
+    let (low, next) =
+        out.built(leaf(next, 64, 256, STAMP, (0, b"", lo), &list_of(&[row(&[], 1, 0, b"")])));
     let (one, next) =
-        out.built(leaf(next, 64, 256, STAMP, NONE, &list_of(&[row(&[255], 1, 0, b"")])));
-    let (low, next) = out.built(leaf(next, 64, 256, STAMP, NONE, &list_of(&[row(&[], 1, 0, b"")])));
+        out.built(leaf(next, 64, 256, STAMP, (0, hi, b""), &list_of(&[row(hi, 1, 0, b"")])));
     let (tree, next) = out.built(index(next, STAMP, NONE, &index_list_of(&[])));
-    let (outside, next) =
-        out.built(leaf(next, 64, 256, STAMP, (0, b"x", b""), &list_of(&[row(&[], 1, 0, b"")])));
-    let reference = [&8u64.to_le_bytes()[..], &[0; 2], &256u32.to_le_bytes()].concat();
+    let (above, next) = out.built(leaf(next, 64, 256, STAMP, (0, &[255], hi), &list_of(&[])));
+    let (far, next) = out.built(leaf(
+        next,
+        64,
+        256,
+        STAMP,
+        (0, &[255, 2], b""),
+        &list_of(&[row(&[255, 2], 1, 0, b"")]),
+    ));
+    let reference = |count: u32| [&8u64.to_le_bytes()[..], &[0; 2], &count.to_le_bytes()].concat();
     for pos in 0..255 {
         let at = value_at(out, page, pos);
-        out.put(at + 1, &reference);
+        out.put(at + 1, &reference(256));
     }
     out.say(format!("check {page}"));
     out.note("65,535 records: not 8, but there is no room for them");
-    out.say(merge(next, 64, page, empty));
-    out.say(merge(next, 64, empty, page));
+    out.say(merge(next, 64, page, behind));
+    out.say(merge(next, 64, before, page));
     out.note("65,536: too big");
     out.say(merge(next, 64, page, one));
     out.say(merge(next, 64, low, page));
-    out.note("5, 6 and 7 come before it");
+    out.note("5, 6 and 10 come before it");
     out.say(merge(next, 64, page, tree));
     out.say(merge(next, 64, page, low));
     out.say(merge(next, 64, page, page));
-    out.say(merge(next, 64, outside, page));
+    out.say(merge(next, 64, page, far));
+    out.say(merge(next, 64, one, page));
+    let first = value_at(out, page, 0);
+    out.put(first + 1, &reference(257));
+    out.note("one page alone too big: 7 (the prefix of the new boundaries would be ff), 10 and 8");
+    out.say(merge(next, 64, above, page));
+    out.say(merge(next, 64, page, above));
+    out.say(merge(next, 64, page, behind));
     out.say(format!("search {page} {}", text::write(&[100, 0])));
     out.say(format!("walk {page} 254 255"));
 }
@@ -281,12 +317,12 @@ fn too_large(out: &mut Out) {
     out.arena(100_000, 0);
     let mut rows = Vec::new();
     for i in 0..HEADS {
-        let key = [(i / 200) as u8, (i % 200) as u8];
+        let key = [1 + (i / 200) as u8, (i % 200) as u8];
         rows.push(row(&key, 1000, 0, b""));
         rows.push(row(&key, 900, 0, b""));
     }
     let (page, history) =
-        out.built(leaf(8, 65_536, RUST_HIST_PAGE_BUDGET, STAMP, NONE, &list_of(&rows)));
+        out.built(leaf(8, 65_536, RUST_HIST_PAGE_BUDGET, STAMP, (0, &[1], b""), &list_of(&rows)));
     out.note("a history page of one long record, put by hand; all heads name it");
     let size = (40 + 4 + 12 + 5 + LEN) as u32;
     let mut frame = Vec::new();
@@ -312,7 +348,7 @@ fn too_large(out: &mut Out) {
     out.say(format!("check {page}"));
     for lo_len in [LO - 1, LO, LO + 1, LO + 2] {
         let (left, next) =
-            out.built(leaf(next, 64, 256, STAMP, (0, &vec![b'x'; lo_len], b""), &list_of(&[])));
+            out.built(leaf(next, 64, 256, STAMP, (0, &vec![0; lo_len], &[1]), &list_of(&[])));
         out.say(format!("merge {next} 65536 256 {STAMP} {left} {page}"));
     }
 }

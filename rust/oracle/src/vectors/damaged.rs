@@ -1,7 +1,7 @@
 //! damaged.txt: small arenas with every byte damaged in turn, and fields set to their edges.
 //! The Rust cannot be asked about an unsound page; the answers are the model's alone.
 
-use super::{NONE, Out, dleaf, index, leaf};
+use super::{NONE, Out, Place, dleaf, index, leaf};
 use crate::prng::Prng;
 use crate::sample::{index_list_of, list_of, row};
 use crate::text;
@@ -16,6 +16,7 @@ pub(super) fn write(out: &mut Out, rng: &mut Prng) {
     lengths(out);
     heads_only(out);
     overlays(out, rng);
+    outside(out);
 }
 
 /// Readers of one frame, with keys that it holds and does not.
@@ -396,7 +397,7 @@ fn lengths(out: &mut Out) {
     out.note("whole keys of 4,096 and 4,097: the prefix grows, the rest stays");
     out.arena(20_000, 0);
     let key = vec![b'x'; 4090];
-    let bounds: (u64, &[u8], &[u8]) = (0, &[b'x'; 20], b"");
+    let bounds: Place = (0, &[b'x'; 20], b"");
     let (page, next) =
         out.built(leaf(8, 64, 256, STAMP, bounds, &list_of(&[row(&key, 9, 5, b"v")])));
     let (tree, _) = out.built(index(next, STAMP, bounds, &index_list_of(&[(key, 7)])));
@@ -412,9 +413,9 @@ fn lengths(out: &mut Out) {
     out.note("boundaries of 4,096 and 4,097: one grows by what the other loses");
     for (lo, hi) in [(4096usize, 10usize), (10, 4096)] {
         out.arena(9_000, 0);
-        let bounds: (u64, &[u8], &[u8]) = (0, &vec![b'l'; lo], &vec![b'm'; hi]);
+        let bounds: Place = (0, &vec![b'l'; lo], &vec![b'm'; hi]);
         let (page, _) =
-            out.built(leaf(8, 64, 256, STAMP, bounds, &list_of(&[row(b"k", 9, 5, b"v")])));
+            out.built(leaf(8, 64, 256, STAMP, bounds, &list_of(&[row(b"lm", 9, 5, b"v")])));
         let ask = ["check", "lo", "hi", "prefix"].map(|reader| format!("{reader} {page}"));
         for shift in [-1i64, 1] {
             let (lo, hi) = ((lo as i64 + shift) as u32, (hi as i64 - shift) as u32);
@@ -524,5 +525,74 @@ fn overlays(out: &mut Out, rng: &mut Prng) {
     for len in [good.len() - 1, good.len() - 8, delta as usize, 8, 0] {
         out.say(format!("buffer {}", text::write(&good[..len])));
         out.say(&ask[0]);
+    }
+}
+
+/// Order 4: lo, hi, prefix_len or a key damaged so that nothing is wrong but a key that lies outside, or boundaries that do not rise. The
+/// check and merges say 4, every other reader answers. Some of the damage leaves the page sound.
+fn outside(out: &mut Out) {
+    let [left, middle, right]: [Place; 3] =
+        [(0, b"pa", b"pc"), (0, b"pc", b"pm"), (0, b"pm", b"pz")];
+    for (kind, keys) in [
+        ("leaf", vec!["pc", "pe", "pl"]),
+        ("index", vec!["pc", "pe", "pl"]),
+        ("leaf", vec![]),
+        ("index", vec![]),
+    ] {
+        let about = "only the boundaries make it unsound; check and merge 4, searches answer";
+        out.note(&format!("order 4: {kind} page pc..pm with {} keys: {about}", keys.len()));
+        out.arena(640, 0);
+        let rows: Vec<_> = keys.iter().map(|key| row(key.as_bytes(), 9, 5, b"v")).collect();
+        let children: Vec<_> = keys.iter().map(|key| (key.as_bytes().to_vec(), 5)).collect();
+        let build = |next: u64, place: Place, full: bool| {
+            let (rows, children) =
+                if full { (&rows[..], &children[..]) } else { (&[][..], &[][..]) };
+            match kind {
+                "leaf" => leaf(next, 64, 256, STAMP, place, &list_of(rows)),
+                _ => index(next, STAMP, place, &index_list_of(children)),
+            }
+        };
+        let (before, next) = out.built(build(8, left, false));
+        let (page, next) = out.built(build(next, middle, true));
+        let (behind, next) = out.built(build(next, right, false));
+        let mut ask: Vec<String> = ["check A", "lo A", "hi A", "prefix A", "lower A 7065 9 5"]
+            .map(|command| command.replace('A', &page.to_string()))
+            .to_vec();
+        let find = if kind == "leaf" { "search" } else { "floor" };
+        let probes = ["62", "63", "65", "7063", "7065", "706c", "706d", "706e", "7163"];
+        ask.extend(probes.map(|probe| format!("{find} {page} {probe}")));
+        ask.push(format!("walk {page} 0 {}", keys.len()));
+        ask.push(format!("merge {next} 64 256 {STAMP} {before} {page}"));
+        ask.push(format!("merge {next} 64 256 {STAMP} {page} {behind}"));
+        for command in &ask[..ask.len() - 2] {
+            out.say(command);
+        }
+        // behind the headers and the slots
+        let lo = page as usize + 72 + 4 * keys.len();
+        for last in [b'b', b'd', b'l', b'm', b'n'] {
+            damage(out, lo + 1, &[last], &ask);
+        }
+        damage(out, lo, b"o", &ask);
+        damage(out, lo, b"q", &ask);
+        let hi = lo + 2;
+        for last in [b'b', b'c', b'd', b'l', b'n'] {
+            damage(out, hi + 1, &[last], &ask);
+        }
+        damage(out, hi, b"o", &ask);
+        damage(out, hi, b"q", &ask);
+        let (lens, prefix_len) = (page as usize + 56, page as usize + 64);
+        damage(out, lens, &[4, 0, 0, 0, 0], &ask);
+        damage(out, lens, &[3, 0, 0, 0, 1], &ask);
+        damage(out, prefix_len, &[0], &ask);
+        damage(out, prefix_len, &[2], &ask);
+        for (slot, bytes) in [(0, b"b"), (0, b"d"), (2, b"m"), (2, b"n")] {
+            if slot < keys.len() {
+                let at = page as usize + 72 + 4 * slot;
+                let record = u32::from_le_bytes(out.bytes()[at..at + 4].try_into().unwrap());
+                // the key's rest is one byte: behind its length, and a leaf's version
+                let rest = record as usize + if kind == "leaf" { 13 } else { 1 };
+                damage(out, page as usize + 32 + rest, bytes, &ask);
+            }
+        }
     }
 }

@@ -166,7 +166,7 @@ fn random_overlays(out: &mut Out, rng: &mut Prng) {
             let (lo, hi) = sample::bounds(rng, &prefix);
             let limit = rng.pick(&[4usize, 16, 64]);
             let count = rng.below(5);
-            let keys = sample::keys(rng, &prefix, count);
+            let keys = sample::keys_between(rng, &lo, &hi, count);
             let rows = sample::rows(rng, &keys, 3, limit);
             let (page, _) = out.built(leaf(8, limit, 256, STAMP, (3, &lo, &hi), &list_of(&rows)));
             for _ in 0..3 {

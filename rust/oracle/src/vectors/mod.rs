@@ -55,7 +55,11 @@ const THEMES: &[Theme] = &[
     ("walks.txt", "Forward and backward walks, with the history pages named.", walks::write),
     ("merges.txt", "Merges at the same and at other limits and budgets.", merges::write),
     ("deltas.txt", "Deltas, their readers, and the overlay lookup.", deltas::write),
-    ("refused.txt", "Each number of refusal, and the lowest where two apply.", refused::write),
+    (
+        "refused.txt",
+        "Each number of refusal, and the first of the table where two apply.",
+        refused::write,
+    ),
     (
         "crafted.txt",
         "Sound pages that no build writes, put together by hand; the Rust answers too.",
@@ -199,14 +203,7 @@ impl Out {
 }
 
 /// `leaf ...` with everything given.
-fn leaf(
-    next: u64,
-    limit: usize,
-    budget: usize,
-    stamp: &str,
-    bounds: (u64, &[u8], &[u8]),
-    list: &[u8],
-) -> String {
+fn leaf(next: u64, limit: usize, budget: usize, stamp: &str, bounds: Place, list: &[u8]) -> String {
     format!(
         "leaf {next} {limit} {budget} {stamp} {} {} {} {}",
         bounds.0,
@@ -217,7 +214,7 @@ fn leaf(
 }
 
 /// `index ...` with everything given.
-fn index(next: u64, stamp: &str, bounds: (u64, &[u8], &[u8]), list: &[u8]) -> String {
+fn index(next: u64, stamp: &str, bounds: Place, list: &[u8]) -> String {
     format!(
         "index {next} {stamp} {} {} {} {}",
         bounds.0,
@@ -245,5 +242,8 @@ fn dleaf(
     )
 }
 
+/// A page's sibling, lo and hi.
+type Place<'a> = (u64, &'a [u8], &'a [u8]);
+
 /// No boundaries and no sibling.
-const NONE: (u64, &[u8], &[u8]) = (0, &[], &[]);
+const NONE: Place = (0, &[], &[]);

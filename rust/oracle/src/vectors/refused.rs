@@ -1,7 +1,7 @@
-//! refused.txt: each number of refusal for each call, and the lowest where two apply.
+//! refused.txt: each number of refusal for each call, and the first of the table where two apply.
 //! The arena must be unchanged after each.
 
-use super::{NONE, Out, dleaf, index, leaf};
+use super::{NONE, Out, Place, dleaf, index, leaf};
 use crate::judge::{MAX_BUDGET, MIN_BUDGET};
 use crate::prng::Prng;
 use crate::sample::{Row, index_list_of, list_of, row};
@@ -16,6 +16,7 @@ pub(super) fn write(out: &mut Out, rng: &mut Prng) {
     lists(out, rng);
     order(out);
     prefixes(out);
+    outside(out);
     room(out);
     pairs(out);
     merges(out);
@@ -42,7 +43,7 @@ fn limits(out: &mut Out) {
         out.say(format!("leaf 8 64 {budget} {STAMP} 0 - - {}", text::write(&good())));
     }
     for (lo, hi) in [(4096, 0), (4097, 0), (0, 4096), (0, 4097), (4096, 4096), (4097, 4097)] {
-        let (lo, hi) = (vec![b'x'; lo], vec![b'y'; hi]);
+        let (lo, hi) = (vec![b'a'; lo], vec![b'y'; hi]);
         out.say(leaf(8, 64, 256, STAMP, (0, &lo, &hi), &good()));
         out.say(index(8, STAMP, (0, &lo, &hi), &good_index()));
     }
@@ -160,10 +161,10 @@ fn order(out: &mut Out) {
 
 /// Number 7.
 fn prefixes(out: &mut Out) {
-    out.note("7: a key that does not begin with the prefix");
+    out.note("7: a key that does not begin with the prefix; one that does may be 10");
     out.arena(2048, 5);
-    let bounds: [(&[u8], &[u8]); 4] =
-        [(b"ab", b"ac"), (b"abc", b"abc"), (b"ab", b""), (b"", b"ab")];
+    let bounds: [(&[u8], &[u8]); 5] =
+        [(b"ab", b"ac"), (b"abc", b"abcz"), (b"ab", b""), (b"", b"ab"), (b"ab", b"ab")];
     for (lo, hi) in bounds {
         for keys in
             [[&b"aq"[..], b"xq"], [b"", b"aa"], [b"abc", b"abcd"], [b"ab", b"b"], [b"a", b"aa"]]
@@ -174,6 +175,44 @@ fn prefixes(out: &mut Out) {
             out.say(index(8, STAMP, (0, lo, hi), &index_list_of(&children)));
         }
     }
+}
+
+/// Number 10 of a build: one key at every place around the boundaries, alone and among keys that lie between them.
+fn outside(out: &mut Out) {
+    out.note("10: keys at, just below and just above lo and hi, beginnings of them, and boundaries that do not rise");
+    out.arena(2048, 6);
+    let bounds: [(&[u8], &[u8]); 9] = [
+        (b"pc", b"pm"),
+        (b"pc", b""),
+        (b"", b"pm"),
+        (b"p", b"pm"),
+        (b"pc", b"pc\0"),
+        (b"pc", b"pc"),
+        (b"pm", b"pc"),
+        (b"p", b"p"),
+        (b"pm", b"p"),
+    ];
+    let keys: [&[u8]; 12] =
+        [b"", b"p", b"pb", b"pb\xff", b"pc", b"pc\0", b"pl\xff", b"pm", b"pm\0", b"pn", b"o", b"q"];
+    let say = |out: &mut Out, lo: &[u8], hi: &[u8], keys: &[&[u8]]| {
+        let rows: Vec<Row> = keys.iter().map(|key| row(key, 1, 0, b"v")).collect();
+        out.say(leaf(8, 64, 256, STAMP, (0, lo, hi), &list_of(&rows)));
+        let children: Vec<_> = keys.iter().map(|key| (key.to_vec(), 1)).collect();
+        out.say(index(8, STAMP, (0, lo, hi), &index_list_of(&children)));
+    };
+    for (lo, hi) in bounds {
+        say(out, lo, hi, &[]);
+        for key in keys {
+            say(out, lo, hi, &[key]);
+        }
+    }
+    out.note("10: one of three keys outside, the first or the last; an older version is no key of its own");
+    for keys in [[&b"pb"[..], b"pd", b"pe"], [b"pd", b"pe", b"pm"], [b"pc", b"pd", b"pl"]] {
+        say(out, b"pc", b"pm", &keys);
+    }
+    let twice = [row(b"pm", 9, 0, b"v"), row(b"pm", 8, 0, b"w")];
+    out.say(leaf(8, 64, 256, STAMP, (0, b"pc", b"pm"), &list_of(&twice)));
+    out.say(leaf(8, 64, 256, STAMP, (0, b"pm", b"pn"), &list_of(&twice)));
 }
 
 /// Number 9: each kind of build in an arena that just suffices, and in smaller ones.
@@ -206,15 +245,15 @@ fn room(out: &mut Out) {
     }
 }
 
-/// Lower numbers first.
+/// Lower numbers first, but 10 before 9.
 fn pairs(out: &mut Out) {
-    out.note("two or more at once: the lowest is given");
+    out.note("two or more at once: the first of 1 2 3 6 7 10 9 is given");
     out.arena(64, 3);
     let unsorted = list_of(&[row(b"xb", 5, 0, b"v"), row(b"xa", 5, 0, b"w")]);
     let foreign = list_of(&[row(b"xa", 5, 0, b"v"), row(b"xb", 5, 0, b"w")]);
     let unsorted_index = index_list_of(&[(b"xb".to_vec(), 1), (b"xa".to_vec(), 2)]);
     let foreign_index = index_list_of(&[(b"xa".to_vec(), 1), (b"xb".to_vec(), 2)]);
-    let bad: (u64, &[u8], &[u8]) = (0, b"pa", b"pb");
+    let bad: Place = (0, b"pa", b"pb");
     let long = vec![b'l'; 4097];
     let cut = good()[..20].to_vec();
     out.note("1 before 2, 3, 6, 7, 9");
@@ -244,9 +283,19 @@ fn pairs(out: &mut Out) {
     out.say(index(8, STAMP, bad, &unsorted_index));
     let late = list_of(&[row(b"xa", 5, 0, b""), row(b"xb", 5, 0, b""), row(b"xb", 5, 0, b"")]);
     out.say(leaf(8, 64, 256, STAMP, bad, &late));
-    out.note("7 before 9");
+    out.note("7 before 10 and 9, also where the boundaries do not rise");
     out.say(leaf(8, 64, 256, STAMP, bad, &foreign));
     out.say(index(8, STAMP, bad, &foreign_index));
+    out.say(leaf(8, 64, 256, STAMP, (0, b"pb", b"pa"), &foreign));
+    out.say(index(8, STAMP, (0, b"p", b"p"), &foreign_index));
+    out.note("6 before 10");
+    out.say(leaf(8, 64, 256, STAMP, (0, b"p", b"q"), &unsorted));
+    out.say(index(8, STAMP, (0, b"q", b"p"), &unsorted_index));
+    out.note("10 before 9");
+    out.say(leaf(8, 64, 256, STAMP, bad, &good()));
+    out.say(index(8, STAMP, bad, &good_index()));
+    out.say(leaf(8, 64, 256, STAMP, (0, b"q", b""), &good()));
+    out.say(index(8, STAMP, (0, b"q", b"p"), &index_list_of(&[])));
     out.note("9 alone");
     out.say(leaf(8, 64, 256, STAMP, NONE, &foreign));
     out.say(index(8, STAMP, NONE, &foreign_index));
@@ -266,29 +315,26 @@ fn merges(out: &mut Out) {
             row(&[b'p', key, 1], 9, 5, &[key; 3]),
         ]
     };
-    let bounds: (u64, &[u8], &[u8]) = (0, b"pa", b"pz");
-    let (a, n1) = out.built(leaf(8, 16, 256, STAMP, bounds, &list_of(&rows(b'a'))));
-    let (b, n2) = out.built(leaf(n1, 16, 256, STAMP, bounds, &list_of(&rows(b'b'))));
-    let (tree, n3) = out.built(index(n2, STAMP, bounds, &good_index()));
-    let (tree2, n4) = out.built(index(
-        n3,
-        STAMP,
-        NONE,
-        &index_list_of(&[(b"pb".to_vec(), 3), (b"pc".to_vec(), 4)]),
-    ));
-    let (empty, n5) = out.built(leaf(n4, 16, 256, STAMP, NONE, &list_of(&[])));
-    let (delta, n6) = out.built(dleaf(n5, 4, "1 1 1", (5, 5), b"key", b"value"));
-    let (older, n7) =
-        out.built(leaf(n6, 16, 256, STAMP, bounds, &list_of(&[row(b"pa\x01", 8, 0, b"old")])));
-    let (same, n8) =
-        out.built(leaf(n7, 16, 256, STAMP, bounds, &list_of(&[row(b"pa\x01", 9, 5, b"same")])));
-    let (newer, n9) =
-        out.built(leaf(n8, 16, 256, STAMP, bounds, &list_of(&[row(b"pa\x01", 10, 0, b"new")])));
-    let (other, n10) = out.built(leaf(n9, 16, 256, STAMP, NONE, &list_of(&[row(b"x", 1, 0, b"")])));
-    let (long_hi, n11) =
-        out.built(leaf(n10, 16, 256, STAMP, (0, b"", b"pab"), &list_of(&[row(b"y", 1, 0, b"")])));
-    let (deep, end) =
-        out.built(leaf(n11, 16, 256, STAMP, (0, b"pac", b""), &list_of(&[row(b"pac", 1, 0, b"")])));
+    // pages that meet at `pb` (leaves) and at `pc` (index pages)
+    let lower: Place = (0, b"pa", b"pb");
+    let upper: Place = (0, b"pb", b"pz");
+    let two = |a: &[u8], b: &[u8]| index_list_of(&[(a.to_vec(), 3), (b.to_vec(), 4)]);
+    let one = |key: &[u8], txid: u64, value: &[u8]| list_of(&[row(key, txid, 5, value)]);
+    let (a, n1) = out.built(leaf(8, 16, 256, STAMP, lower, &list_of(&rows(b'a'))));
+    let (b, n2) = out.built(leaf(n1, 16, 256, STAMP, upper, &list_of(&rows(b'b'))));
+    let (tree, n3) = out.built(index(n2, STAMP, (0, b"pa", b"pc"), &good_index()));
+    let (tree2, n4) = out.built(index(n3, STAMP, (0, b"pa", b"pz"), &two(b"pb", b"pc")));
+    let (tree3, n5) = out.built(index(n4, STAMP, (0, b"pc", b"pz"), &two(b"pc", b"pd")));
+    let (empty, n6) = out.built(leaf(n5, 16, 256, STAMP, NONE, &list_of(&[])));
+    let (delta, n7) = out.built(dleaf(n6, 4, "1 1 1", (5, 5), b"key", b"value"));
+    let (older, n8) = out.built(leaf(n7, 16, 256, STAMP, lower, &one(b"pa\x01", 8, b"old")));
+    let (same, n9) = out.built(leaf(n8, 16, 256, STAMP, lower, &one(b"pa\x01", 9, b"same")));
+    let (newer, n10) = out.built(leaf(n9, 16, 256, STAMP, lower, &one(b"pa\x01", 10, b"new")));
+    // sound pages can miss the prefix of the new boundaries only where the other page is empty
+    let (wide, n11) = out.built(leaf(n10, 16, 256, STAMP, (0, b"pa", b""), &one(b"x", 1, b"")));
+    let (below, n12) = out.built(leaf(n11, 16, 256, STAMP, (0, b"", b"pab"), &one(b"b", 1, b"")));
+    let (no_keys, n13) = out.built(leaf(n12, 16, 256, STAMP, upper, &list_of(&[])));
+    let (deep, end) = out.built(leaf(n13, 16, 256, STAMP, (0, b"pac", b""), &list_of(&[])));
 
     out.note("1 and 2, on index pages too");
     for (left, right) in [(a, b), (tree, tree2), (a, tree), (0, 0)] {
@@ -305,7 +351,7 @@ fn merges(out: &mut Out) {
         "4: no frames, other kinds, frames that end above the next free address; before 5 and 6",
     );
     let remote = a + 152;
-    for bad in [0, 4, 12, 8, delta, n5, remote, end, OVER, u64::MAX] {
+    for bad in [0, 4, 12, 8, delta, n6, remote, end, OVER, u64::MAX] {
         out.say(merge(end, a, bad));
         out.say(merge(end, bad, b));
         out.say(merge(end, tree, bad));
@@ -318,39 +364,50 @@ fn merges(out: &mut Out) {
     for (left, right) in [(a, tree), (tree, a), (empty, tree), (tree, empty)] {
         out.say(merge(end, left, right));
     }
-    out.note(
-        "6: a page with itself, overlapping pages, the same or a newer version of the joined key",
-    );
+    out.note("6: a page with itself, overlapping pages, the same or a newer version of one key; before 10");
     for (left, right) in [
         (a, a),
         (b, a),
         (tree, tree),
         (tree, tree2),
         (tree2, tree),
+        (tree2, tree3),
+        (tree3, tree),
         (a, same),
         (a, newer),
-        (empty, empty),
         (older, a),
+        (wide, below),
     ] {
         out.say(merge(end, left, right));
     }
-    out.note("6 before 7; 7: keys without the prefix of the new boundaries");
+    out.note(
+        "7: a key without the prefix of the new boundaries, beside a page without keys; before 10",
+    );
+    for (left, right) in [(wide, no_keys), (deep, below), (no_keys, a)] {
+        out.say(merge(end, left, right));
+    }
+    out.note("10: in order and with the prefix, but the boundaries do not meet; an older version of one key");
     for (left, right) in [
-        (other, long_hi),
-        (long_hi, other),
-        (deep, long_hi),
-        (a, long_hi),
-        (deep, other),
-        (long_hi, deep),
+        (a, older),
+        (a, wide),
+        (below, wide),
+        (wide, empty),
+        (empty, wide),
+        (empty, empty),
+        (no_keys, empty),
+        (no_keys, no_keys),
+        (deep, deep),
+        (deep, no_keys),
     ] {
         out.say(merge(end, left, right));
     }
-    out.note("9: no room; and the same merges where there is");
+    out.note("9: no room, but 6 and 10 before it; and the same merges where there is");
     for size in [0u64, 8, 64] {
-        out.say(merge(6000 - size, a, b));
-        out.say(merge(6000 - size, tree, tree2));
-        out.say(merge(6000 - size, a, older));
+        for (left, right) in [(a, b), (tree, tree3), (tree, tree2), (a, older)] {
+            out.say(merge(6000 - size, left, right));
+        }
     }
+    out.built(merge(end, tree, tree3));
     out.built(merge(end, a, b));
     out.note("what stands above the next free address is old bytes: at the right page's end a merge may begin");
     out.built(merge(n2, a, b));
@@ -360,8 +417,8 @@ fn merges(out: &mut Out) {
         let mut trial = Out::new();
         trial.arena(super::MAX_ARENA, 0);
         let build = |out: &mut Out| {
-            let (a, next) = out.built(leaf(8, 16, 256, STAMP, bounds, &list_of(&rows(b'a'))));
-            let (b, next) = out.built(leaf(next, 16, 256, STAMP, bounds, &list_of(&rows(b'b'))));
+            let (a, next) = out.built(leaf(8, 16, 256, STAMP, lower, &list_of(&rows(b'a'))));
+            let (b, next) = out.built(leaf(next, 16, 256, STAMP, upper, &list_of(&rows(b'b'))));
             format!("merge {next} {limit} 256 {STAMP} {a} {b}")
         };
         let command = build(&mut trial);

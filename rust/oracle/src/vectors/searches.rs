@@ -212,7 +212,7 @@ fn random_pages(out: &mut Out, rng: &mut Prng) {
             let (lo, hi) = sample::bounds(rng, &prefix);
             let limit = rng.pick(&[4usize, 16, 64]);
             let count = rng.below(14);
-            let keys = sample::keys(rng, &prefix, count);
+            let keys = sample::keys_between(rng, &lo, &hi, count);
             let rows = sample::rows(rng, &keys, 3, limit);
             let (page, next) =
                 out.built(leaf(8, limit, 256, STAMP, (3, &lo, &hi), &list_of(&rows)));

@@ -125,7 +125,7 @@ fn random_pages(out: &mut Out, rng: &mut Prng) {
             let (lo, hi) = sample::bounds(rng, &prefix);
             let limit = rng.pick(&[4usize, 16, 64]);
             let count = rng.between(1, 8);
-            let keys = sample::keys(rng, &prefix, count);
+            let keys = sample::keys_between(rng, &lo, &hi, count);
             let rows = sample::rows(rng, &keys, 6, limit);
             let (page, _) = out.built(leaf(8, limit, 256, STAMP, (3, &lo, &hi), &list_of(&rows)));
             let elems = keys.len();
