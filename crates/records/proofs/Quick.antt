@@ -1,15 +1,15 @@
 -- What the short ways read: a key whose length is one byte, an old version's key, a value that stands in its page; what an answer of theirs says.
 -- Assumes nothing.
 use Prim.Native.Nat.{ℕ, _+_, _-_, _≤_, _<_}
-use mathlib.Core.Path.{_≡_, refl, sym, ap, _∙_}
+use mathlib.Core.Path.{_≡_, sym, ap, _∙_}
 use mathlib.Core.Bool.{Bool, true, false, cond}
 use mathlib.Core.List.{List}
 use mathlib.Core.Logic.{⊎-elim, inl, inr}
 use native.Mathlib.Omega.{arith}
-use borrow.Author.Tests.{le-leb, lt-leb, le-ltb, lt-ltb, eq-eqb, ne-eqb}
+use borrow.Author.Tests.{le-leb, lt-ltb, eq-eqb, ne-eqb}
 use lib.ListN.{length, getD, take}
-use lib.Dec.{leb, ltb, eqb}
 use Rattle.lengths.proofs.Laws.{read-one}
+use Rattle.frames.specs.declared.Addr.{Addr}
 use Rattle.frames.specs.declared.Body.{Body}
 use Rattle.frames.specs.Layout.{addr, Inside}
 use Rattle.frames.specs.Limits.{maxKey}
@@ -21,8 +21,8 @@ use Rattle.values.specs.Keys.{skipOf, keyAt}
 use Rattle.values.specs.Vals.{noHist, valOf, refAt, frontAt, valAt}
 use Rattle.records.specs.declared.RecRead.{RecRead}
 use Rattle.records.specs.declared.SlotRead.{SlotRead}
-use Rattle.records.specs.Records.{slotAt, keyWhole, keyIn, valIn, recOf, recIn, recSlot, recAt, Quickly}
-use Rattle.records.proofs.Places.{inline-no}
+use Rattle.records.specs.declared.ValRead.{ValRead}
+use Rattle.records.specs.Records.{slotAt, keyWhole, keyIn, valIn, recOf, recIn, recSlot, recAt, Quickly, ShortKey}
 use Rattle.records.proofs.Inside.{ends, skip-twelve}
 
 -- ---- answers
@@ -68,22 +68,26 @@ val-hist t at a e = simp (lt-ltb _ _ a, e)
 
 -- ---- records
 
-pub head-rec : (s : List ℕ) (b : Body) (p v r n : ℕ) (h : HistRef) (va vn next : ℕ) → b .kind ≡ 0 → keyIn s b p ≡ KeyRead.Key v r n
-    → valAt (take (b .end) s) (r + n) true ≡ Val.Inline h va vn next → recIn s b p ≡ RecRead.Is (recOf p v r n h va vn (addr 0) next)
-unfolding recIn valIn
-head-rec s b p v r n h va vn next e k q = simp (k, ne-eqb (b .kind) 1 (λ z. omega arith), eq-eqb (b .kind) 0 e, q)
-
--- a head with a length of one byte: so short a rest that only a long prefix could make too long a key
-pub short-head : (s : List ℕ) (b : Body) (p : ℕ) (h : HistRef) (va vn next : ℕ) → Inside s b → b .kind ≡ 0 → p < b .end
+-- a key with a length of one byte: so short a rest that only a long prefix could make too long a key
+pub short-key : (s : List ℕ) (b : Body) (p : ℕ) → Inside s b → b .kind ≡ 0 → p < b .end
     → 12 ≤ getD (take (b .end) s) p 0 → getD (take (b .end) s) p 0 ≤ 127 → getD (take (b .end) s) p 0 ≤ b .end - p - 1 → b .«prefix_len» ≤ 3980
-    → valAt (take (b .end) s) (p + 1 + getD (take (b .end) s) p 0) true ≡ Val.Inline h va vn next
-    → recIn s b p ≡ RecRead.Is (recOf p (p + 1) (p + 1 + 12) (getD (take (b .end) s) p 0 - 12) h va vn (addr 0) next)
-short-head s b p h va vn next i k a l m r w q =
-    let n = getD (take (b .end) s) p 0 in
+    → ShortKey s b p (getD (take (b .end) s) p 0)
+short-key s b p i k a l m r w =
+    record {
+      key = short-in s b p 12 i (sym (skip-twelve (b .kind) (λ e. omega arith))) a (omega arith) (λ e. omega arith) l r (omega arith);
+      inside = omega arith;
+      long = l;
+      short = m;
+    }
+
+-- a head: such a key, and a value behind it
+pub short-head : (s : List ℕ) (b : Body) (p n : ℕ) (h : HistRef) (va vn : ℕ) (rem : Addr) (next : ℕ) → b .kind ≡ 0 → ShortKey s b p n
+    → valIn s b (p + 1 + n) ≡ ValRead.Is h va vn rem next → recIn s b p ≡ RecRead.Is (recOf p (p + 1) (p + 1 + 12) (n - 12) h va vn rem next)
+unfolding recIn
+short-head s b p n h va vn rem next e k q =
+    let l = k .long in
     let z : p + 1 + 12 + (n - 12) ≡ p + 1 + n = omega arith in
-    head-rec s b p (p + 1) (p + 1 + 12) (n - 12) h va vn next k
-    (short-in s b p 12 i (sym (skip-twelve (b .kind) (λ e. omega arith))) a (omega arith) (λ e. omega arith) l r (omega arith))
-    (ap (λ (j : ℕ). valAt (take (b .end) s) j true) z ∙ q)
+    simp (k .key, ne-eqb (b .kind) 1 (λ y. omega arith), z, q)
 
 -- the record at a slot's place
 pub slot-rec : (s : List ℕ) (b : Body) (i p : ℕ) → slotAt s b i ≡ SlotRead.At p → recIn s b p ≡ recAt s b i

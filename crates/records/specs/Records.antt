@@ -1,6 +1,6 @@
 -- A record at a slot: key, value, history reference, remote. One decoder for leaf (0), index (1) and history (2) pages.
 -- Assumes nothing.
-use Prim.Native.Nat.{ℕ, _+_, _*_, _≤_}
+use Prim.Native.Nat.{ℕ, _+_, _-_, _*_, _≤_}
 use mathlib.Core.Path.{_≡_}
 use mathlib.Core.List.{List}
 use mathlib.Core.Logic.{_⊎_}
@@ -95,6 +95,13 @@ recAt s b i = recSlot s b (slotAt s b i)
 -- a short way's answer: what the decoder answers, or none, which says nothing
 abbrev pub Quickly : {A : Type 0} → A → A → A → Type 0
 Quickly none r x = (r ≡ none) ⊎ (r ≡ x)
+
+-- n is the length byte of a leaf's key, version included, and the key can be read
+pub record ShortKey (s : List ℕ) (b : Body) (p n : ℕ) : Type 0 where
+  pub key : keyIn s b p ≡ KeyRead.Key (p + 1) (p + 1 + 12) (n - 12)
+  pub inside : p + 1 + n ≤ b .end
+  pub long : 12 ≤ n
+  pub short : n ≤ 127
 
 -- what a record that was read tells of its places
 pub record RecInside (s : List ℕ) (b : Body) (r : Rec) : Type 0 where

@@ -10,7 +10,7 @@ ghost use Rattle.values.specs.declared.FrontRead.{FrontRead};
 ghost use Rattle.values.specs.declared.Val.{Val};
 ghost use Rattle.records.specs.declared.RecRead.{RecRead};
 ghost use Rattle.records.specs.declared.ValRead.{ValRead};
-ghost use Rattle.records.specs.Records.{slotAt, keyIn, keyAtSlot, valIn, recIn, recAt, Quickly};
+ghost use Rattle.records.specs.Records.{slotAt, keyIn, keyAtSlot, valIn, recIn, recAt, Quickly, ShortKey};
 ghost use Rattle.records.specs.Parts.{prefixIn};
 use frames::Addr;
 use frames::BaseHeader;
@@ -58,7 +58,7 @@ pub enum RecRead {
 }
 
 // Where the record of slot i starts. `sst::marked_at` has a second text of this, for speed.
-fn slot_at(s: &[u8], b: Body, i: usize) -> SlotRead
+pub fn slot_at(s: &[u8], b: Body, i: usize) -> SlotRead
     requires { ⌜ Inside (now s) b ⌝ }
     ensures { λ r. ⌜ r ≡ slotAt (now (s .entry)) b i ⌝ }
 {
@@ -353,6 +353,31 @@ pub fn quick_value(s: &[u8], b: Body, at: usize) -> ValRead
     }
 }
 
+// The length byte of a leaf's key at a place, version included; 0 where the key has no length of one byte, or may be too long with its prefix.
+pub fn quick_key(s: &[u8], b: Body, p: usize) -> usize
+    requires { ⌜ Inside (now s) b ⌝ }
+    requires { ⌜ b .kind ≡ 0 ⌝ }
+    requires { ⌜ p < b .end ⌝ }
+    ensures { λ n. ⌜ ((n ≡ 0 → ⊥) → ShortKey (now (s .entry)) b p n) ⌝ }
+{
+    let e = b.end;
+    let t = &s[..e];
+    let n = t[p] as usize;
+    if n < 12 {
+        return 0;
+    }
+    if 127 < n {
+        return 0;
+    }
+    if e - p - 1 < n {
+        return 0;
+    }
+    if 3980 < b.prefix_len {
+        return 0;
+    }
+    n
+}
+
 // The head at a place of a leaf.
 fn head_in(s: &[u8], b: Body, p: usize) -> RecRead
     requires { ⌜ Inside (now s) b ⌝ }
@@ -360,40 +385,31 @@ fn head_in(s: &[u8], b: Body, p: usize) -> RecRead
     requires { ⌜ p < b .end ⌝ }
     ensures { λ r. ⌜ Quickly RecRead.Bad r (recIn (now (s .entry)) b p) ⌝ }
 {
-    let e = b.end;
-    let t = &s[..e];
-    let n = t[p] as usize;
-    if n < 12 {
+    let n = quick_key(s, b, p);
+    if n == 0 {
         return RecRead::Bad;
     }
-    if 127 < n {
+    let ValRead::Is {
+        hist,
+        val_at,
+        val_len,
+        remote,
+        next,
+    } = quick_value(s, b, p + 1 + n)
+    else {
         return RecRead::Bad;
-    }
-    if e - p - 1 < n {
-        return RecRead::Bad;
-    }
-    if 3980 < b.prefix_len {
-        return RecRead::Bad;
-    }
-    match head_val(t, p + 1 + n) {
-        Val::Inline {
-            hist,
-            at,
-            size,
-            next,
-        } => RecRead::Is(Rec {
-            from: p,
-            ver_at: p + 1,
-            rest_at: p + 1 + 12,
-            rest_len: n - 12,
-            hist: hist,
-            val_at: at,
-            val_len: size,
-            remote: NULL_ADDR,
-            next: next,
-        }),
-        _ => RecRead::Bad,
-    }
+    };
+    RecRead::Is(Rec {
+        from: p,
+        ver_at: p + 1,
+        rest_at: p + 1 + 12,
+        rest_len: n - 12,
+        hist: hist,
+        val_at: val_at,
+        val_len: val_len,
+        remote: remote,
+        next: next,
+    })
 }
 
 // The old version at a place of a history page.

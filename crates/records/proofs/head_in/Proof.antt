@@ -3,86 +3,65 @@ use native.Mathlib.Omega.{arith}
 use mathlib.Core.Path.{refl, sym}
 use denote.Ref.{now}
 use mathlib.Core.Logic.{inl, inr}
-use Rattle.records.proofs.Inside.{ends}
-use Rattle.records.proofs.Places.{inline-no}
+use Rattle.records.proofs.Inside.{val-no}
 use Rattle.records.proofs.Quick.{quick-is, short-head}
 use borrow.Author.Needs.{needs}
 use Rattle.records.proofs.head_in.Statement.{statement}
 use Rattle.records.proofs.head_in.Tie as tie
 
-slice-aggregate-t : tie.Need-slice-aggregate-t
-slice-aggregate-t c = sym (ends (now (c .before .before .args .s)) (c .before .before .args .b) (c .before .before .pre .0))
-
-shared-slice-read-n : tie.Need-shared-slice-read-n
-shared-slice-read-n c = omega (arith, ends (now (c .before .before .before .args .s)) (c .before .before .before .args .b) (c .before .before .before .pre .0), c .before .before .before .pre .1 .1)
-
-cast-n : tie.Need-cast-n
-cast-n c = omega (arith, c .shared-slice-known2 .given (c .before .before .before .args .p))
+quick-key-requires : tie.Need-quick-key-requires
+quick-key-requires c κs = search needs
 
 returns : tie.Need-returns
 returns c = inl refl
 
-returns-2 : tie.Need-returns-2
-returns-2 c = inl refl
+add-quick-value : tie.Need-add-quick-value
+add-quick-value c = search needs
 
-sub-if3 : tie.Need-sub-if3
-sub-if3 c = search needs
+add-quick-value-2 : tie.Need-add-quick-value-2
+add-quick-value-2 c = omega (arith, c .before .quick-key .ensures (c .if1 .left) .inside)
 
-sub-if3-2 : tie.Need-sub-if3-2
-sub-if3-2 c = search needs
-
-returns-3 : tie.Need-returns-3
-returns-3 c = inl refl
-
-returns-4 : tie.Need-returns-4
-returns-4 c = inl refl
-
-add-head-val : tie.Need-add-head-val
-add-head-val c = search needs
-
-add-head-val-2 : tie.Need-add-head-val-2
-add-head-val-2 c = search needs
-
-head-val-requires : tie.Need-head-val-requires
-head-val-requires c κs = search needs
+quick-value-requires : tie.Need-quick-value-requires
+quick-value-requires c κs = search needs
 
 enum-known-hist : tie.Need-enum-known-hist
 enum-known-hist c = search needs
 
-add-t19 : tie.Need-add-t19
-add-t19 c = search needs
+enum-told : tie.Need-enum-told
+enum-told c = search needs
 
-add-t20 : tie.Need-add-t20
-add-t20 c = search needs
+returns-2 : tie.Need-returns-2
+returns-2 c = inl refl
 
-add-t21 : tie.Need-add-t21
-add-t21 c = search needs
+add-t12 : tie.Need-add-t12
+add-t12 c = search needs
 
-returns-5 : tie.Need-returns-5
-returns-5 c = inr (sym (short-head (now (c .before .before .before .before .before .before .before .before .before .before .before .before .args .s)) (c .before .before .before .before .before .before .before .before .before .before .before .before .args .b) (c .before .before .before .before .before .before .before .before .before .before .before .before .args .p) (c .before .hist .given .0 .0) (c .before .hist .given .0 .1 .0) (c .before .hist .given .0 .1 .1 .0) (c .before .hist .given .0 .1 .1 .1 .0) (c .before .before .before .before .before .before .before .before .before .before .before .before .pre .0) (c .before .before .before .before .before .before .before .before .before .before .before .before .pre .1 .0) (c .before .before .before .before .before .before .before .before .before .before .before .before .pre .1 .1) (c .before .before .before .before .before .before .before .before .if1 .left) (c .before .before .before .before .before .before .before .if2 .left) (c .before .before .before .before .before .before .if3 .left) (c .before .before .before .before .if4 .left) (quick-is _ (c .before .before .before .head-val .ensures) (c .before .hist .given .1) (inline-no _ _ _ _))))
+add-t13 : tie.Need-add-t13
+add-t13 c = search needs
 
-returns-6 : tie.Need-returns-6
-returns-6 c = inl refl
+add-t14 : tie.Need-add-t14
+add-t14 c = search needs
+
+sub-t15 : tie.Need-sub-t15
+sub-t15 c = omega (arith, c .before .before .before .before .before .quick-key .ensures (c .before .before .before .before .if1 .left) .long)
+
+returns-3 : tie.Need-returns-3
+returns-3 c = inr (sym (short-head (now (c .before .before .before .before .before .before .before .args .s)) (c .before .before .before .before .before .before .before .args .b) (c .before .before .before .before .before .before .before .args .p) _ (c .before .hist .given .0 .0) (c .before .hist .given .0 .1 .0) (c .before .hist .given .0 .1 .1 .0) (c .before .hist .given .0 .1 .1 .1 .0) (c .before .hist .given .0 .1 .1 .1 .1 .0) (c .before .before .before .before .before .before .before .pre .1 .0) (c .before .before .before .before .before .quick-key .ensures (c .before .before .before .before .if1 .left)) (quick-is _ (c .before .before .before .quick-value .ensures) (c .before .hist .given .1) (val-no _ _ _ _ _))))
 
 pub head-in-spec : {M : Type 1} → statement M
 head-in-spec =
     tie.close
     (tie.spec
-    slice-aggregate-t
-    shared-slice-read-n
-    cast-n
+    quick-key-requires
     returns
-    returns-2
-    sub-if3
-    sub-if3-2
-    returns-3
-    returns-4
-    add-head-val
-    add-head-val-2
-    head-val-requires
+    add-quick-value
+    add-quick-value-2
+    quick-value-requires
     enum-known-hist
-    add-t19
-    add-t20
-    add-t21
-    returns-5
-    returns-6)
+    enum-told
+    returns-2
+    add-t12
+    add-t13
+    add-t14
+    sub-t15
+    returns-3)
