@@ -1,4 +1,5 @@
 -- The crate's laws.
 pub mod Olds
+pub mod Hand
 pub mod Decided
 pub mod Numbers

@@ -1,4 +1,5 @@
 -- The crate's definitions.
 pub mod AsOf
+pub mod InHand
 pub mod Refused
 pub mod Cases

@@ -1,13 +1,20 @@
 // A row as of a version: the newest record of a key that is no newer than it, head or history, across linked pages.
 ghost use mathlib.Core.Path.{_≡_};
+ghost use Prim.Native.Nat.{_+_, _<_, _≤_, _^_};
 ghost use Rattle.frames.specs.Layout.{Inside};
+ghost use Rattle.frames.specs.declared.Opened.{Opened};
+ghost use Rattle.walks.specs.Walk.{bodyOf};
 ghost use Rattle.asof.specs.AsOf.{handedOf, oldAsOf, oldEnter, olderAsOf, asOfAt};
+ghost use Rattle.asof.specs.InHand.{behindOf, Passes, InHands};
 use frames::Addr;
+use frames::BaseHeader;
 use frames::Body;
+use frames::Opened;
 use frames::Refusal;
 use order::Ver;
 use pages::Place;
 use records::RecRead;
+use records::SlotRead;
 use search_head::Head;
 use values::HistRef;
 use values::Val;
@@ -48,27 +55,113 @@ fn handed(r: RecRead, slot: usize, ver: Ver, reads: usize) -> AsOf
     }
 }
 
+// Behind n old versions, on the same page.
+fn behind(p: OldPlace, n: usize) -> OldPlace
+    requires { ⌜ p .slot + n < 2 ^ 64 ⌝ }
+    requires { ⌜ n ≤ p .left ⌝ }
+    ensures { λ r. ⌜ r ≡ behindOf p n ⌝ }
+{
+    let page = p.page;
+    let link = p.link;
+    OldPlace {
+        page: page,
+        link: link,
+        slot: p.slot + n,
+        left: p.left - n,
+    }
+}
+
+// How many of the next old versions are newer than v, as far as they stand in the page in hand: each is passed over by its slot and its version
+// alone.
+fn newer_in(s: &[u8], b: Body, from: OldPlace, v: Ver) -> usize
+    requires { ⌜ bodyOf (now s) (from .page) 2 ≡ Opened.Is b ⌝ }
+    ensures { λ n. ⌜ Passes (now (s .entry)) v from n ⌝ }
+{
+    if BaseHeader::MAX_KEY < b.prefix_len {
+        return 0;
+    }
+    let mut n: usize = 0;
+    while n < from.left {
+        let SlotRead::At(p) = records::slot_at(s, b, from.slot + n) else {
+            return n;
+        };
+        if b.end - p < 12 {
+            return n;
+        }
+        if records::ver_at(s, p).newer(v) {
+            n += 1;
+        } else {
+            return n;
+        }
+    }
+    n
+}
+
+// What the history page in hand comes to: the row's version and its value, or the place where the lookup goes on.
+enum InHand {
+    Is(Ver, Place),
+    On(OldPlace),
+}
+
+// The page is asked for once. A record in the common form is read there; any other is left to the lookup's own loop.
+fn in_hand(s: &[u8], from: OldPlace, v: Ver) -> InHand
+    ensures { λ r. ⌜ InHands (now (s .entry)) v from r ⌝ }
+{
+    let page = from.page;
+    let Opened::Is(b) = walks::body_of(s, page, Body::HISTORY) else {
+        return InHand::On(from);
+    };
+    let here = behind(from, newer_in(s, b, from, v));
+    if here.left == 0 {
+        return InHand::On(here);
+    }
+    let RecRead::Is(x) = records::quick_old(s, b, here.slot) else {
+        return InHand::On(here);
+    };
+    let ver = records::ver_at(s, x.ver_at);
+    if ver.newer(v) {
+        return InHand::On(here);
+    }
+    InHand::Is(
+        ver,
+        Place {
+            at: x.val_at,
+            len: x.val_len,
+        },
+    )
+}
+
 // Of what is left of the history, newest first: the first that is no newer than v.
 fn old_as_of(s: &[u8], from: OldPlace, v: Ver, slot: usize, reads: usize) -> AsOf
     ensures { λ r. ⌜ r ≡ oldAsOf (now (s .entry)) v slot reads (from .left) from ⌝ }
 {
     let mut older = from;
     loop {
-        match older.aged(s) {
-            Aged::Is { ver, slot: i, rest } => {
-                if ver.newer(v) {
-                    older = rest;
-                } else {
-                    let page = rest.page;
-                    return handed(walks::read(s, page, Body::HISTORY, i), slot, ver, reads);
+        match in_hand(s, older, v) {
+            InHand::Is(ver, value) => {
+                return AsOf::Is {
+                    slot: slot,
+                    ver: ver,
+                    value: value,
+                    reads: reads,
+                };
+            }
+            InHand::On(here) => match here.aged(s) {
+                Aged::Is { ver, slot: i, rest } => {
+                    if ver.newer(v) {
+                        older = rest;
+                    } else {
+                        let page = rest.page;
+                        return handed(walks::read(s, page, Body::HISTORY, i), slot, ver, reads);
+                    }
                 }
-            }
-            Aged::End => {
-                return AsOf::Nothing { reads: reads };
-            }
-            Aged::Bad => {
-                return AsOf::Refused(Refusal::BadFrame);
-            }
+                Aged::End => {
+                    return AsOf::Nothing { reads: reads };
+                }
+                Aged::Bad => {
+                    return AsOf::Refused(Refusal::BadFrame);
+                }
+            },
         }
     }
 }

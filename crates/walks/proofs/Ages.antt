@@ -10,12 +10,17 @@ use lib.ListN.{length}
 use Rattle.spans.proofs.Tests.{ask}
 use Rattle.order.specs.declared.Ver.{Ver}
 use Rattle.frames.specs.declared.Addr.{Addr}
+use Rattle.frames.specs.declared.Body.{Body}
+use Rattle.frames.specs.declared.Opened.{Opened}
+use Rattle.frames.specs.Limits.{maxKey}
 use Rattle.values.specs.declared.KeyRead.{KeyRead}
+use Rattle.values.specs.Keys.{verIn}
 use Rattle.records.specs.declared.SlotRead.{SlotRead}
 use Rattle.records.specs.declared.Rec.{Rec}
 use Rattle.records.specs.declared.RecRead.{RecRead}
 use Rattle.records.specs.Records.{slotAt, keySlot, keyAtSlot, recAt}
 use Rattle.records.proofs.Inside.{slot-inside, key-inside, skip-twelve, at-inside}
+use Rattle.records.proofs.Quick.{old-in}
 use Rattle.pages.specs.declared.Place.{Place}
 use Rattle.walks.specs.declared.Sheet.{Sheet}
 use Rattle.walks.specs.declared.OldPlace.{OldPlace}
@@ -23,10 +28,10 @@ use Rattle.walks.specs.declared.Item.{Item}
 use Rattle.walks.specs.declared.OldStep.{OldStep}
 use Rattle.walks.specs.declared.Turned.{Turned}
 use Rattle.walks.specs.declared.Aged.{Aged}
-use Rattle.walks.specs.Walk.{bodyIn, olderOf, fitsIn, readAt, itemOf, nextRec, nextIn, nextOld}
+use Rattle.walks.specs.Walk.{bodyIn, bodyOf, olderOf, fitsIn, readAt, itemOf, nextRec, nextIn, nextOld}
 use Rattle.walks.specs.Turned.{turnedAt}
 use Rattle.walks.specs.Aged.{keyOld, agedKey, agedIn, agedOf, agedAt}
-use Rattle.walks.proofs.Lying.{fits-inside}
+use Rattle.walks.proofs.Lying.{fits-inside, body-is, body-inside, body-keys}
 use Rattle.walks.proofs.Turns.{from, next-from, turned-left}
 
 -- the version lies in the arena, its slot in the page
@@ -106,3 +111,26 @@ aged-left s p rest v i e = by (p .left) refl
     by : (n : ℕ) → p .left ≡ n → p .left ≡ suc (rest .left)
     by zero q = absurd (let y : Aged.End ≡ Aged.Is v i rest = sym (aged-none s p q) ∙ e in let z : _≡_ {A = ℕ} 0 1 = cc in omega arith)
     by (suc n) q = let f = turned (turnedAt s p) refl (rw (ne-eqb (p .left) 0 (λ z. omega arith)) at e) in omega arith
+
+-- ---- the page in hand: an old version that stands there is the next one
+
+module _ (s : List ℕ) (p : OldPlace) (b : Body) (o : bodyOf s (p .page) 2 ≡ Opened.Is b) (l : p .left ≡ 0 → ⊥) where
+  abbrev behind-it : OldPlace
+  behind-it = olderOf (p .page) (p .link) (p .slot + 1) (p .left - 1)
+
+  aged-key : (v r n : ℕ) → keyAtSlot s b (p .slot) ≡ KeyRead.Key v r n → agedAt s p ≡ Aged.Is (verIn s v) (p .slot) behind-it
+  unfolding agedAt agedIn turnedAt
+  aged-key v r n e =
+      let k : keyOld s (p .page) (p .slot) ≡ KeyRead.Key v r n = body-keys s (p .page) b o (p .slot) ∙ e in
+      rw (ne-eqb (p .left) 0 l, ne-eqb (p .slot) (p .page .elems) (λ z. omega (arith, key-lies s (p .page) (p .slot) v r n k .slot, z)), k)
+
+  -- by its slot and its version alone
+  pub aged-slot : (q : ℕ) → slotAt s b (p .slot) ≡ SlotRead.At q → q + 12 ≤ b .end → b .«prefix_len» ≤ maxKey → agedAt s p ≡ Aged.Is (verIn s q) (p .slot) behind-it
+  unfolding keyAtSlot
+  aged-slot q e h m =
+      aged-key q (q + 12) 0
+      (ap (keySlot s b) e ∙ old-in s b q (body-inside s (p .page) 2 b o) (ap (λ (y : Body). y .kind) (sym (body-is s (p .page) 2 b o))) h m)
+
+  -- by its record
+  pub aged-rec : (r : Rec) → recAt s b (p .slot) ≡ RecRead.Is r → agedAt s p ≡ Aged.Is (verIn s (r .«ver_at»)) (p .slot) behind-it
+  aged-rec r e = aged-key (r .«ver_at») (r .«rest_at») (r .«rest_len») (at-inside s b (p .slot) r (body-inside s (p .page) 2 b o) e .1)

@@ -19,9 +19,10 @@ use Rattle.values.specs.Vals.{noHist}
 use Rattle.records.specs.declared.SlotRead.{SlotRead}
 use Rattle.records.specs.declared.Rec.{Rec}
 use Rattle.records.specs.declared.RecRead.{RecRead}
-use Rattle.records.specs.Records.{slotAt, keyWhole, keyIn, valIn, recOf, recKey, recIn, recSlot, recAt}
+use Rattle.records.specs.Records.{slotAt, keyWhole, keyIn, keyAtSlot, valIn, recOf, recKey, recIn, recSlot, recAt}
 use Rattle.walks.specs.declared.Sheet.{Sheet}
 use Rattle.walks.specs.Walk.{sheetOf, bodyIn, bodyOf, fitsIn, readAt}
+use Rattle.walks.specs.Aged.{keyOld}
 
 -- ---- the test
 
@@ -78,6 +79,10 @@ module _ (s : List ℕ) (v : Sheet) (k : ℕ) (b : Body) (e : bodyOf s v k ≡ O
   pub body-reads : (i : ℕ) → readAt s v k i ≡ recAt s b i
   unfolding readAt
   body-reads i = ap (λ (t : Bool). cond t (recAt s (bodyIn v k) i) RecRead.Bad) (asked .0) ∙ ap (λ (z : Body). recAt s z i) body-is
+
+pub body-keys : (s : List ℕ) (v : Sheet) (b : Body) → bodyOf s v 2 ≡ Opened.Is b → (i : ℕ) → keyOld s v i ≡ keyAtSlot s b i
+unfolding keyOld
+body-keys s v b e i = ap (λ (t : Bool). cond t (keyAtSlot s (bodyIn v 2) i) KeyRead.Bad) (asked s v 2 b e .0) ∙ ap (λ (z : Body). keyAtSlot s z i) (body-is s v 2 b e)
 
 -- ---- a page that was opened
 
