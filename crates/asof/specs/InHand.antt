@@ -11,8 +11,8 @@ use Rattle.asof.specs.declared.InHand.{InHand}
 use Rattle.asof.specs.AsOf.{oldAsOf}
 
 -- behind n old versions of the same page
-abbrev pub behindOf : OldPlace → ℕ → OldPlace
-behindOf p n = olderOf (p .page) (p .link) (p .slot + n) (p .left - n)
+abbrev pub furtherOf : OldPlace → ℕ → OldPlace
+furtherOf p n = olderOf (p .page) (p .link) (p .slot + n) (p .left - n)
 
 -- the answer is the one from there, whatever slot and count of keys it is told with
 pub record GoesOn (s : List ℕ) (v : Ver) (from to : OldPlace) : Type 0 where
@@ -23,7 +23,7 @@ pub record GoesOn (s : List ℕ) (v : Ver) (from to : OldPlace) : Type 0 where
 pub record Passes (s : List ℕ) (v : Ver) (from : OldPlace) (n : ℕ) : Type 0 where
   pub few : n ≤ from .left
   pub word : from .slot + n < 2 ^ 64
-  pub on : GoesOn s v from (behindOf from n)
+  pub on : GoesOn s v from (furtherOf from n)
 
 abbrev pub InHands : List ℕ → Ver → OldPlace → InHand → Type 0
 InHands s v from (InHand.Is ver value) = (slot reads : ℕ) → oldAsOf s v slot reads (from .left) from ≡ AsOf.Is slot ver value reads

@@ -5,7 +5,7 @@ ghost use Rattle.frames.specs.Layout.{Inside};
 ghost use Rattle.frames.specs.declared.Opened.{Opened};
 ghost use Rattle.walks.specs.Walk.{bodyOf};
 ghost use Rattle.asof.specs.AsOf.{handedOf, oldAsOf, oldEnter, olderAsOf, asOfAt};
-ghost use Rattle.asof.specs.InHand.{behindOf, Passes, InHands};
+ghost use Rattle.asof.specs.InHand.{furtherOf, Passes, InHands};
 use frames::Addr;
 use frames::BaseHeader;
 use frames::Body;
@@ -56,10 +56,10 @@ fn handed(r: RecRead, slot: usize, ver: Ver, reads: usize) -> AsOf
 }
 
 // Behind n old versions, on the same page.
-fn behind(p: OldPlace, n: usize) -> OldPlace
+fn further(p: OldPlace, n: usize) -> OldPlace
     requires { ⌜ p .slot + n < 2 ^ 64 ⌝ }
     requires { ⌜ n ≤ p .left ⌝ }
-    ensures { λ r. ⌜ r ≡ behindOf p n ⌝ }
+    ensures { λ r. ⌜ r ≡ furtherOf p n ⌝ }
 {
     let page = p.page;
     let link = p.link;
@@ -111,7 +111,7 @@ fn in_hand(s: &[u8], from: OldPlace, v: Ver) -> InHand
     let Opened::Is(b) = walks::body_of(s, page, Body::HISTORY) else {
         return InHand::On(from);
     };
-    let here = behind(from, newer_in(s, b, from, v));
+    let here = further(from, newer_in(s, b, from, v));
     if here.left == 0 {
         return InHand::On(here);
     }
