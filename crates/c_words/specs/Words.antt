@@ -6,6 +6,7 @@ use mathlib.Core.List.{List, [], _∷_}
 use lib.ListN.{getD}
 use Rattle.spans.specs.Span.{put}
 use Rattle.frames.specs.Layout.{addr}
+use Rattle.pages.specs.declared.Place.{Place}
 use Rattle.pages.specs.Boundaries.{place}
 use Rattle.walks.specs.declared.Sheet.{Sheet}
 use Rattle.walks.specs.declared.OldPlace.{OldPlace}
@@ -45,6 +46,13 @@ olderIn ws = olderOf (sheetIn ws 10) (addr (getD ws 15 0)) (getD ws 16 0) (getD 
 
 unfoldable pub walkIn : List ℕ → Walk
 walkIn ws = walkOf (sheetIn ws 0) (getD ws 5 0) (getD ws 6 0) (getD ws 7 0) (place (getD ws 8 0) (getD ws 9 0)) (olderIn ws)
+
+-- the walk behind an old version of the same page, and behind a head: what a step changes of it
+abbrev pub agedTo : Walk → ℕ → ℕ → Walk
+agedTo w slot left = walkOf (w .page) (w .way) (w .pos) (w .heads) (w .key) (olderOf (w .older .page) (w .older .link) slot left)
+
+abbrev pub headTo : Walk → ℕ → ℕ → Place → Walk
+headTo w p heads key = walkOf (w .page) (w .way) p heads key (w .older)
 
 abbrev pub itemWords : Item → List ℕ
 itemWords x =

@@ -5,7 +5,8 @@ ghost use Prim.Native.Nat.{_+_, _<_, _≤_, _^_};
 ghost use lib.ListN.{length, getD};
 ghost use Rattle.spans.specs.Span.{put};
 ghost use Rattle.frames.specs.Refusals.{numberOf};
-ghost use Rattle.c_words.specs.Words.{written, sheetIn, olderIn, walkIn, sheetWords, walkWords, itemWords, branchWords, endWords};
+ghost use Rattle.walks.specs.Walk.{behindOf};
+ghost use Rattle.c_words.specs.Words.{written, sheetIn, olderIn, walkIn, sheetWords, walkWords, agedTo, headTo, itemWords, branchWords, endWords};
 use frames::Addr;
 use frames::Refusal;
 use pages::Place;
@@ -72,6 +73,15 @@ fn store_each(
     store_three(out, k, a, b, c);
     store_three(out, k + 3, d, e, f);
     store_three(out, k + 6, g, h, i);
+}
+
+// Two words that the slice has.
+fn put_two(out: &mut [u64], k: usize, a: u64, b: u64)
+    requires { ⌜ k + 2 ≤ length (now out) ⌝ }
+    ensures { λ _. ⌜ now (out .exit) ≡ put (now (out .entry)) k (a ∷ b ∷ []) ⌝ }
+{
+    out[k] = a;
+    out[k + 1] = b;
 }
 
 // Three words that the slice has.
@@ -213,6 +223,36 @@ pub fn store_walk(out: &mut [u64], w: Walk)
     let then = older.page;
     store_sheet(out, 10, then);
     store_three(out, 15, older.link.0, older.slot as u64, older.left as u64);
+}
+
+// ---- the words of a walk that a step changes, where the slice has all eighteen: stored alone, they leave what `store_walk` would leave
+
+// Behind an old version, on the same history page.
+pub fn put_older(walk: &mut [u64], slot: usize, left: usize)
+    requires { ⌜ 18 ≤ length (now walk) ⌝ }
+    ensures { λ _. ⌜ now (walk .exit) ≡ written (walkWords (agedTo (walkIn (now (walk .entry))) slot left)) (now (walk .entry)) ⌝ }
+{
+    put_two(walk, 16, slot as u64, left as u64);
+}
+
+// Behind a head.
+pub fn put_on(walk: &mut [u64], pos: usize, heads: usize, key: Place)
+    requires { ⌜ 18 ≤ length (now walk) ⌝ }
+    ensures { λ _. ⌜ now (walk .exit) ≡ written (walkWords (headTo (walkIn (now (walk .entry))) pos heads key)) (now (walk .entry)) ⌝ }
+{
+    put_two(walk, 6, pos as u64, heads as u64);
+    put_two(walk, 8, key.at as u64, key.len as u64);
+}
+
+// A history page entered.
+pub fn put_entered(walk: &mut [u64], older: OldPlace)
+    requires { ⌜ 18 ≤ length (now walk) ⌝ }
+    ensures { λ _. ⌜ now (walk .exit) ≡ written (walkWords (behindOf (walkIn (now (walk .entry))) older)) (now (walk .entry)) ⌝ }
+{
+    let v = older.page;
+    put_three(walk, 10, v.at as u64, v.elems as u64, v.front as u64);
+    put_three(walk, 13, v.end as u64, v.prefix_len as u64, older.link.0);
+    put_two(walk, 16, older.slot as u64, older.left as u64);
 }
 
 // A record's nine words from word k on.
