@@ -1,5 +1,6 @@
 -- Heads without history, one behind the other: the loop over them takes the walk's own steps, and so does the head behind them.
 -- Assumes nothing.
+-- ---- the leaf of a walk
 use Prim.Native.Nat.{ℕ, _+_, _-_, _*_, _≤_, _<_}
 use mathlib.Core.Path.{_≡_, refl, sym, ap, subst, _∙_}
 use mathlib.Core.List.{List}
@@ -17,20 +18,17 @@ use Rattle.pages.specs.Boundaries.{place}
 use Rattle.walks.specs.declared.OldPlace.{OldPlace}
 use Rattle.walks.specs.declared.Walk.{Walk}
 use Rattle.walks.specs.declared.Step.{Step}
-use Rattle.walks.specs.declared.Entered.{Entered}
-use Rattle.walks.specs.Walk.{walkOf, bodyOf, movedOf, onOf, itemOf, restOf, enterAt, stepAt}
+use Rattle.walks.specs.Walk.{walkOf, bodyOf, movedOf, onOf, itemOf, restOf, stepAt}
 use Rattle.walks.proofs.Lying.{body-is, body-inside}
 use Rattle.walks.proofs.Steps.{enter-none}
 use Rattle.spans.specs.Span.{put}
 use Rattle.c_words.specs.Words.{itemWords}
 use Rattle.c_steps.specs.declared.Plain.{Plain}
 use Rattle.c_steps.specs.declared.HeadRead.{HeadRead}
-use Rattle.c_steps.specs.Turns.{Filling, KnownOlder, Ahead, Plains, Heads, onTo, headedBy}
+use Rattle.c_steps.specs.Turns.{Filling, Ahead, Plains, Heads, onTo, headedBy}
 use Rattle.c_steps.proofs.Bare.{at-bare}
 use Rattle.c_steps.proofs.Running.{filling-begin, filling-join, fills-found}
 use Rattle.c_steps.proofs.Ways.{rec-none, head-step}
-
--- ---- the leaf of a walk
 
 module _ (s : List ℕ) (w : Walk) (b : Body) (e : bodyOf s (w .page) 0 ≡ Opened.Is b) where
   pub leaf-kind : b .kind ≡ 0
@@ -47,6 +45,17 @@ module _ (s : List ℕ) (w : Walk) (b : Body) (e : bodyOf s (w .page) 0 ≡ Open
 
     pub leaf-ver : r .«ver_at» + 12 ≤ length s
     leaf-ver = ver-inside s b i r leaf-inside (λ z. omega (arith, leaf-kind, z)) q
+
+  -- the head at the walk, read, is the walk's step
+  pub head-ahead : w .older .left ≡ 0 → (w .heads ≡ 0 → ⊥) → (w .way ≡ 2 → ⊥) → (r : Rec) → recAt s b (w .pos) ≡ RecRead.Is r → Ahead s w r
+  unfolding onOf
+  head-ahead l h y r q =
+      record {
+        some = omega (arith, h);
+        below = leaf-below (w .pos) r q;
+        ver = leaf-ver (w .pos) r q;
+        steps = λ (x : OldPlace) z. head-step s w b r x l h y e q z;
+      }
 
 -- ---- the loop over heads without history, behind n of them
 
@@ -87,14 +96,7 @@ module _ (s : List ℕ) (w : Walk) (o₀ : List ℕ) (first room : ℕ) (b : Bod
 
   -- the head at hand is the walk's step
   pub heading-ahead : (r : Rec) → n < most → recAt s b p ≡ RecRead.Is r → Ahead s here r
-  unfolding onOf
-  heading-ahead r l q =
-      record {
-        some = omega (arith, l, f .less);
-        below = leaf-below s w b (f .body) p r q;
-        ver = leaf-ver s w b (f .body) p r q;
-        steps = λ (x : OldPlace) z. head-step s here b r x (f .left) (λ y. omega (arith, y, l, f .less)) (f .way) (f .body) q z;
-      }
+  heading-ahead r l q = head-ahead s here b (f .body) (f .left) (λ y. omega (arith, y, l, f .less)) (f .way) r q
 
   -- one without history leaves the past as it was
   head-plain : (r : Rec) {p′ : ℕ} → n < most → recAt s b p ≡ RecRead.Is r → r .hist .count ≡ 0 → p′ ≡ movedOf (w .way) p

@@ -1,5 +1,6 @@
 pub mod Bare
 pub mod Heading
+pub mod One
 pub mod Running
 pub mod Ways
 pub mod Numbers

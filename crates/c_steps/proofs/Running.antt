@@ -14,17 +14,15 @@ use Rattle.spans.specs.Span.{put}
 use Rattle.spans.proofs.Put.{put-nil, put-one, put-cons, put-append, length-put}
 use Rattle.frames.specs.declared.Refusal.{Refusal}
 use Rattle.frames.specs.Refusals.{numberOf}
-use Rattle.frames.proofs.Refusals.{some-number}
 use Rattle.walks.specs.declared.Walk.{Walk}
 use Rattle.walks.specs.declared.Item.{Item}
 use Rattle.walks.specs.declared.Branch.{Branch}
 use Rattle.walks.specs.declared.Step.{Step}
 use Rattle.walks.specs.Walk.{stepAt}
-use Rattle.walks.specs.Refused.{stepNumber}
 use Rattle.c_steps.specs.declared.Run.{Run}
-use Rattle.c_words.specs.Words.{written, walkWords, itemWords, branchWords, endWords, stepWords, movedWords}
+use Rattle.c_words.specs.Words.{written, walkWords, itemWords, branchWords}
 use Rattle.c_steps.specs.Turns.{Filling, Stopping}
-use Rattle.c_steps.specs.Steps.{run, runBy, runOf, wordsBy, runWords, runNumber, runWalk, runEnd, runSays, roomIn}
+use Rattle.c_steps.specs.Steps.{run, runBy, runOf, wordsBy, runWords, runNumber, runWalk, runSays, roomIn}
 
 pub filling-begin : (s : List ℕ) (most first : ℕ) (w : Walk) (o : List ℕ) → Filling s most first w o w first 0 o
 filling-begin s most first w o =
@@ -190,9 +188,6 @@ room-within len h = omega (arith, h, div-add-mod (len - 1) 9)
 abbrev Told : Run → List ℕ → List ℕ → List ℕ → ℕ → List ℕ → List ℕ → Type 0
 Told x ws walk out r walk′ out′ = (r ≡ runNumber x) × ((walk′ ≡ written (runWalk x) walk) × (out′ ≡ written (runSays x ws) out))
 
-abbrev ToldOne : Run → List ℕ → List ℕ → ℕ → List ℕ → List ℕ → Type 0
-ToldOne x walk out r walk′ out′ = (r ≡ runNumber x) × ((walk′ ≡ written (runWalk x) walk) × (out′ ≡ written (runEnd x) out))
-
 module _ (x : Run) (walk out : List ℕ) where
   pub told-none : {out′ : List ℕ} → x .count ≡ 0 → x .number ≡ 0 → out′ ≡ put out 0 (0 ∷ []) → Told x [] walk out (x .number) walk out′
   unfolding runNumber runWalk runSays written
@@ -206,19 +201,6 @@ module _ (x : Run) (walk out : List ℕ) where
   unfolding runNumber runWalk runSays written
   told-run h e m = rw (ne-eqb (x .count) 0 h) (refl, (m, e))
 
-  -- the same of one step
-  pub step-end : {out′ : List ℕ} → x .count ≡ 0 → x .number ≡ 0 → out′ ≡ written endWords out → ToldOne x walk out (x .number) walk out′
-  unfolding runNumber runWalk runEnd written
-  step-end h n e = rw (eq-eqb (x .count) 0 h, eq-eqb (x .number) 0 n) (refl, (sym (put-nil walk 0), e))
-
-  pub step-refused : x .count ≡ 0 → (x .number ≡ 0 → ⊥) → ToldOne x walk out (x .number) walk out
-  unfolding runNumber runWalk runEnd written
-  step-refused h n = rw (eq-eqb (x .count) 0 h, ne-eqb (x .number) 0 n) (refl, (sym (put-nil walk 0), sym (put-nil out 0)))
-
-  pub step-run : {walk′ : List ℕ} → (x .count ≡ 0 → ⊥) → walk′ ≡ written (walkWords (x .walk)) walk → ToldOne x walk out 0 walk′ out
-  unfolding runNumber runWalk runEnd written
-  step-run h m = rw (ne-eqb (x .count) 0 h) (refl, (m, sym (put-nil out 0)))
-
 -- the count in front of the words that the loop has stored
 pub told-steps : (s walk out : List ℕ) {room n : ℕ} {w v : Walk} {x : Run} {r : ℕ} {walk′ o out′ : List ℕ} → room ≡ n → w ≡ v
     → x ≡ runOf room 0 s w → o ≡ put out 1 (runWords room s w) → Told x [] walk o r walk′ out′
@@ -231,40 +213,5 @@ told-steps s walk out {room} {n} {w} {v} {x} {r} {walk′} {o} {out′} en ew e 
         h .1 .0 ∙ ap (λ (z : Run). written (runWalk z) walk) g,
         h .1 .1 ∙ ap (λ (z : Run). written (runSays z []) o) g ∙ ap (λ (z : List ℕ). written (runSays (runOf n 0 s v) []) z) q
             ∙ says (runOf n 0 s v) (runWords n s v) out (none n s v),
-      ),
-    )
-
--- ---- one step is a run of one
-
--- "each refusal has its number": none is 0
-refused-some : (r : Refusal) → eqb (numberOf r) 0 ≡ false
-refused-some r = ne-eqb (numberOf r) 0 (λ e. omega (arith, e, some-number r))
-
--- what a step says, of the run that stops behind it
-abbrev OneStep : Run → List ℕ → List ℕ → Step → Type 0
-OneStep x ws o y = (runNumber x ≡ stepNumber y) × ((runWalk x ≡ movedWords y) × (written (runEnd x) (put o 0 ws) ≡ written (stepWords y) o))
-
-one-by : (w : Walk) (o : List ℕ) (y : Step) → OneStep (runBy (λ (v : Walk). run (0 + 1) 0 v) 0 w y) (wordsBy (λ (v : Walk). []) y) o y
-unfolding runNumber runWalk runEnd written
-one-by w o (Step.Found x v) = (refl, (refl, put-nil (put o 0 (itemWords x)) 0))
-one-by w o (Step.Leads x v) = (refl, (refl, put-nil (put o 0 (branchWords x)) 0))
-one-by w o Step.End = (refl, (refl, ap (λ (z : List ℕ). put z 0 endWords) (put-nil o 0)))
-one-by w o (Step.Refused r) = (refl, (refl, ap (λ (t : Bool). put (put o 0 []) 0 (cond t endWords [])) (refused-some r) ∙ put-nil (put o 0 []) 0))
-
-one : (s : List ℕ) (w : Walk) (o : List ℕ) → OneStep (runOf 1 0 s w) (runWords 1 s w) o (stepAt s w)
-unfolding runOf runWords
-one s w o = one-by w o (stepAt s w)
-
-pub told-step : (s walk out : List ℕ) {w v : Walk} {x : Run} {r : ℕ} {walk′ o out′ : List ℕ} → w ≡ v
-    → x ≡ runOf 1 0 s w → o ≡ put out 0 (runWords 1 s w) → ToldOne x walk o r walk′ out′
-    → (r ≡ stepNumber (stepAt s v)) × ((walk′ ≡ written (movedWords (stepAt s v)) walk) × (out′ ≡ written (stepWords (stepAt s v)) out))
-told-step s walk out {w} {v} {x} {r} {walk′} {o} {out′} ew e p h =
-    let g : x ≡ runOf 1 0 s v = e ∙ ap (λ (z : Walk). runOf 1 0 s z) ew in
-    let q : o ≡ put out 0 (runWords 1 s v) = p ∙ ap (λ (z : Walk). put out 0 (runWords 1 s z)) ew in
-    let l = one s v out in (
-      h .0 ∙ ap runNumber g ∙ l .0,
-      (
-        h .1 .0 ∙ ap (λ (z : Run). written (runWalk z) walk) g ∙ ap (λ (z : List ℕ). written z walk) (l .1 .0),
-        h .1 .1 ∙ ap (λ (z : Run). written (runEnd z) o) g ∙ ap (λ (z : List ℕ). written (runEnd (runOf 1 0 s v)) z) q ∙ l .1 .1,
       ),
     )

@@ -9,7 +9,7 @@ use Rattle.walks.specs.declared.Walk.{Walk}
 use Rattle.walks.specs.declared.Step.{Step}
 use Rattle.walks.specs.Walk.{stepAt}
 use Rattle.c_steps.specs.declared.Run.{Run}
-use Rattle.c_words.specs.Words.{walkIn, walkWords, itemWords, branchWords, endWords}
+use Rattle.c_words.specs.Words.{walkIn, walkWords, itemWords, branchWords}
 
 abbrev pub run : ℕ → ℕ → Walk → Run
 run k number w = record { count = k; number = number; walk = w }
@@ -52,10 +52,6 @@ runWalk x = cond (eqb (x .count) 0) [] (walkWords (x .walk))
 -- how many records, in front of their words; a refused first step has no words
 unfoldable pub runSays : Run → List ℕ → List ℕ
 runSays x ws = cond (eqb (x .count) 0) (cond (eqb (x .number) 0) (0 ∷ []) []) (x .count ∷ ws)
-
--- for one step alone, the words of its end
-unfoldable pub runEnd : Run → List ℕ
-runEnd x = cond (eqb (x .count) 0) (cond (eqb (x .number) 0) endWords []) []
 
 -- what ct_steps does with a caller's words: the walk in them, and room for so many records as `len` words have
 abbrev pub stepsAt : List ℕ → List ℕ → ℕ → Run
