@@ -1,4 +1,4 @@
--- A page judged by `plain` or by `aged` is one that both headers' tests let pass.
+-- A page judged by `plain` or by `history` is one that both headers' tests let pass.
 -- Assumes nothing.
 use Prim.Native.Nat.{ℕ, _+_, _*_}
 use mathlib.Core.Path.{_≡_, refl, sym, ap, _∙_}
@@ -81,9 +81,9 @@ module _ (x : BoxHeader) (h : BaseHeader) (at len : ℕ) where
       unfolding boxOk
       box-index n = simp (r .address, r .kind, n, f, l, r .fits)
 
-    box-aged : x .«node_type» ≡ nodeLeaf → x .flag ≡ flagSibling → (eqb (x .link .0) 0 || ltb at (x .link .0)) ≡ true → boxOk x at len ≡ true
+    box-history : x .«node_type» ≡ nodeLeaf → x .flag ≡ flagSibling → (eqb (x .link .0) 0 || ltb at (x .link .0)) ≡ true → boxOk x at len ≡ true
     unfolding boxOk
-    box-aged n f l = simp (r .address, r .kind, n, f, l, r .fits)
+    box-history n f l = simp (r .address, r .kind, n, f, l, r .fits)
 
     module _ (e : lengthsOk h ≡ true) (p : leb (h .«prefix_len») (h .«lo_len») ≡ true) (s : leb (h .size) (x .«payload_size») ≡ true) where
       base-leaf : eqb (x .flag) 0 ≡ true → eqb (h .«is_index») 0 ≡ true → eqb (x .«node_type») nodeLeaf ≡ true → (eqb (h .«has_multiple_versions») 0 || eqb (h .«has_multiple_versions») 1) ≡ true → baseOk x h ≡ true
@@ -94,10 +94,10 @@ module _ (x : BoxHeader) (h : BaseHeader) (at len : ℕ) where
       unfolding baseOk
       base-index f i n m q = simp (r .zeros, i, n, f, m, q, e, p, s, r .front)
 
-      base-aged : x .flag ≡ flagSibling → eqb (h .«is_index») 0 ≡ true → eqb (x .«node_type») nodeLeaf ≡ true → eqb (h .«has_multiple_versions») 0 ≡ true → leb 1 (h .elems) ≡ true
+      base-history : x .flag ≡ flagSibling → eqb (h .«is_index») 0 ≡ true → eqb (x .«node_type») nodeLeaf ≡ true → eqb (h .«has_multiple_versions») 0 ≡ true → leb 1 (h .elems) ≡ true
           → (eqb (h .«lo_len») 0 && eqb (h .«hi_len») 0 && eqb (h .«right_sibling» .0) 0) ≡ true → eqb (h .size) (x .«payload_size») ≡ true → baseOk x h ≡ true
       unfolding baseOk
-      base-aged f i n m k b q = simp (r .zeros, i, n, f, m, k, b, q, e, p, s, r .front)
+      base-history f i n m k b q = simp (r .zeros, i, n, f, m, k, b, q, e, p, s, r .front)
 
   -- what `plain` answers
   pub plain-ok : (t : Bool) → (t ≡ true → AnyBase x h at len)
@@ -131,11 +131,11 @@ module _ (x : BoxHeader) (h : BaseHeader) (at len : ℕ) where
       (box-index r f l n, r .kind, base-index r (q .four) (q .five) s f (eqb-true (h .«is_index») 1 (and-l i1 n2 i)) n (and-l m0 same m) (and-r m0 same m)))
       (either plainLeaf plainIndex (q .three))
 
-  -- what `aged` answers
-  pub aged-ok : (t : Bool) → (t ≡ true → AnyBase x h at len)
+  -- what `history` answers
+  pub history-ok : (t : Bool) → (t ≡ true → AnyBase x h at len)
       → (t && (eqb (x .«node_type») nodeLeaf && eqb (x .flag) flagSibling) && (eqb (x .link .0) 0 || ltb at (x .link .0)) && (eqb (h .«lo_len») 0 && eqb (h .«hi_len») 0 && eqb (h .«right_sibling» .0) 0)
       && (eqb (h .«is_index») 0 && eqb (h .«has_multiple_versions») 0) && eqb (h .«prefix_len») 0 && leb 1 (h .elems) && eqb (h .size) (x .«payload_size»)) ≡ true → Passes x h at len × (x .flag ≡ flagSibling)
-  aged-ok t w y =
+  history-ok t w y =
       let n1 = eqb (x .«node_type») nodeLeaf in
       let f1 = eqb (x .flag) flagSibling in
       let link = (eqb (x .link .0) 0 || ltb at (x .link .0)) in
@@ -164,7 +164,7 @@ module _ (x : BoxHeader) (h : BaseHeader) (at len : ℕ) where
       let p : leb (h .«prefix_len») (h .«lo_len») ≡ true = le-leb (h .«prefix_len») (h .«lo_len») (omega arith) in
       let z : h .size ≡ x .«payload_size» = eqb-true (h .size) (x .«payload_size») (and-r (front && none && some) same y) in
       let s : leb (h .size) (x .«payload_size») ≡ true = le-leb (h .size) (x .«payload_size») (omega arith) in
-      ((box-aged r (eqb-true (x .«node_type») nodeLeaf n) f (q .three), r .kind, base-aged r e p s f (and-l i0 m0 (q .five)) n (and-r i0 m0 (q .five)) (and-r (front && none) some y2) (q .four) (and-r (front && none && some) same y)), f)
+      ((box-history r (eqb-true (x .«node_type») nodeLeaf n) f (q .three), r .kind, base-history r e p s f (and-l i0 m0 (q .five)) n (and-r i0 m0 (q .five)) (and-r (front && none) some y2) (q .four) (and-r (front && none && some) same y)), f)
 
 boxed : (s : List ℕ) (a : Addr) (x : BoxHeader) → leb (a .0 + boxLen) (length s) ≡ true → x ≡ boxFields s (a .0) → boxOk (boxFields s (a .0)) (a .0) (length s) ≡ true → boxAt s a ≡ FrameRead.Frame x
 unfolding boxAt
@@ -183,9 +183,9 @@ plain-page s a x h r i j p =
     simp (frame, eq-eqb (x .«box_kind») boxBase (p .1), big, o, j)
 
 -- a page whose flag is a history page's is opened as one
-pub aged-open : (s : List ℕ) (a : Addr) (b : Body) (x : BoxHeader) (h : BaseHeader) → pageAt s a ≡ PageRead.Page x h → x .flag ≡ flagSibling → (d : Body) → d ≡ bodyOf a x h → Opened.Is d ≡ Opened.Is b → (openAt s a ≡ Opened.Is b) × (b .kind ≡ 2)
+pub history-open : (s : List ℕ) (a : Addr) (b : Body) (x : BoxHeader) (h : BaseHeader) → pageAt s a ≡ PageRead.Page x h → x .flag ≡ flagSibling → (d : Body) → d ≡ bodyOf a x h → Opened.Is d ≡ Opened.Is b → (openAt s a ≡ Opened.Is b) × (b .kind ≡ 2)
 unfolding openAt bodyOf kindOf
-aged-open s a b x h p f d o e =
+history-open s a b x h p f d o e =
     let z : d ≡ b = cc in
     let w : openAt s a ≡ Opened.Is (bodyOf a x h) = simp p in
     let k : bodyOf a x h .kind ≡ 2 = rw f in

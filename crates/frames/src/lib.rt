@@ -463,8 +463,8 @@ fn plain(x: BoxHeader, h: BaseHeader, at: usize, len: usize) -> bool
         & (h.size <= x.payload_size)
 }
 
-// Whether both headers are those of a history page, likewise: `aged-ok`.
-fn aged(x: BoxHeader, h: BaseHeader, at: usize, len: usize) -> bool
+// Whether both headers are those of a history page, likewise: `history-ok`.
+fn history(x: BoxHeader, h: BaseHeader, at: usize, len: usize) -> bool
     requires { ⌜ (at ≤ len) × (len < 2 ^ 63) ⌝ }
     ensures { λ r. ⌜ (r ≡ true → Passes x h at len × (x .flag ≡ flagSibling)) ⌝ }
 {
@@ -483,14 +483,14 @@ fn aged(x: BoxHeader, h: BaseHeader, at: usize, len: usize) -> bool
 }
 
 // The history page at an address, judged quickly; Bad says nothing.
-pub fn aged_at(s: &[u8], a: Addr) -> Opened
+pub fn quick_history(s: &[u8], a: Addr) -> Opened
     ensures { λ r. ⌜ ((b : Body) → r ≡ Opened.Is b → (openAt (now (s .entry)) a ≡ Opened.Is b) × (b .kind ≡ 2)) ⌝ }
 {
     let at = a.0 as usize;
     if spans::room(s.len(), at, BaseHeader::SLOTS_AT) {
         let x = BoxHeader::fields(s, at);
         let h = BaseHeader::fields(s, at + BoxHeader::HDR_LEN);
-        if aged(x, h, at, s.len()) {
+        if history(x, h, at, s.len()) {
             return Opened::Is(body_of(a, x, h));
         }
     }

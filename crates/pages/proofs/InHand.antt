@@ -24,9 +24,9 @@ use Rattle.records.specs.Records.{recAt}
 use Rattle.records.proofs.Inside.{old-place, ver-inside}
 use Rattle.pages.specs.declared.OldRead.{OldRead}
 use Rattle.pages.specs.declared.Hand.{Hand}
-use Rattle.pages.specs.declared.Taken.{Taken}
+use Rattle.pages.specs.declared.HandRead.{HandRead}
 use Rattle.pages.specs.declared.Spot.{Spot}
-use Rattle.pages.specs.declared.Turned.{Turned}
+use Rattle.pages.specs.declared.SpotRead.{SpotRead}
 use Rattle.pages.specs.Sound.{slotsOk, historyAt, histOf, histOk, oldRec, oldIn, oldLink, oldAt, chainFrom, enteredOf, entered, headOk}
 use Rattle.pages.specs.Hand.{handOf, judgedOf, judgedAt, Held, Known, TurnsTo, TurnedTo}
 use Rattle.pages.proofs.Turns.{chain-bad, chain-broken, chain-young, chain-more, head-chain, head-out}
@@ -35,7 +35,7 @@ use Rattle.pages.proofs.Olds.{history-inside}
 
 -- ---- the page
 
-taken-no : (h : Hand) → Taken.Bad ≡ Taken.Is h → ⊥
+taken-no : (h : Hand) → HandRead.Bad ≡ HandRead.Is h → ⊥
 taken-no h e = let z : _≡_ {A = ℕ} 0 1 = cc in omega arith
 
 -- a page that was taken in hand is a history page, whole
@@ -45,39 +45,39 @@ record Page (s : List ℕ) (a : Addr) (h : Hand) : Type 0 where
   whole : slotsOk s body ≡ true
   is : handOf a body ≡ h
 
-judged-given : (s : List ℕ) (a : Addr) (h : Hand) → judgedAt s a ≡ Taken.Is h → Page s a h
+judged-given : (s : List ℕ) (a : Addr) (h : Hand) → judgedAt s a ≡ HandRead.Is h → Page s a h
 unfolding judgedAt
 judged-given s a h e = go (historyAt s a) refl e
   where
-    by : (b : Body) → historyAt s a ≡ Opened.Is b → (t : Bool) → slotsOk s b ≡ t → cond t (Taken.Is (handOf a b)) Taken.Bad ≡ Taken.Is h → Page s a h
+    by : (b : Body) → historyAt s a ≡ Opened.Is b → (t : Bool) → slotsOk s b ≡ t → cond t (HandRead.Is (handOf a b)) HandRead.Bad ≡ HandRead.Is h → Page s a h
     by b o true w e′ = let x : handOf a b ≡ h = cc in record { body = b; opened = o; whole = w; is = x }
     by b o false w e′ = absurd (taken-no h e′)
 
-    go : (o : Opened) → historyAt s a ≡ o → judgedOf s a o ≡ Taken.Is h → Page s a h
+    go : (o : Opened) → historyAt s a ≡ o → judgedOf s a o ≡ HandRead.Is h → Page s a h
     go (Opened.Is b) o e′ = by b o (slotsOk s b) refl e′
     go Opened.Bad o e′ = absurd (taken-no h e′)
 
-pub judged-held : (s : List ℕ) (a : Addr) (h : Hand) → judgedAt s a ≡ Taken.Is h → Held s h
+pub judged-held : (s : List ℕ) (a : Addr) (h : Hand) → judgedAt s a ≡ HandRead.Is h → Held s h
 judged-held s a h e = ap (λ (p : Addr). judgedAt s p) (sym (ap (λ (x : Hand). x .page) (judged-given s a h e .is))) ∙ e
 
 -- one that was not taken is none that is whole
-not-whole : (s : List ℕ) (a : Addr) → judgedAt s a ≡ Taken.Bad → histOk s a ≡ false
+not-whole : (s : List ℕ) (a : Addr) → judgedAt s a ≡ HandRead.Bad → histOk s a ≡ false
 unfolding judgedAt histOk
 not-whole s a e = go (historyAt s a) e
   where
-    by : (b : Body) (t : Bool) → cond t (Taken.Is (handOf a b)) Taken.Bad ≡ Taken.Bad → t ≡ false
+    by : (b : Body) (t : Bool) → cond t (HandRead.Is (handOf a b)) HandRead.Bad ≡ HandRead.Bad → t ≡ false
     by b true e′ = absurd (taken-no (handOf a b) (sym e′))
     by b false e′ = refl
 
-    go : (o : Opened) → judgedOf s a o ≡ Taken.Bad → histOf s o ≡ false
+    go : (o : Opened) → judgedOf s a o ≡ HandRead.Bad → histOf s o ≡ false
     go (Opened.Is b) e′ = by b (slotsOk s b) e′
     go Opened.Bad e′ = refl
 
 -- the page in hand, asked for again
-pub known-again : (s : List ℕ) (a : Addr) (h : Hand) → Known s h → (eqb (a .0) (h .page .0) && not (eqb (a .0) 0)) ≡ true → judgedAt s a ≡ Taken.Is h
+pub known-again : (s : List ℕ) (a : Addr) (h : Hand) → Known s h → (eqb (a .0) (h .page .0) && not (eqb (a .0) 0)) ≡ true → judgedAt s a ≡ HandRead.Is h
 known-again s a h k e = go (eqb (a .0) (h .page .0)) refl (eqb (a .0) 0) refl e
   where
-    go : (t : Bool) → eqb (a .0) (h .page .0) ≡ t → (u : Bool) → eqb (a .0) 0 ≡ u → (t && not u) ≡ true → judgedAt s a ≡ Taken.Is h
+    go : (t : Bool) → eqb (a .0) (h .page .0) ≡ t → (u : Bool) → eqb (a .0) 0 ≡ u → (t && not u) ≡ true → judgedAt s a ≡ HandRead.Is h
     go true p false q e′ =
         let x : a .0 ≡ h .page .0 = eqb-true (a .0) (h .page .0) p in
         let n = eqb-false (a .0) 0 q in
@@ -162,7 +162,7 @@ module _ (s : List ℕ) (h : Hand) (e : Held s h) (i : ℕ) (l : h .elems ≤ i)
       let z : g .body .link ≡ h .link = ap (λ (y : Hand). y .link) (g .is) in
       behind s (h .page) (g .body) i (g .opened) (omega arith) ∙ ap (λ (y : Addr). oldLink s y (historyAt s y)) z
 
-  pub spot-behind : (d : Hand) (p : Spot) → p .hand ≡ d → p .slot ≡ 0 → judgedAt s (h .link) ≡ Taken.Is d → TurnsTo s h i p
+  pub spot-behind : (d : Hand) (p : Spot) → p .hand ≡ d → p .slot ≡ 0 → judgedAt s (h .link) ≡ HandRead.Is d → TurnsTo s h i p
   spot-behind d p x y j =
       let k = judged-given s (h .link) d j in
       let n = history-inside s (h .link) (k .body) (k .opened) in
@@ -173,7 +173,7 @@ module _ (s : List ℕ) (h : Hand) (e : Held s h) (i : ℕ) (l : h .elems ≤ i)
       let q : oldAt s (h .page) i ≡ oldAt s (d .page) 0 = next ∙ ap (λ (o : Opened). oldLink s (h .link) o) (k .opened) ∙ sym (first-of s (h .link) (k .body) (k .opened)) ∙ ap (λ (z : Addr). oldAt s z 0) (sym a) in
       record { held = rw x (judged-held s (h .link) d j); slot = rw (x, y) c; same = rw (x, y) q }
 
-  pub spot-none : judgedAt s (h .link) ≡ Taken.Bad → (n : ℕ) (t : Ver) → 0 < n → chainFrom s n (h .page) i t ≡ false
+  pub spot-none : judgedAt s (h .link) ≡ HandRead.Bad → (n : ℕ) (t : Ver) → 0 < n → chainFrom s n (h .page) i t ≡ false
   unfolding oldIn
   spot-none j n t w = go (historyAt s (h .link)) next
     where
@@ -183,12 +183,12 @@ module _ (s : List ℕ) (h : Hand) (e : Held s h) (i : ℕ) (l : h .elems ≤ i)
 
 -- ---- a chain's turn
 
-module _ (s : List ℕ) (h : Hand) (i : ℕ) (r : Turned) (g : TurnedTo s h i r) where
-  pub turned-is : (p : Spot) → r ≡ Turned.Is p → TurnsTo s h i p
-  turned-is p e = subst (λ (x : Turned). TurnedTo s h i x) e g
+module _ (s : List ℕ) (h : Hand) (i : ℕ) (r : SpotRead) (g : TurnedTo s h i r) where
+  pub turned-is : (p : Spot) → r ≡ SpotRead.Is p → TurnsTo s h i p
+  turned-is p e = subst (λ (x : SpotRead). TurnedTo s h i x) e g
 
-  pub turned-bad : r ≡ Turned.Bad → (n : ℕ) (t : Ver) → 0 < n → chainFrom s n (h .page) i t ≡ false
-  turned-bad e = subst (λ (x : Turned). TurnedTo s h i x) e g
+  pub turned-bad : r ≡ SpotRead.Bad → (n : ℕ) (t : Ver) → 0 < n → chainFrom s n (h .page) i t ≡ false
+  turned-bad e = subst (λ (x : SpotRead). TurnedTo s h i x) e g
 
 module _ (s : List ℕ) (h : Hand) (i n : ℕ) (t : Ver) (l : 0 < n) (p : Spot) (g : TurnsTo s h i p) (v : Ver) (e : v ≡ verIn s (p .hand .at + leAt 4 s (p .hand .at + baseLen + 4 * p .slot))) where
   old : Old s (p .hand) (p .slot)
@@ -211,7 +211,7 @@ entered-in : (s : List ℕ) (a : Addr) (b : Body) (i : ℕ) → historyAt s a �
 unfolding entered
 entered-in s a b i o = rw o
 
-entered-held : (s : List ℕ) (a : Addr) (h : Hand) (i : ℕ) → judgedAt s a ≡ Taken.Is h → entered s a i ≡ ltb i (h .elems)
+entered-held : (s : List ℕ) (a : Addr) (h : Hand) (i : ℕ) → judgedAt s a ≡ HandRead.Is h → entered s a i ≡ ltb i (h .elems)
 entered-held s a h i j =
     let g = judged-given s a h j in
     entered-in s a (g .body) i (g .opened) ∙ ap (λ (x : Hand). ltb i (x .elems)) (g .is)
@@ -224,7 +224,7 @@ chain-not-whole s n a i t l e h = go (historyAt s a) refl e
     go (Opened.Is b) o e′ = chain-dead s n a i t l a i (recAt s b i) (rw (o, ne-eqb i (b .elems) (not-last i (b .elems) (ltb-true i (b .elems) e′)))) h
     go Opened.Bad o e′ = absurd (let z : _≡_ {A = ℕ} 0 1 = cc in omega arith)
 
-pub head-not-whole : (s : List ℕ) (r : Rec) → (r .hist .count ≡ 0 → ⊥) → judgedAt s (r .hist .page) ≡ Taken.Bad → headOk s r ≡ false
+pub head-not-whole : (s : List ℕ) (r : Rec) → (r .hist .count ≡ 0 → ⊥) → judgedAt s (r .hist .page) ≡ HandRead.Bad → headOk s r ≡ false
 head-not-whole s r n j = go (entered s (r .hist .page) (r .hist .slot)) refl
   where
     some : (c : ℕ) → (c ≡ 0 → ⊥) → 0 < c
@@ -237,7 +237,7 @@ head-not-whole s r n j = go (entered s (r .hist .page) (r .hist .slot)) refl
     go false e = head-out s r n e
 
 -- a head whose page is in hand: a chain from its slot, where that is one of the page's
-module _ (s : List ℕ) (r : Rec) (n : r .hist .count ≡ 0 → ⊥) (h : Hand) (j : judgedAt s (r .hist .page) ≡ Taken.Is h) where
+module _ (s : List ℕ) (r : Rec) (n : r .hist .count ≡ 0 → ⊥) (h : Hand) (j : judgedAt s (r .hist .page) ≡ HandRead.Is h) where
   pub head-held : (v : Ver) → v ≡ verIn s (r .«ver_at») → r .hist .slot < h .elems → chainFrom s (r .hist .count) (h .page) (r .hist .slot) v ≡ headOk s r
   head-held v e l =
       ap (λ (x : Ver). chainFrom s (r .hist .count) (h .page) (r .hist .slot) x) e

@@ -6,14 +6,10 @@ use mathlib.Core.Bool.{Bool, true, false, not, cond}
 use mathlib.Core.List.{List}
 use native.Mathlib.Omega.{arith}
 use borrow.Author.Tests.{eq-eqb, ne-eqb, le-leb}
-use lib.Dec.{leb, ltb, eqb}
+use lib.Dec.{leb, eqb}
 use Rattle.numbers.specs.Number.{leAt}
-use Rattle.order.specs.declared.Order.{Order}
 use Rattle.order.specs.declared.Ver.{Ver}
-use Rattle.order.specs.Order.{byNumber, cmpBytes, isLess}
 use Rattle.order.specs.Version.{newerThan}
-use Rattle.order_pair.specs.declared.Pair.{Pair}
-use Rattle.order_pair.specs.Apart.{StandsAs}
 use Rattle.frames.specs.declared.Addr.{Addr}
 use Rattle.frames.specs.declared.Body.{Body}
 use Rattle.frames.specs.declared.Opened.{Opened}
@@ -40,20 +36,6 @@ not-true false e = refl
 pub not-false : (t : Bool) → not t ≡ false → t ≡ true
 not-false true e = refl
 not-false false e = sym e
-
--- ---- order
-
--- numbers that differ stand as the strings do
-less-by : (x y : ℕ) → (x ≡ y → ⊥) → ltb x y ≡ isLess (byNumber x y Order.Equal)
-less-by x y n = go (ltb x y) refl (ltb y x)
-  where
-    go : (t : Bool) → ltb x y ≡ t → (u : Bool) → t ≡ isLess (cond t Order.Less (cond u Order.Greater Order.Equal))
-    go true e u = refl
-    go false e true = refl
-    go false e false = refl
-
-pub pair-less : (a b x y : List ℕ) (q : Pair) → x ≡ a → y ≡ b → StandsAs x y q → (q .x ≡ q .y → ⊥) → ltb (q .x) (q .y) ≡ isLess (cmpBytes a b)
-pair-less a b x y q e f z n = less-by (q .x) (q .y) n ∙ ap isLess (sym (z .differ n)) ∙ rw (e, f)
 
 -- ---- slots
 

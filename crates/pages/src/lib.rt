@@ -3,9 +3,7 @@ ghost use mathlib.Core.Path.{_≡_};
 ghost use mathlib.Core.Bool.{true};
 ghost use Prim.Native.Nat.{_+_, _*_, _≤_, _<_};
 ghost use lib.ListN.{length};
-ghost use Rattle.spans.specs.Span.{part};
 ghost use Rattle.numbers.specs.Number.{leAt};
-ghost use Rattle.order.specs.Order.{cmpBytes, isLess};
 ghost use Rattle.frames.specs.Layout.{baseLen, Inside};
 ghost use Rattle.values.specs.Keys.{verIn};
 ghost use Rattle.records.specs.Records.{recAt};
@@ -29,22 +27,6 @@ use records::ValRead;
 
 // ---- the check
 
-// Whether the string at ra stands behind the one at la: two of one length are told apart by two numbers, for speed.
-fn rises(s: &[u8], la: usize, ln: usize, ra: usize, rn: usize) -> bool
-    requires { ⌜ (la + ln ≤ length (now s)) × (ra + rn ≤ length (now s)) ⌝ }
-    ensures { λ r. ⌜ r ≡ isLess (cmpBytes (part (now (s .entry)) la ln) (part (now (s .entry)) ra rn)) ⌝ }
-{
-    let x = spans::part_of(s, la, ln);
-    let y = spans::part_of(s, ra, rn);
-    if ln == rn {
-        let q = order_pair::pair_of(x, y);
-        if q.x != q.y {
-            return q.x < q.y;
-        }
-    }
-    order::is_less(order::compare(x, y))
-}
-
 // Whether the key rest at ra rises over the one before it, at la; in a history page and at the first slot any does.
 fn in_order(s: &[u8], kind: u8, i: usize, la: usize, ln: usize, ra: usize, rn: usize) -> bool
     requires { ⌜ (la + ln ≤ length (now s)) × (ra + rn ≤ length (now s)) ⌝ }
@@ -53,7 +35,7 @@ fn in_order(s: &[u8], kind: u8, i: usize, la: usize, ln: usize, ra: usize, rn: u
     if (kind == Body::HISTORY) | (i == 0) {
         return true;
     }
-    rises(s, la, ln, ra, rn)
+    order::is_less(order::compare(spans::part_of(s, la, ln), spans::part_of(s, ra, rn)))
 }
 
 // The record of slot i of an index or a history page: the common old version is read in place.
@@ -101,7 +83,7 @@ fn slots_ok(s: &[u8], b: Body) -> bool
 pub fn history_at(s: &[u8], a: Addr) -> Opened
     ensures { λ r. ⌜ r ≡ historyAt (now (s .entry)) a ⌝ }
 {
-    if let Opened::Is(d) = frames::aged_at(s, a) {
+    if let Opened::Is(d) = frames::quick_history(s, a) {
         return Opened::Is(d);
     }
     let Opened::Is(b) = frames::open_at(s, a) else {
@@ -121,37 +103,37 @@ struct Hand {
     link: Addr,
 }
 
-enum Taken {
+enum HandRead {
     Is(Hand),
     Bad,
 }
 
 // The history page at an address, judged whole.
-fn judged(s: &[u8], a: Addr) -> Taken
+fn judged(s: &[u8], a: Addr) -> HandRead
     ensures { λ r. ⌜ r ≡ judgedAt (now (s .entry)) a ⌝ }
 {
     let Opened::Is(b) = history_at(s, a) else {
-        return Taken::Bad;
+        return HandRead::Bad;
     };
     if slots_ok(s, b) {
         let link = b.link;
-        return Taken::Is(Hand {
+        return HandRead::Is(Hand {
             page: a,
             at: b.at,
             elems: b.elems,
             link: link,
         });
     }
-    Taken::Bad
+    HandRead::Bad
 }
 
 // The same, with a page in hand: as long as pages come in order, each is judged once.
-fn in_hand(s: &[u8], a: Addr, hand: Hand) -> Taken
+fn in_hand(s: &[u8], a: Addr, hand: Hand) -> HandRead
     requires { ⌜ Known (now s) hand ⌝ }
     ensures { λ r. ⌜ r ≡ judgedAt (now (s .entry)) a ⌝ }
 {
     if (a.0 == hand.page.0) & (a.0 != 0) {
-        return Taken::Is(hand);
+        return HandRead::Is(hand);
     }
     judged(s, a)
 }
@@ -200,28 +182,28 @@ struct Spot {
     slot: usize,
 }
 
-enum Turned {
+enum SpotRead {
     Is(Spot),
     Bad,
 }
 
 // Where the old version at a slot of the page in hand stands: behind its last slot it is the first of the page that it links to.
-fn spot_at(s: &[u8], hand: Hand, i: usize) -> Turned
+fn spot_at(s: &[u8], hand: Hand, i: usize) -> SpotRead
     requires { ⌜ Held (now s) hand ⌝ }
     requires { ⌜ i ≤ hand .elems ⌝ }
     ensures { λ r. ⌜ TurnedTo (now (s .entry)) hand i r ⌝ }
 {
     if i < hand.elems {
-        return Turned::Is(Spot {
+        return SpotRead::Is(Spot {
             hand: hand,
             slot: i,
         });
     }
     let link = hand.link;
-    let Taken::Is(h) = judged(s, link) else {
-        return Turned::Bad;
+    let HandRead::Is(h) = judged(s, link) else {
+        return SpotRead::Bad;
     };
-    Turned::Is(Spot { hand: h, slot: 0 })
+    SpotRead::Is(Spot { hand: h, slot: 0 })
 }
 
 // The version at a slot of the page in hand: the page was judged, so it stands where the slot points.
@@ -252,7 +234,7 @@ fn chain(s: &[u8], first: Hand, i: usize, n: u32, t: Ver) -> Chained
     let mut slot = i;
     let mut ver = t;
     while 0 < left {
-        let Turned::Is(p) = spot_at(s, hand, slot) else {
+        let SpotRead::Is(p) = spot_at(s, hand, slot) else {
             return Chained {
                 ok: false,
                 hand: hand,
@@ -303,7 +285,7 @@ fn head_ok(s: &[u8], r: Rec, hand: Hand) -> Chained
         };
     }
     let page = h.page;
-    let Taken::Is(x) = in_hand(s, page, hand) else {
+    let HandRead::Is(x) = in_hand(s, page, hand) else {
         return Chained {
             ok: false,
             hand: hand,

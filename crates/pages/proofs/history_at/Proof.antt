@@ -8,14 +8,14 @@ use borrow.Author.Needs.{needs}
 use Rattle.pages.proofs.history_at.Statement.{statement}
 use Rattle.pages.proofs.history_at.Tie as tie
 
-aged-at-requires : tie.Need-aged-at-requires
-aged-at-requires c κs = search needs
+quick-history-requires : tie.Need-quick-history-requires
+quick-history-requires c κs = search needs
 
 enum-known-d : tie.Need-enum-known-d
 enum-known-d c = search needs
 
 returns : tie.Need-returns
-returns c = sym (history-is (now (c .before .before .before .before .before .args .s)) (c .before .before .before .before .before .args .a) (c .before .d .given .0 .0) (c .before .before .before .aged-at .ensures (c .before .d .given .0 .0) (c .before .d .given .1)))
+returns c = sym (history-is (now (c .before .before .before .before .before .args .s)) (c .before .before .before .before .before .args .a) (c .before .d .given .0 .0) (c .before .before .before .quick-history .ensures (c .before .d .given .0 .0) (c .before .d .given .1)))
 
 enum-told : tie.Need-enum-told
 enum-told c = search needs
@@ -45,7 +45,7 @@ pub history-at-spec : {M : Type 1} → statement M
 history-at-spec =
     tie.close
     (tie.spec
-    aged-at-requires
+    quick-history-requires
     enum-known-d
     returns
     enum-told
