@@ -1,11 +1,11 @@
 -- What a frame, a page, a remote or a delta that was read tells of its place.
 -- Assumes nothing.
-use Prim.Native.Nat.{ℕ, _+_, _*_, _/_, _%_, _≤_, _<_}
-use mathlib.Core.Path.{_≡_, refl, sym, ap, _∙_}
+use Prim.Native.Nat.{ℕ, _+_, _*_, _%_, _≤_}
+use mathlib.Core.Path.{_≡_, refl, ap, _∙_, subst}
 use mathlib.Core.Bool.{Bool, true, false, cond, _&&_, _||_}
 use mathlib.Core.List.{List}
 use native.Mathlib.Omega.{arith}
-use borrow.Author.Tests.{leb-true, eqb-true}
+use borrow.Author.Tests.{leb-true, eqb-true, ne-eqb}
 use lib.ListN.{length}
 use lib.Dec.{leb, eqb}
 use Rattle.numbers.specs.Number.{leAt}
@@ -19,7 +19,7 @@ use Rattle.frames.specs.declared.Opened.{Opened}
 use Rattle.frames.specs.declared.RemoteRead.{RemoteRead}
 use Rattle.frames.specs.declared.Delta.{Delta}
 use Rattle.frames.specs.declared.DeltaRead.{DeltaRead}
-use Rattle.frames.specs.Layout.{boxLen, baseLen, deltaLens, boxBase, boxDelta, boxRemote, frameLen, boxFields, addressOk, boxKindOk, flagOk, linkOk, remoteOk, boxOk, boxAt, baseFields, zerosOk, leafOk, indexOk, manyOk, historyOk, payloadOk, lengthsOk, baseOk, pageOf, pageAt, kindOf, bodyOf, openOf, openAt, Inside, remoteOf, remoteAt, cutAt, deltaOf, deltaAt}
+use Rattle.frames.specs.Layout.{boxLen, baseLen, deltaLens, boxBase, boxDelta, boxRemote, flagSibling, frameLen, boxFields, addressOk, boxKindOk, flagOk, linkOk, remoteOk, boxOk, boxAt, baseFields, zerosOk, leafOk, indexOk, manyOk, historyOk, payloadOk, lengthsOk, baseOk, pageOf, pageAt, kindOf, bodyOf, openOf, openAt, Inside, remoteOf, remoteAt, cutAt, deltaOf, deltaAt}
 use Rattle.spans.proofs.Tests.{ask}
 
 -- ---- what a conjunction that holds says of its parts (they belong to `spans`' Tests)
@@ -120,6 +120,72 @@ open-inside s a b e = go (pageAt s a) refl e
     go : (p : PageRead) → pageAt s a ≡ p → openOf a p ≡ Opened.Is b → Inside s b × (8 ≤ a .0)
     go (PageRead.Page x h) q e′ = let z = page-sizes s a x h q in let i : bodyOf a x h ≡ b = cc in (rw i at (body-inside s a x h z), z .above)
     go PageRead.Bad q e′ = absurd (let z : _≡_ {A = ℕ} 0 1 = cc in omega arith)
+
+-- a page's kind is leaf, index or history
+pub open-kind : (s : List ℕ) (a : Addr) (b : Body) → openAt s a ≡ Opened.Is b → b .kind ≤ 2
+unfolding openAt bodyOf kindOf
+open-kind s a b e = go (pageAt s a) e
+  where
+    by : (t u : Bool) → cond t 2 (cond u 1 0) ≤ 2
+    by true u = omega arith
+    by false true = omega arith
+    by false false = omega arith
+
+    go : (p : PageRead) → openOf a p ≡ Opened.Is b → b .kind ≤ 2
+    go (PageRead.Page x h) e′ = let i : bodyOf a x h ≡ b = cc in subst (λ (d : Body). d .kind ≤ 2) i (by (eqb (x .flag) flagSibling) (eqb (h .«is_index») 1))
+    go PageRead.Bad e′ = absurd (let z : _≡_ {A = ℕ} 0 1 = cc in omega arith)
+
+-- a history page has a record
+some : (x : BoxHeader) (h : BaseHeader) → baseOk x h ≡ true → kindOf (x .flag) (h .«is_index») ≡ 2 → 1 ≤ h .elems
+unfolding baseOk kindOf
+some x h o k =
+    let front = zerosOk h && (leafOk x h || indexOk x h) && manyOk x h in
+    let l = leb (h .«prefix_len») (h .«lo_len») in
+    let z = leb (h .size) (x .«payload_size») in
+    let w = leb (baseLen + 4 * h .elems + h .«lo_len» + h .«hi_len») (h .size) in
+    let o1 = and-l (front && historyOk x h && payloadOk x h && lengthsOk h && l) z (and-l (front && historyOk x h && payloadOk x h && lengthsOk h && l && z) w o) in
+    let o2 = and-l (front && historyOk x h && payloadOk x h) (lengthsOk h) (and-l (front && historyOk x h && payloadOk x h && lengthsOk h) l o1) in
+    go (eqb (x .flag) flagSibling) refl k (and-r front (historyOk x h) (and-l (front && historyOk x h) (payloadOk x h) o2))
+  where
+    many : Bool
+    many = (leb 1 (h .elems) && (eqb (h .«lo_len») 0 && eqb (h .«hi_len») 0 && eqb (h .«right_sibling» .0) 0))
+
+    kinds : (i : Bool) → _≡_ {A = ℕ} (cond i 1 0) 2 → ⊥
+    kinds true e = omega arith
+    kinds false e = omega arith
+
+    go : (t : Bool) → eqb (x .flag) flagSibling ≡ t → _≡_ {A = ℕ} (cond t 2 (cond (eqb (h .«is_index») 1) 1 0)) 2 → (eqb (x .flag) 0 || many) ≡ true → 1 ≤ h .elems
+    go true f k′ q =
+        let f1 : x .flag ≡ 1 = eqb-true (x .flag) flagSibling f in
+        let n : eqb (x .flag) 0 ≡ false = ne-eqb (x .flag) 0 (λ e. omega arith) in
+        let m : many ≡ true = rw n at q in
+        leb-true 1 (h .elems) (and-l (leb 1 (h .elems)) (eqb (h .«lo_len») 0 && eqb (h .«hi_len») 0 && eqb (h .«right_sibling» .0) 0) m)
+    go false f k′ q = absurd (kinds (eqb (h .«is_index») 1) k′)
+
+pub open-some : (s : List ℕ) (a : Addr) (b : Body) → openAt s a ≡ Opened.Is b → b .kind ≡ 2 → 1 ≤ b .elems
+unfolding openAt pageAt bodyOf
+open-some s a b e k = go (boxAt s a) e
+  where
+    no : Opened.Bad ≡ Opened.Is b → ⊥
+    no n = let z : _≡_ {A = ℕ} 0 1 = cc in omega arith
+
+    h : BaseHeader
+    h = baseFields s (a .0 + boxLen)
+
+    by : (y : BoxHeader) (t : Bool) → baseOk y h ≡ t → openOf a (cond t (PageRead.Page y h) PageRead.Bad) ≡ Opened.Is b → 1 ≤ b .elems
+    by y true o e′ =
+        let i : bodyOf a y h ≡ b = cc in
+        subst (λ (d : Body). 1 ≤ d .elems) i (some y h o (ap (λ (d : Body). d .kind) i ∙ k))
+    by y false o e′ = absurd (no e′)
+
+    base : (y : BoxHeader) (t u : Bool) → openOf a (cond t (cond u (cond (baseOk y h) (PageRead.Page y h) PageRead.Bad) PageRead.Bad) PageRead.Bad) ≡ Opened.Is b → 1 ≤ b .elems
+    base y true true e′ = by y (baseOk y h) refl e′
+    base y true false e′ = absurd (no e′)
+    base y false u e′ = absurd (no e′)
+
+    go : (f : FrameRead) → openOf a (pageOf s (a .0) f) ≡ Opened.Is b → 1 ≤ b .elems
+    go (FrameRead.Frame y) e′ = base y (eqb (y .«box_kind») boxBase) (leb baseLen (y .«payload_size»)) e′
+    go FrameRead.Bad e′ = absurd (no e′)
 
 -- a remote value lies in the arena
 pub remote-inside : (s : List ℕ) (a : Addr) (n p : ℕ) → remoteAt s a n ≡ RemoteRead.At p → p + n ≤ length s

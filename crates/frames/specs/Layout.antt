@@ -3,7 +3,7 @@
 use Prim.Native.Nat.{ℕ, _+_, _*_, _/_, _%_, _≤_}
 use mathlib.Core.Path.{_≡_}
 use mathlib.Core.List.{List}
-use mathlib.Core.Bool.{Bool, _&&_, _||_, not, cond}
+use mathlib.Core.Bool.{Bool, true, _&&_, _||_, not, cond}
 use lib.ListN.{length, getD}
 use lib.Dec.{ltb, leb, eqb}
 use Rattle.numbers.specs.Number.{leAt}
@@ -186,6 +186,18 @@ baseOk h b =
     && leb (b .«prefix_len») (b .«lo_len»)
     && leb (b .size) (h .«payload_size»)
     && leb (baseLen + 4 * b .elems + b .«lo_len» + b .«hi_len») (b .size)
+
+-- what the headers of every base page say, whatever its kind
+pub record AnyBase (x : BoxHeader) (h : BaseHeader) (at len : ℕ) : Type 0 where
+  pub address : addressOk at ≡ true
+  pub kind : x .«box_kind» ≡ boxBase
+  pub zeros : zerosOk h ≡ true
+  pub front : leb (baseLen + 4 * h .elems + h .«lo_len» + h .«hi_len») (h .size) ≡ true
+  pub fits : leb (at + frameLen (x .«payload_size»)) len ≡ true
+
+-- both headers are those of a base page
+abbrev pub Passes : BoxHeader → BaseHeader → ℕ → ℕ → Type 0
+Passes x h at len = (boxOk x at len ≡ true) × (x .«box_kind» ≡ boxBase) × (baseOk x h ≡ true)
 
 -- of a frame, the base page that it is
 abbrev pub pageOf : List ℕ → ℕ → FrameRead → PageRead

@@ -6,7 +6,9 @@ ghost use Prim.Native.Nat.{_+_, _*_, _≤_, _<_, _^_};
 ghost use lib.ListN.{length};
 ghost use Rattle.spans.specs.Span.{put};
 ghost use Rattle.frames.specs.Refusals.{numberOf};
-ghost use Rattle.frames.specs.Layout.{boxLen, baseLen, slotsAt, boxBase, frameLen, boxFields, boxOk, boxAt, baseFields, baseOk, pageAt, kindOf, bodyOf, openAt, remoteAt, deltaAt};
+ghost use Rattle.frames.specs.declared.Body.{Body};
+ghost use Rattle.frames.specs.declared.Opened.{Opened};
+ghost use Rattle.frames.specs.Layout.{boxLen, baseLen, slotsAt, flagSibling, frameLen, boxFields, boxOk, boxAt, baseFields, baseOk, AnyBase, Passes, pageAt, kindOf, bodyOf, openAt, remoteAt, deltaAt};
 ghost use Rattle.frames.specs.Stored.{boxBytes, baseOf, baseFront, baseBack, baseBytes, pageBytes};
 ghost use Rattle.frames.specs.Clerks.{takenOf};
 
@@ -423,33 +425,76 @@ fn body_of(a: Addr, x: BoxHeader, h: BaseHeader) -> Body
     }
 }
 
-// Whether both headers are those of a leaf or an index page: in fewer tests than `ok` of both, since flag and link are 0 there. A second text, for
-// speed: `plain-ok` (proofs/Judged.antt) proves that its yes is that of both.
-fn plain(x: BoxHeader, h: BaseHeader, at: usize, len: usize) -> bool
+// What the headers of every base page must say, whatever its kind.
+fn any_base(x: BoxHeader, h: BaseHeader, at: usize, len: usize) -> bool
     requires { ⌜ (at ≤ len) × (len < 2 ^ 63) ⌝ }
-    ensures { λ r. ⌜ (r ≡ true → (boxOk x at len ≡ true) × (x .«box_kind» ≡ boxBase) × (baseOk x h ≡ true)) ⌝ }
+    ensures { λ r. ⌜ (r ≡ true → AnyBase x h at len) ⌝ }
 {
     let address = (8 <= at) & (at % 8 == 0);
-    let base = (x.box_kind == BoxHeader::BASE) & (x.flag == 0) & (x.link.0 == 0);
     let zeros = (h.split_elems == 0)
         & (h.merging_child.0 == 0)
         & (h.merging == 0)
         & (h.padding == 0);
+    address
+        & (x.box_kind == BoxHeader::BASE)
+        & zeros
+        & (h.front() <= (h.size as u64))
+        & (at + frame_len(x.payload_size) <= len)
+}
+
+// Whether both headers are those of a leaf or an index page: in fewer tests than `ok` of both, since flag and link are 0 there. A second text, for
+// speed: `plain-ok` (proofs/Judged.antt) proves that its yes is that of both.
+fn plain(x: BoxHeader, h: BaseHeader, at: usize, len: usize) -> bool
+    requires { ⌜ (at ≤ len) × (len < 2 ^ 63) ⌝ }
+    ensures { λ r. ⌜ (r ≡ true → Passes x h at len) ⌝ }
+{
+    let base = (x.flag == 0) & (x.link.0 == 0);
     let many = (h.has_multiple_versions == 0) | (h.has_multiple_versions == 1);
     let leaf = (h.is_index == 0) & (x.node_type == BoxHeader::LEAF) & many;
     let single = (h.has_multiple_versions == 0) & (h.size == x.payload_size);
     let index = (h.is_index == 1) & (x.node_type == BoxHeader::INDEX) & single;
     let lengths = (h.lo_len as usize <= BaseHeader::MAX_KEY)
         & (h.hi_len as usize <= BaseHeader::MAX_KEY);
-    address
+    any_base(x, h, at, len)
         & base
-        & zeros
         & (leaf | index)
         & lengths
         & (h.prefix_len <= h.lo_len)
         & (h.size <= x.payload_size)
-        & (h.front() <= (h.size as u64))
-        & (at + frame_len(x.payload_size) <= len)
+}
+
+// Whether both headers are those of a history page, likewise: `history-ok`.
+fn history(x: BoxHeader, h: BaseHeader, at: usize, len: usize) -> bool
+    requires { ⌜ (at ≤ len) × (len < 2 ^ 63) ⌝ }
+    ensures { λ r. ⌜ (r ≡ true → Passes x h at len × (x .flag ≡ flagSibling)) ⌝ }
+{
+    let base = (x.node_type == BoxHeader::LEAF) & (x.flag == BoxHeader::SIBLING);
+    let link = (x.link.0 == 0) | ((at as u64) < x.link.0);
+    let bounds = (h.lo_len == 0) & (h.hi_len == 0) & (h.right_sibling.0 == 0);
+    let single = (h.is_index == 0) & (h.has_multiple_versions == 0);
+    any_base(x, h, at, len)
+        & base
+        & link
+        & bounds
+        & single
+        & (h.prefix_len == 0)
+        & (1 <= h.elems)
+        & (h.size == x.payload_size)
+}
+
+// The history page at an address, judged quickly; Bad says nothing.
+pub fn quick_history(s: &[u8], a: Addr) -> Opened
+    ensures { λ r. ⌜ ((b : Body) → r ≡ Opened.Is b → (openAt (now (s .entry)) a ≡ Opened.Is b) × (b .kind ≡ 2)) ⌝ }
+{
+    let at = a.0 as usize;
+    if spans::room(s.len(), at, BaseHeader::SLOTS_AT) {
+        let x = BoxHeader::fields(s, at);
+        let h = BaseHeader::fields(s, at + BoxHeader::HDR_LEN);
+        if history(x, h, at, s.len()) {
+            return Opened::Is(body_of(a, x, h));
+        }
+    }
+    Opened::Bad
 }
 
 // The base page at an address, by both headers' tests.

@@ -1,6 +1,7 @@
 -- The crate's laws.
 pub mod Turns
 pub mod Olds
+pub mod InHand
 pub mod Given
 pub mod Rows
 pub mod Ends

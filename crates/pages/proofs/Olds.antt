@@ -1,8 +1,8 @@
--- What a history page that was opened and an old version that was read tell of their places; and what a page judged before says.
+-- What a history page that was opened and an old version that was read tell of their places.
 -- Assumes nothing.
 use Prim.Native.Nat.{ℕ, _+_, _≤_, _<_}
-use mathlib.Core.Path.{_≡_, refl, sym, ap, _∙_}
-use mathlib.Core.Bool.{Bool, true, false, cond, _||_, _&&_, not}
+use mathlib.Core.Path.{_≡_, refl}
+use mathlib.Core.Bool.{Bool, true, false, cond}
 use mathlib.Core.List.{List}
 use native.Mathlib.Omega.{arith}
 use borrow.Author.Tests.{eqb-true, eq-eqb}
@@ -12,14 +12,14 @@ use Rattle.spans.proofs.Tests.{ask}
 use Rattle.frames.specs.declared.Addr.{Addr}
 use Rattle.frames.specs.declared.Body.{Body}
 use Rattle.frames.specs.declared.Opened.{Opened}
-use Rattle.frames.specs.Layout.{openAt, Inside, addr}
+use Rattle.frames.specs.Layout.{openAt, Inside}
 use Rattle.frames.proofs.Frames.{open-inside}
 use Rattle.records.specs.declared.Rec.{Rec}
 use Rattle.records.specs.declared.RecRead.{RecRead}
 use Rattle.records.specs.Records.{recAt, RecInside}
 use Rattle.records.proofs.Inside.{at-inside, at-slot, ver-inside}
 use Rattle.pages.specs.declared.OldRead.{OldRead}
-use Rattle.pages.specs.Sound.{historyOf, historyAt, oldRec, oldIn, oldLink, oldOf, oldAt, histOk, Known}
+use Rattle.pages.specs.Sound.{historyOf, historyAt, oldRec, oldIn, oldLink, oldOf, oldAt}
 
 -- a history page was opened
 pub record History (s : List ℕ) (a : Addr) (b : Body) : Type 0 where
@@ -42,6 +42,10 @@ history-inside s a b e = go (openAt s a) refl e
         let y = open-inside s a d q in
         rw (← x) (record { opened = q; kind = eqb-true _ _ (a1 .0); inside = y .0; above = y .1 })
     go Opened.Bad q e′ = absurd (no e′)
+
+pub history-is : (s : List ℕ) (a : Addr) (b : Body) → (openAt s a ≡ Opened.Is b) × (b .kind ≡ 2) → historyAt s a ≡ Opened.Is b
+unfolding historyAt
+history-is s a b g = rw (g .0, eq-eqb (b .kind) 2 (g .1))
 
 -- an old version stands in a history page
 pub record OldInside (s : List ℕ) (p : Addr) (q : ℕ) (r : Rec) : Type 0 where
@@ -93,32 +97,3 @@ old-inside s a i p q r e = go (historyAt s a) refl e
         by true w = link (b .link) (historyAt s (b .link)) refl w
         by false w = in-inside s b a i p q r (history-inside s a b u) w
     go Opened.Bad u e′ = absurd (old-no p q r e′)
-
--- ---- a page that was seen and is not 0 is sound
-
-pub known-sound : (s : List ℕ) (a : Addr) → Known s a → (a .0 ≡ 0 → ⊥) → histOk s a ≡ true
-known-sound s a k n = go (eqb (a .0) 0) refl k
-  where
-    go : (t : Bool) → eqb (a .0) 0 ≡ t → (t || histOk s a) ≡ true → histOk s a ≡ true
-    go true e k′ = absurd (n (eqb-true (a .0) 0 e))
-    go false e k′ = k′
-
-pub sound-known : (s : List ℕ) (a : Addr) → histOk s a ≡ true → Known s a
-sound-known s a e = go (eqb (a .0) 0)
-  where
-    go : (t : Bool) → (t || histOk s a) ≡ true
-    go true = refl
-    go false = e
-
-same-addr : (a b : Addr) → a .0 ≡ b .0 → a ≡ b
-same-addr a b e = ap addr e
-
-pub seen-sound : (s : List ℕ) (a seen : Addr) → Known s seen → (eqb (a .0) (seen .0) && not (eqb (seen .0) 0)) ≡ true → histOk s a ≡ true
-seen-sound s a seen k e = go (eqb (a .0) (seen .0)) refl (eqb (seen .0) 0) refl e
-  where
-    go : (t : Bool) → eqb (a .0) (seen .0) ≡ t → (u : Bool) → eqb (seen .0) 0 ≡ u → (t && not u) ≡ true → histOk s a ≡ true
-    go true p false q e′ =
-        let w : a ≡ seen = same-addr a seen (eqb-true (a .0) (seen .0) p) in
-        rw w (known-sound s seen k (λ z. let v = eq-eqb (seen .0) 0 z in absurd (let y : _≡_ {A = ℕ} 0 1 = cc in omega arith)))
-    go true p true q e′ = absurd (let z : _≡_ {A = ℕ} 0 1 = cc in omega arith)
-    go false p u q e′ = absurd (let z : _≡_ {A = ℕ} 0 1 = cc in omega arith)

@@ -1,12 +1,12 @@
 -- One turn of each loop of the check, by what it meets; and the check's answer, by what its judgements say.
 -- Assumes nothing.
-use Prim.Native.Nat.{ℕ, zero, suc, _+_, _*_, _-_, _≤_, _<_}
+use Prim.Native.Nat.{ℕ, suc, _+_, _*_, _-_, _≤_, _<_}
 use mathlib.Core.Path.{_≡_, refl, sym, ap, _∙_}
-use mathlib.Core.Bool.{Bool, true, false, cond}
+use mathlib.Core.Bool.{Bool, true, false, not, cond}
 use mathlib.Core.List.{List}
 use native.Mathlib.Omega.{arith}
 use borrow.Author.Tests.{eq-eqb, ne-eqb, le-leb}
-use lib.Dec.{leb, ltb, eqb}
+use lib.Dec.{leb, eqb}
 use Rattle.numbers.specs.Number.{leAt}
 use Rattle.order.specs.declared.Ver.{Ver}
 use Rattle.order.specs.Version.{newerThan}
@@ -21,12 +21,21 @@ use Rattle.values.specs.Keys.{verIn}
 use Rattle.records.specs.Records.{recAt}
 use Rattle.pages.specs.declared.Checked.{Checked}
 use Rattle.pages.specs.declared.OldRead.{OldRead}
-use Rattle.pages.specs.Sound.{inOrder, slotsFrom, slotsOk, histOk, oldAt, chainFrom, headOk, multiOf, chainsFrom, chainsOk, remotesAt, hintsOk, entered}
+use Rattle.pages.specs.Sound.{inOrder, slotsFrom, slotsOk, histOk, oldAt, chainFrom, headOk, multiOf, chainsFrom, chainsOk, recsOk, hintsOk, entered}
 use Rattle.pages.specs.Meaning.{pageSays, pageBounded, soundBody, meaning, checkOf}
 
 -- a turn spends one of what is left
 pub spend : (n i : ℕ) → i < n → n - i ≡ suc (n - (i + 1))
 spend n i h = omega arith
+
+-- a test turned round
+pub not-true : (t : Bool) → not t ≡ true → t ≡ false
+not-true true e = sym e
+not-true false e = refl
+
+pub not-false : (t : Bool) → not t ≡ false → t ≡ true
+not-false true e = refl
+not-false false e = sym e
 
 -- ---- slots
 
@@ -47,6 +56,10 @@ module _ (s : List ℕ) (b : Body) (n i want la ln : ℕ) (h : i < n) where
     pub slots-more : r .from ≡ want → inOrder s (b .kind) i la ln (r .«rest_at») (r .«rest_len») ≡ true → slotsFrom s b (n - i) i want la ln ≡ slotsFrom s b (n - (i + 1)) (i + 1) (r .next) (r .«rest_at») (r .«rest_len»)
     unfolding slotsFrom
     slots-more g o = rw (spend n i h, slotsFrom, e, eq-eqb _ _ g, o)
+
+pub slots-start : (s : List ℕ) (b : Body) → slotsOk s b ≡ slotsFrom s b (b .elems - 0) 0 (b .first) 0 0
+unfolding slotsOk
+slots-start s b = let z : b .elems - 0 ≡ b .elems = omega arith in rw z
 
 pub slots-end : (s : List ℕ) (b : Body) (n i want la ln : ℕ) → n ≤ i → slotsFrom s b (n - i) i want la ln ≡ true
 unfolding slotsFrom
@@ -95,10 +108,6 @@ module _ (s : List ℕ) (r : Rec) where
   head-out e t = rw (ne-eqb _ _ e, t)
 
 module _ (s : List ℕ) (b : Body) (n i m : ℕ) (h : i < n) where
-  pub chains-bad : recAt s b i ≡ RecRead.Bad → chainsFrom s b (n - i) i m ≡ false
-  unfolding chainsFrom
-  chains-bad e = rw (spend n i h, chainsFrom, e)
-
   module _ (r : Rec) (e : recAt s b i ≡ RecRead.Is r) where
     pub chains-broken : headOk s r ≡ false → chainsFrom s b (n - i) i m ≡ false
     unfolding chainsFrom
@@ -119,6 +128,29 @@ chains-start s b k = let z : b .elems - 0 ≡ b .elems = omega arith in rw (ne-e
 pub chains-index : (s : List ℕ) (b : Body) → b .kind ≡ 1 → chainsOk s b ≡ true
 unfolding chainsOk
 chains-index s b k = rw (eq-eqb _ _ k)
+
+-- ---- both
+
+module _ (s : List ℕ) (b : Body) where
+  pub recs-slots : slotsOk s b ≡ false → recsOk s b ≡ false
+  recs-slots e = rw e
+
+  pub recs-both : (t : Bool) → slotsOk s b ≡ true → chainsOk s b ≡ t → recsOk s b ≡ t
+  recs-both t e f = rw (e, f)
+
+  pub recs-chains : chainsOk s b ≡ false → recsOk s b ≡ false
+  recs-chains f = go (slotsOk s b)
+    where
+      go : (t : Bool) → cond t (chainsOk s b) false ≡ false
+      go true = f
+      go false = refl
+
+  pub recs-index : b .kind ≡ 1 → slotsOk s b ≡ recsOk s b
+  recs-index k = go (slotsOk s b)
+    where
+      go : (t : Bool) → t ≡ cond t (chainsOk s b) false
+      go true = sym (chains-index s b k)
+      go false = refl
 
 -- ---- hints
 
@@ -147,13 +179,14 @@ module _ (s : List ℕ) (b : Body) where
   body-kind k = rw (eq-eqb _ _ k)
 
   module _ (k : b .kind ≡ 2 → ⊥) where
-    pub body-slots : slotsOk s b ≡ false → soundBody s b ≡ false
+    pub body-recs : recsOk s b ≡ false → soundBody s b ≡ false
     unfolding soundBody
-    body-slots e = rw (ne-eqb _ _ k, e)
-
-    pub body-chains : slotsOk s b ≡ true → chainsOk s b ≡ false → soundBody s b ≡ false
-    unfolding soundBody
-    body-chains e f = rw (ne-eqb _ _ k, e, f)
+    body-recs e = rw (ne-eqb _ _ k) (go (slotsOk s b) (chainsOk s b) (cond (hintsOk s b) (pageBounded (pageSays s b)) false) e)
+      where
+        go : (t u x : Bool) → cond t u false ≡ false → cond t (cond u x false) false ≡ false
+        go true true x e′ = absurd (let z : _≡_ {A = ℕ} 0 1 = cc in omega arith)
+        go true false x e′ = refl
+        go false u x e′ = refl
 
     pub body-hints : slotsOk s b ≡ true → chainsOk s b ≡ true → hintsOk s b ≡ false → soundBody s b ≡ false
     unfolding soundBody

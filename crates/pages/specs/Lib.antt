@@ -1,5 +1,6 @@
 -- The crate's definitions.
 pub mod Sound
+pub mod Hand
 pub mod Meaning
 pub mod Boundaries
 pub mod HintsAt

@@ -1,7 +1,6 @@
 -- When a page is sound: document 01's sentence, one boolean function to each loop of the check. The whole of it, with the boundaries, stands in Meaning.
 -- Assumes nothing.
 use Prim.Native.Nat.{ℕ, zero, suc, _+_, _*_}
-use mathlib.Core.Path.{_≡_}
 use mathlib.Core.List.{List}
 use mathlib.Core.Bool.{Bool, true, false, _||_, cond}
 use lib.Dec.{ltb, leb, eqb}
@@ -58,10 +57,6 @@ histOf s Opened.Bad = false
 
 unfoldable pub histOk : List ℕ → Addr → Bool
 histOk s a = histOf s (historyAt s a)
-
--- no page, or one that is sound: what a page judged before is known to be
-abbrev pub Known : List ℕ → Addr → Type 0
-Known s a = (eqb (a .0) 0 || histOk s a) ≡ true
 
 -- the old version at a slot of a page, or behind its last slot the first of the page that it links to
 abbrev pub oldRec : Addr → ℕ → RecRead → OldRead
@@ -123,6 +118,10 @@ chainsFrom s b (suc k) i m = chainsOf s (chainsFrom s b k (i + 1)) m (recAt s b 
 
 unfoldable pub chainsOk : List ℕ → Body → Bool
 chainsOk s b = cond (eqb (b .kind) 1) true (chainsFrom s b (b .elems) 0 0)
+
+-- a page's records: both
+abbrev pub recsOk : List ℕ → Body → Bool
+recsOk s b = cond (slotsOk s b) (chainsOk s b) false
 
 -- ---- "hint counts fit the payload": u32 count and history addresses, u32 count and remote addresses, behind size
 

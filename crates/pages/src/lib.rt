@@ -1,11 +1,15 @@
 // Pages: what a page says, the check that decides whether it says anything, its boundaries, its old versions and its hints.
 ghost use mathlib.Core.Path.{_≡_};
 ghost use mathlib.Core.Bool.{true};
-ghost use Prim.Native.Nat.{_+_, _≤_};
+ghost use Prim.Native.Nat.{_+_, _*_, _≤_, _<_};
 ghost use lib.ListN.{length};
-ghost use Rattle.frames.specs.Layout.{Inside};
+ghost use Rattle.numbers.specs.Number.{leAt};
+ghost use Rattle.frames.specs.Layout.{baseLen, Inside};
+ghost use Rattle.values.specs.Keys.{verIn};
+ghost use Rattle.records.specs.Records.{recAt};
 ghost use Rattle.pages.specs.Boundaries.{boundsAt, partIn, loAt, hiAt, prefixAt};
-ghost use Rattle.pages.specs.Sound.{inOrder, slotsOk, historyAt, histOk, oldIn, oldAt, chainFrom, entered, headOk, multiOf, chainsOk, hintsOk, Known};
+ghost use Rattle.pages.specs.Sound.{inOrder, slotsOk, historyAt, oldIn, oldAt, chainFrom, entered, headOk, multiOf, recsOk, hintsOk};
+ghost use Rattle.pages.specs.Hand.{judgedAt, Held, Known, TurnedTo};
 ghost use Rattle.pages.specs.Meaning.{pageSays, pageBounded, meaning, checkOf};
 ghost use Rattle.pages.specs.HintsAt.{hintsOf, historyHintsAt, remoteHintsAt, hintIn};
 use frames::Addr;
@@ -18,6 +22,8 @@ use frames::Refusal;
 use order::Ver;
 use records::Rec;
 use records::RecRead;
+use records::SlotRead;
+use records::ValRead;
 
 // ---- the check
 
@@ -32,6 +38,19 @@ fn in_order(s: &[u8], kind: u8, i: usize, la: usize, ln: usize, ra: usize, rn: u
     order::is_less(order::compare(spans::part_of(s, la, ln), spans::part_of(s, ra, rn)))
 }
 
+// The record of slot i of an index or a history page: the common old version is read in place.
+fn old_or_child(s: &[u8], b: Body, i: usize) -> RecRead
+    requires { ⌜ Inside (now s) b ⌝ }
+    ensures { λ r. ⌜ r ≡ recAt (now (s .entry)) b i ⌝ }
+{
+    if b.kind == Body::HISTORY {
+        if let RecRead::Is(r) = records::quick_old(s, b, i) {
+            return RecRead::Is(r);
+        }
+    }
+    records::rec_at(s, b, i)
+}
+
 // Whether every slot's record can be read, gapless and in order.
 fn slots_ok(s: &[u8], b: Body) -> bool
     requires { ⌜ Inside (now s) b ⌝ }
@@ -42,7 +61,7 @@ fn slots_ok(s: &[u8], b: Body) -> bool
     let mut la = 0;
     let mut ln = 0;
     while i < b.elems {
-        let RecRead::Is(r) = records::rec_at(s, b, i) else {
+        let RecRead::Is(r) = old_or_child(s, b, i) else {
             return false;
         };
         if r.from != want {
@@ -64,6 +83,9 @@ fn slots_ok(s: &[u8], b: Body) -> bool
 pub fn history_at(s: &[u8], a: Addr) -> Opened
     ensures { λ r. ⌜ r ≡ historyAt (now (s .entry)) a ⌝ }
 {
+    if let Opened::Is(d) = frames::quick_history(s, a) {
+        return Opened::Is(d);
+    }
     let Opened::Is(b) = frames::open_at(s, a) else {
         return Opened::Bad;
     };
@@ -73,25 +95,47 @@ pub fn history_at(s: &[u8], a: Addr) -> Opened
     Opened::Is(b)
 }
 
-// Whether a whole history page is sound.
-fn hist_ok(s: &[u8], a: Addr) -> bool
-    ensures { λ r. ⌜ r ≡ histOk (now (s .entry)) a ⌝ }
-{
-    let Opened::Is(b) = history_at(s, a) else {
-        return false;
-    };
-    slots_ok(s, b)
+// A history page in hand: its address, where it stands, its slots and its link.
+struct Hand {
+    page: Addr,
+    at: usize,
+    elems: usize,
+    link: Addr,
 }
 
-// The same, where the page seen is known to be sound: as long as pages come in order, each is judged once.
-fn whole(s: &[u8], a: Addr, seen: Addr) -> bool
-    requires { ⌜ Known (now s) seen ⌝ }
-    ensures { λ r. ⌜ r ≡ histOk (now (s .entry)) a ⌝ }
+enum HandRead {
+    Is(Hand),
+    Bad,
+}
+
+// The history page at an address, judged whole.
+fn judged(s: &[u8], a: Addr) -> HandRead
+    ensures { λ r. ⌜ r ≡ judgedAt (now (s .entry)) a ⌝ }
 {
-    if (a.0 == seen.0) & (seen.0 != 0) {
-        return true;
+    let Opened::Is(b) = history_at(s, a) else {
+        return HandRead::Bad;
+    };
+    if slots_ok(s, b) {
+        let link = b.link;
+        return HandRead::Is(Hand {
+            page: a,
+            at: b.at,
+            elems: b.elems,
+            link: link,
+        });
     }
-    hist_ok(s, a)
+    HandRead::Bad
+}
+
+// The same, with a page in hand: as long as pages come in order, each is judged once.
+fn in_hand(s: &[u8], a: Addr, hand: Hand) -> HandRead
+    requires { ⌜ Known (now s) hand ⌝ }
+    ensures { λ r. ⌜ r ≡ judgedAt (now (s .entry)) a ⌝ }
+{
+    if (a.0 == hand.page.0) & (a.0 != 0) {
+        return HandRead::Is(hand);
+    }
+    judged(s, a)
 }
 
 // An old version: its page, its slot and its record.
@@ -132,59 +176,87 @@ pub fn old_at(s: &[u8], a: Addr, i: usize) -> OldRead
     old_in(s, d, link, 0)
 }
 
-// What a chain says, and the page last judged whole.
-struct Chained {
-    ok: bool,
-    seen: Addr,
+// A page in hand, and a slot of it.
+struct Spot {
+    hand: Hand,
+    slot: usize,
 }
 
-// Whether n old versions from a slot of a page on grow older than t, on sound pages.
-fn chain(s: &[u8], a: Addr, i: usize, n: u32, t: Ver, known: Addr) -> Chained
-    requires { ⌜ Known (now s) known ⌝ }
-    ensures { λ r. ⌜ r .ok ≡ chainFrom (now (s .entry)) n a i t ⌝ }
-    ensures { λ r. ⌜ Known (now (s .entry)) (r .seen) ⌝ }
+enum SpotRead {
+    Is(Spot),
+    Bad,
+}
+
+// Where the old version at a slot of the page in hand stands: behind its last slot it is the first of the page that it links to.
+fn spot_at(s: &[u8], hand: Hand, i: usize) -> SpotRead
+    requires { ⌜ Held (now s) hand ⌝ }
+    requires { ⌜ i ≤ hand .elems ⌝ }
+    ensures { λ r. ⌜ TurnedTo (now (s .entry)) hand i r ⌝ }
 {
+    if i < hand.elems {
+        return SpotRead::Is(Spot {
+            hand: hand,
+            slot: i,
+        });
+    }
+    let link = hand.link;
+    let HandRead::Is(h) = judged(s, link) else {
+        return SpotRead::Bad;
+    };
+    SpotRead::Is(Spot { hand: h, slot: 0 })
+}
+
+// The version at a slot of the page in hand: the page was judged, so it stands where the slot points.
+fn old_ver(s: &[u8], hand: Hand, i: usize) -> Ver
+    requires { ⌜ Held (now s) hand ⌝ }
+    requires { ⌜ i < hand .elems ⌝ }
+    ensures { λ r. ⌜ r ≡ verIn (now (s .entry)) (hand .at + leAt 4 (now (s .entry)) (hand .at + baseLen + 4 * i)) ⌝ }
+{
+    let n = numbers::read_u32(s, hand.at + BaseHeader::HDR_LEN + 4 * i) as usize;
+    records::ver_at(s, hand.at + n)
+}
+
+// What a chain says, and the page in hand behind it.
+struct Chained {
+    ok: bool,
+    hand: Hand,
+}
+
+// Whether n old versions from a slot of the page in hand on grow older than t, on sound pages.
+fn chain(s: &[u8], first: Hand, i: usize, n: u32, t: Ver) -> Chained
+    requires { ⌜ Held (now s) first ⌝ }
+    requires { ⌜ i ≤ first .elems ⌝ }
+    ensures { λ r. ⌜ r .ok ≡ chainFrom (now (s .entry)) n (first .page) i t ⌝ }
+    ensures { λ r. ⌜ Held (now (s .entry)) (r .hand) ⌝ }
+{
+    let mut hand = first;
     let mut left = n;
-    let mut page = a;
     let mut slot = i;
     let mut ver = t;
-    let mut seen = known;
     while 0 < left {
-        let OldRead::Old {
-            page: p,
-            slot: q,
-            rec: r,
-        } = old_at(s, page, slot)
-        else {
+        let SpotRead::Is(p) = spot_at(s, hand, slot) else {
             return Chained {
                 ok: false,
-                seen: seen,
+                hand: hand,
             };
         };
-        if whole(s, p, seen) {
-            seen = p;
-        } else {
-            return Chained {
-                ok: false,
-                seen: seen,
-            };
-        }
-        let v = records::ver_at(s, r.ver_at);
+        let h = p.hand;
+        let v = old_ver(s, h, p.slot);
         if ver.newer(v) {
             ver = v;
         } else {
             return Chained {
                 ok: false,
-                seen: seen,
+                hand: hand,
             };
         }
-        page = p;
-        slot = q + 1;
+        hand = h;
+        slot = p.slot + 1;
         left -= 1;
     }
     Chained {
         ok: true,
-        seen: seen,
+        hand: hand,
     }
 }
 
@@ -199,33 +271,32 @@ pub fn entered_at(s: &[u8], a: Addr, i: usize) -> bool
 }
 
 // Whether a head's history is sound.
-fn head_ok(s: &[u8], r: Rec, known: Addr) -> Chained
+fn head_ok(s: &[u8], r: Rec, hand: Hand) -> Chained
     requires { ⌜ r .«ver_at» + 12 ≤ length (now s) ⌝ }
-    requires { ⌜ Known (now s) known ⌝ }
+    requires { ⌜ Known (now s) hand ⌝ }
     ensures { λ x. ⌜ x .ok ≡ headOk (now (s .entry)) r ⌝ }
-    ensures { λ x. ⌜ Known (now (s .entry)) (x .seen) ⌝ }
+    ensures { λ x. ⌜ Known (now (s .entry)) (x .hand) ⌝ }
 {
     let h = r.hist;
     if h.count == 0 {
         return Chained {
             ok: true,
-            seen: known,
+            hand: hand,
         };
     }
     let page = h.page;
-    if entered_at(s, page, h.slot as usize) {
-        return chain(
-            s,
-            page,
-            h.slot as usize,
-            h.count,
-            records::ver_at(s, r.ver_at),
-            known,
-        );
+    let HandRead::Is(x) = in_hand(s, page, hand) else {
+        return Chained {
+            ok: false,
+            hand: hand,
+        };
+    };
+    if (h.slot as usize) < x.elems {
+        return chain(s, x, h.slot as usize, h.count, records::ver_at(s, r.ver_at));
     }
     Chained {
         ok: false,
-        seen: known,
+        hand: hand,
     }
 }
 
@@ -235,32 +306,93 @@ fn multi_of(m: u8, count: u32) -> u8
     if count == 0 { m } else { 1 }
 }
 
-// Whether every head's history is sound, and has_multiple_versions exact.
-fn chains_ok(s: &[u8], b: Body) -> bool
+// The head of slot i of a leaf: the common one is read in place. A second text of `records::quick_head`, whose second caller would slow walks.
+fn head_at(s: &[u8], b: Body, i: usize) -> RecRead
     requires { ⌜ Inside (now s) b ⌝ }
-    ensures { λ r. ⌜ r ≡ chainsOk (now (s .entry)) b ⌝ }
+    requires { ⌜ b .kind ≡ 0 ⌝ }
+    ensures { λ r. ⌜ r ≡ recAt (now (s .entry)) b i ⌝ }
 {
-    if b.kind == Body::INDEX {
-        return true;
+    let SlotRead::At(p) = records::slot_at(s, b, i) else {
+        return RecRead::Bad;
+    };
+    let n = records::quick_key(s, b, p);
+    if n != 0 {
+        if let ValRead::Is {
+            hist,
+            val_at,
+            val_len,
+            remote,
+            next,
+        } = records::quick_value(s, b, p + 1 + n) {
+            return RecRead::Is(Rec {
+                from: p,
+                ver_at: p + 1,
+                rest_at: p + 1 + 12,
+                rest_len: n - 12,
+                hist: hist,
+                val_at: val_at,
+                val_len: val_len,
+                remote: remote,
+                next: next,
+            });
+        }
     }
-    let mut k = 0;
+    records::rec_at(s, b, i)
+}
+
+// Whether a leaf's records are sound, each read once: slots gapless and in order, histories sound, has_multiple_versions exact.
+fn leaf_ok(s: &[u8], b: Body) -> bool
+    requires { ⌜ Inside (now s) b ⌝ }
+    requires { ⌜ b .kind ≡ 0 ⌝ }
+    ensures { λ r. ⌜ r ≡ recsOk (now (s .entry)) b ⌝ }
+{
+    let mut i = 0;
+    let mut want = b.first;
+    let mut la = 0;
+    let mut ln = 0;
     let mut m: u8 = 0;
-    let mut seen = NULL_ADDR;
-    while k < b.elems {
-        let RecRead::Is(r) = records::rec_at(s, b, k) else {
+    let mut hand = Hand {
+        page: NULL_ADDR,
+        at: 0,
+        elems: 0,
+        link: NULL_ADDR,
+    };
+    while i < b.elems {
+        let RecRead::Is(head) = head_at(s, b, i) else {
             return false;
         };
-        let h = head_ok(s, r, seen);
+        if head.from != want {
+            return false;
+        }
+        if !in_order(s, b.kind, i, la, ln, head.rest_at, head.rest_len) {
+            return false;
+        }
+        let h = head_ok(s, head, hand);
         if h.ok {
-            let was = h.seen;
-            seen = was;
-            m = multi_of(m, r.hist.count);
-            k += 1;
+            let page = h.hand;
+            hand = page;
+            m = multi_of(m, head.hist.count);
+            i += 1;
+            want = head.next;
+            la = head.rest_at;
+            ln = head.rest_len;
         } else {
             return false;
         }
     }
     m == b.multi
+}
+
+// Whether the records of a leaf or an index page are sound: an index page has no history.
+fn recs_ok(s: &[u8], b: Body) -> bool
+    requires { ⌜ Inside (now s) b ⌝ }
+    requires { ⌜ b .kind ≤ 1 ⌝ }
+    ensures { λ r. ⌜ r ≡ recsOk (now (s .entry)) b ⌝ }
+{
+    if b.kind == Body::LEAF {
+        return leaf_ok(s, b);
+    }
+    slots_ok(s, b)
 }
 
 // Whether the hint counts fit the payload.
@@ -321,12 +453,10 @@ pub fn check(s: &[u8], a: Addr) -> Checked
     if b.kind == Body::HISTORY {
         return Checked::Refused(Refusal::BadFrame);
     }
-    if slots_ok(s, b) {
-        if chains_ok(s, b) {
-            if hints_ok(s, b) {
-                if bounded(s, b) {
-                    return Checked::Sound;
-                }
+    if recs_ok(s, b) {
+        if hints_ok(s, b) {
+            if bounded(s, b) {
+                return Checked::Sound;
             }
         }
     }

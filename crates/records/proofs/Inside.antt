@@ -5,13 +5,13 @@ use mathlib.Core.Path.{_≡_, refl, sym, ap, _∙_}
 use mathlib.Core.Bool.{Bool, true, false, cond}
 use mathlib.Core.List.{List}
 use native.Mathlib.Omega.{arith}
-use borrow.Author.Tests.{ltb-true, leb-true, eqb-true, le-leb, lt-leb, eq-eqb, ne-eqb}
+use borrow.Author.Tests.{ltb-true, leb-true, le-leb, lt-leb, eq-eqb, ne-eqb}
 use lib.ListN.{length, take}
 use lib.Seq.{length-take-le}
 use lib.Dec.{leb, ltb, eqb}
 use Rattle.spans.specs.Span.{part, partOr}
 use Rattle.spans.proofs.Part.{partOr-in}
-use Rattle.spans.proofs.Tests.{ask, dont}
+use Rattle.spans.proofs.Tests.{ask}
 use Rattle.frames.specs.declared.Addr.{Addr}
 use Rattle.frames.specs.declared.Body.{Body}
 use Rattle.frames.specs.declared.RemoteRead.{RemoteRead}
@@ -29,12 +29,12 @@ use Rattle.records.specs.declared.Rec.{Rec}
 use Rattle.records.specs.declared.RecRead.{RecRead}
 use Rattle.records.specs.Records.{placeOf, slotAt, keyWhole, keyIn, keySlot, keyAtSlot, remoteOf, valOf, valIn, recOf, recVal, recKey, recIn, recSlot, recAt, RecInside}
 use Rattle.records.specs.Parts.{prefixIn}
-use Rattle.records.proofs.Places.{key-no, KeyPlace, key-place, InlinePlace, inline-place, RemotePlace, remote-place}
+use Rattle.records.proofs.Places.{key-no, key-place, inline-place, remote-place}
 
 slot-no : (p : ℕ) → SlotRead.Bad ≡ SlotRead.At p → ⊥
 slot-no p e = let z : _≡_ {A = ℕ} 0 1 = cc in omega arith
 
-rec-no : (r : Rec) → RecRead.Bad ≡ RecRead.Is r → ⊥
+pub rec-no : (r : Rec) → RecRead.Bad ≡ RecRead.Is r → ⊥
 rec-no r e = let z : _≡_ {A = ℕ} 0 1 = cc in omega arith
 
 pub val-no : (h : HistRef) (p n : ℕ) (a : Addr) (next : ℕ) → ValRead.Bad ≡ ValRead.Is h p n a next → ⊥
@@ -44,14 +44,17 @@ val-no h p n a next e = let z : _≡_ {A = ℕ} 0 1 = cc in omega arith
 pub ends : (s : List ℕ) (b : Body) → Inside s b → length (take (b .end) s) ≡ b .end
 ends s b i = length-take-le (b .end) s (omega (arith, i .payload, i .arena))
 
-pub slot-inside : (s : List ℕ) (b : Body) (i p : ℕ) → slotAt s b i ≡ SlotRead.At p → (b .first ≤ p) × (p < b .end) × (i < b .elems)
+slot-tells : (s : List ℕ) (b : Body) (i p : ℕ) → slotAt s b i ≡ SlotRead.At p → (b .first ≤ p) × (p < b .end) × (i < b .elems) × (p ≡ placeOf s b i)
 unfolding slotAt
-slot-inside s b i p e =
+slot-tells s b i p e =
     let a1 = ask (ltb i (b .elems)) _ SlotRead.Bad (SlotRead.At p) (slot-no p) e in
     let a2 = ask (leb (b .first) (placeOf s b i)) _ SlotRead.Bad (SlotRead.At p) (slot-no p) (a1 .1) in
     let a3 = ask (ltb (placeOf s b i) (b .end)) _ SlotRead.Bad (SlotRead.At p) (slot-no p) (a2 .1) in
     let q : placeOf s b i ≡ p = cc in
     omega (arith, ltb-true i (b .elems) (a1 .0), leb-true (b .first) (placeOf s b i) (a2 .0), ltb-true (placeOf s b i) (b .end) (a3 .0))
+
+pub slot-inside : (s : List ℕ) (b : Body) (i p : ℕ) → slotAt s b i ≡ SlotRead.At p → (b .first ≤ p) × (p < b .end) × (i < b .elems)
+slot-inside s b i p e = let t = slot-tells s b i p e in (t .0, t .1, t .2)
 
 -- a key lies in the page, behind its version
 pub record KeyInside (b : Body) (v r n : ℕ) : Type 0 where
@@ -147,6 +150,26 @@ at-slot s b i r e = go (slotAt s b i) refl e
   where
     go : (w : SlotRead) → slotAt s b i ≡ w → recSlot s b w ≡ RecRead.Is r → i < b .elems
     go (SlotRead.At p) q e′ = omega (arith, slot-inside s b i p q)
+    go SlotRead.Bad q e′ = absurd (rec-no r e′)
+
+-- an old version's key is its version, where its slot points
+old-key : (s : List ℕ) (b : Body) (at v r n : ℕ) → b .kind ≡ 2 → keyIn s b at ≡ KeyRead.Key v r n → v ≡ at
+unfolding keyIn keyAt
+old-key s b at v r n k e = go (leb (at + 12) (length (take (b .end) s))) (rw (eq-eqb (b .kind) 2 k) at e)
+  where
+    go : (t : Bool) → keyWhole b (cond t (KeyRead.Key at (at + 12) 0) KeyRead.Bad) ≡ KeyRead.Key v r n → v ≡ at
+    go true q =
+        let a1 = ask (leb (b .«prefix_len» + 0) maxKey) _ KeyRead.Bad (KeyRead.Key v r n) (key-no v r n) q in
+        let x : at ≡ v = cc in
+        sym x
+    go false q = absurd (key-no v r n q)
+
+pub old-place : (s : List ℕ) (b : Body) (i : ℕ) (r : Rec) → Inside s b → b .kind ≡ 2 → recAt s b i ≡ RecRead.Is r → r .«ver_at» ≡ placeOf s b i
+unfolding recAt
+old-place s b i r n k e = go (slotAt s b i) refl e
+  where
+    go : (w : SlotRead) → slotAt s b i ≡ w → recSlot s b w ≡ RecRead.Is r → r .«ver_at» ≡ placeOf s b i
+    go (SlotRead.At p) q e′ = old-key s b p (r .«ver_at») (r .«rest_at») (r .«rest_len») k (rec-inside s b p r n e′ .1) ∙ slot-tells s b i p q .3
     go SlotRead.Bad q e′ = absurd (rec-no r e′)
 
 -- a record of an index page has no history

@@ -1,26 +1,27 @@
 -- `pages::chain` meets its contract. Assumes nothing.
 use native.Mathlib.Omega.{arith}
-use borrow.Author.Needs.{needs}
+use Prim.Native.Nat.{_≤_}
 use mathlib.Core.Path.{_≡_, refl, sym, _∙_}
 use denote.Ref.{now}
-use Rattle.pages.specs.Sound.{chainFrom, Known}
-use Rattle.pages.proofs.Olds.{old-inside, sound-known}
-use Rattle.pages.proofs.Turns.{chain-bad, chain-broken, chain-young, chain-more, chain-end}
+use Rattle.pages.specs.Sound.{chainFrom}
+use Rattle.pages.specs.Hand.{Held}
+use Rattle.pages.proofs.InHand.{held-old, turned-is, turned-bad, turn-young, turn-more}
+use Rattle.pages.proofs.Turns.{chain-end}
 use borrow.Author.Needs.{needs}
 use Rattle.pages.proofs.chain.Statement.{statement}
 use Rattle.pages.proofs.chain.Tie as tie
 
 abbrev Inv-loop : tie.InvT-loop
-Inv-loop s i n left₀ page₀ slot₀ ver₀ seen₀ left page slot ver seen = Known s seen × (chainFrom s n page₀ i ver₀ ≡ chainFrom s left page slot ver)
+Inv-loop s i n hand₀ left₀ slot₀ ver₀ hand left slot ver = Held s hand × (slot ≤ hand .elems) × (chainFrom s n (hand₀ .page) i ver₀ ≡ chainFrom s left (hand .page) slot ver)
 
 abbrev μ-loop : tie.MeasureT-loop
-μ-loop s i n left₀ page₀ slot₀ ver₀ seen₀ left page slot ver seen = left
+μ-loop s i n hand₀ left₀ slot₀ ver₀ hand left slot ver = left
 
 loop-holds : tie.Need-loop-holds Inv-loop μ-loop
-loop-holds c = (c .before .pre, refl)
+loop-holds c = (c .before .pre .0, c .before .pre .1, refl)
 
-old-at-requires : tie.Need-old-at-requires Inv-loop μ-loop
-old-at-requires c κs = search needs
+spot-at-requires : tie.Need-spot-at-requires Inv-loop μ-loop
+spot-at-requires c κs = (c .before .loop .inv .0, c .before .loop .inv .1)
 
 enum-known-p : tie.Need-enum-known-p Inv-loop μ-loop
 enum-known-p c = search needs
@@ -29,27 +30,23 @@ enum-told : tie.Need-enum-told Inv-loop μ-loop
 enum-told c = search needs
 
 returns : tie.Need-returns Inv-loop μ-loop
-returns c = (sym (c .before .before .before .before .loop .inv .1 ∙ chain-bad (now (c .before .before .before .before .before .before .args .s)) (c .before .before .before .before .loop .left) (c .before .before .before .before .loop .page) (c .before .before .before .before .loop .slot) (c .before .before .before .before .loop .ver) (c .before .before .before .loop-test .taken) (sym (c .before .before .old-at .ensures) ∙ c .enum-told .given .1)), c .before .before .before .before .loop .inv .0)
+returns c = (sym (c .before .before .before .before .loop .inv .2 ∙ turned-bad (now (c .before .before .before .before .before .before .args .s)) (c .before .before .before .before .loop .hand) (c .before .before .before .before .loop .slot) (c .before .before .spot-at .result) (c .before .before .spot-at .ensures) (c .enum-told .given .1) (c .before .before .before .before .loop .left) (c .before .before .before .before .loop .ver) (c .before .before .before .loop-test .taken)), c .before .before .before .before .loop .inv .0)
 
-whole-requires : tie.Need-whole-requires Inv-loop μ-loop
-whole-requires c κs = c .before .before .before .before .before .loop .inv .0
-
-returns-2 : tie.Need-returns-2 Inv-loop μ-loop
-returns-2 c = (sym (c .before .before .before .before .before .before .before .loop .inv .1 ∙ chain-broken (now (c .before .before .before .before .before .before .before .before .before .args .s)) (c .before .before .before .before .before .before .before .loop .left) (c .before .before .before .before .before .before .before .loop .page) (c .before .before .before .before .before .before .before .loop .slot) (c .before .before .before .before .before .before .before .loop .ver) (c .before .before .before .before .before .before .loop-test .taken) _ _ _ (sym (c .before .before .before .before .before .old-at .ensures) ∙ c .before .before .before .p .given .1) (sym (c .before .whole .ensures) ∙ c .if1 .left)), c .before .before .before .before .before .before .before .loop .inv .0)
-
-ver-at-requires : tie.Need-ver-at-requires Inv-loop μ-loop
-ver-at-requires c κs = old-inside (now (c .before .before .before .before .before .before .before .before .before .args .s)) (c .before .before .before .before .before .before .before .loop .page) (c .before .before .before .before .before .before .before .loop .slot) _ _ _ (sym (c .before .before .before .before .before .old-at .ensures) ∙ c .before .before .before .p .given .1) .ver
+old-ver-requires : tie.Need-old-ver-requires Inv-loop μ-loop
+old-ver-requires c κs =
+    let g = (turned-is (now (c .before .before .before .before .before .before .before .before .args .s)) (c .before .before .before .before .before .before .loop .hand) (c .before .before .before .before .before .before .loop .slot) (c .before .before .before .before .spot-at .result) (c .before .before .before .before .spot-at .ensures) (c .before .before .p .given .0 .0) (c .before .before .p .given .1)) in
+    (g .held, g .slot)
 
 newer-requires : tie.Need-newer-requires Inv-loop μ-loop
 newer-requires c κs = search needs
 
-returns-3 : tie.Need-returns-3 Inv-loop μ-loop
-returns-3 c = (sym (c .before .before .before .before .before .before .before .before .before .before .loop .inv .1 ∙ chain-young (now (c .before .before .before .before .before .before .before .before .before .before .before .before .args .s)) (c .before .before .before .before .before .before .before .before .before .before .loop .left) (c .before .before .before .before .before .before .before .before .before .before .loop .page) (c .before .before .before .before .before .before .before .before .before .before .loop .slot) (c .before .before .before .before .before .before .before .before .before .before .loop .ver) (c .before .before .before .before .before .before .before .before .before .loop-test .taken) _ _ _ (sym (c .before .before .before .before .before .before .before .before .old-at .ensures) ∙ c .before .before .before .before .before .before .p .given .1) (sym (c .before .before .before .before .whole .ensures) ∙ c .before .before .before .if1 .taken) (rw (← c .before .before .ver-at .ensures) (sym (c .before .newer .ensures) ∙ c .if2 .left))), sound-known (now (c .before .before .before .before .before .before .before .before .before .before .before .before .args .s)) _ (sym (c .before .before .before .before .whole .ensures) ∙ c .before .before .before .if1 .taken))
+returns-2 : tie.Need-returns-2 Inv-loop μ-loop
+returns-2 c = (sym (c .before .before .before .before .before .before .before .before .before .loop .inv .2 ∙ turn-young (now (c .before .before .before .before .before .before .before .before .before .before .before .args .s)) (c .before .before .before .before .before .before .before .before .before .loop .hand) (c .before .before .before .before .before .before .before .before .before .loop .slot) (c .before .before .before .before .before .before .before .before .before .loop .left) (c .before .before .before .before .before .before .before .before .before .loop .ver) (c .before .before .before .before .before .before .before .before .loop-test .taken) (c .before .before .before .before .before .p .given .0 .0) (turned-is (now (c .before .before .before .before .before .before .before .before .before .before .before .args .s)) (c .before .before .before .before .before .before .before .before .before .loop .hand) (c .before .before .before .before .before .before .before .before .before .loop .slot) (c .before .before .before .before .before .before .before .spot-at .result) (c .before .before .before .before .before .before .before .spot-at .ensures) (c .before .before .before .before .before .p .given .0 .0) (c .before .before .before .before .before .p .given .1)) _ (c .before .before .old-ver .ensures) (sym (c .before .newer .ensures) ∙ c .if1 .left)), c .before .before .before .before .before .before .before .before .before .loop .inv .0)
 
 add-slot : tie.Need-add-slot Inv-loop μ-loop
 add-slot c =
-    let o = old-inside (now (c .before .before .before .before .before .before .before .before .before .before .before .before .args .s)) (c .before .before .before .before .before .before .before .before .before .before .loop .page) (c .before .before .before .before .before .before .before .before .before .before .loop .slot) (c .before .before .before .before .before .before .p .given .0 .0) (c .before .before .before .before .before .before .p .given .0 .1 .0) (c .before .before .before .before .before .before .p .given .0 .1 .1 .0) (sym (c .before .before .before .before .before .before .before .before .old-at .ensures) ∙ c .before .before .before .before .before .before .p .given .1) in
-    omega (arith, o .slot, o .history .inside .slots, o .history .inside .records, o .history .inside .payload, o .history .inside .arena, c .before .before .before .before .before .before .before .before .before .before .before .before .good)
+    let g = (turned-is (now (c .before .before .before .before .before .before .before .before .before .before .before .before .args .s)) (c .before .before .before .before .before .before .before .before .before .before .loop .hand) (c .before .before .before .before .before .before .before .before .before .before .loop .slot) (c .before .before .before .before .before .before .before .before .spot-at .result) (c .before .before .before .before .before .before .before .before .spot-at .ensures) (c .before .before .before .before .before .before .p .given .0 .0) (c .before .before .before .before .before .before .p .given .1)) in
+    omega (arith, held-old (now (c .before .before .before .before .before .before .before .before .before .before .before .before .args .s)) (c .before .before .before .before .before .before .p .given .0 .0 .hand) (c .before .before .before .before .before .before .p .given .0 .0 .slot) (g .held) (g .slot) .slot, c .before .before .before .before .before .before .before .before .before .before .before .before .good)
 
 sub-left : tie.Need-sub-left Inv-loop μ-loop
 sub-left c = omega (arith, c .before .before .before .before .before .before .before .before .before .loop-test .taken)
@@ -58,10 +55,12 @@ loop-less : tie.Need-loop-less Inv-loop μ-loop
 loop-less c = omega (arith, c .before .before .before .before .before .before .before .before .before .loop-test .taken)
 
 loop-again : tie.Need-loop-again Inv-loop μ-loop
-loop-again c = (sound-known (now (c .before .before .before .before .before .before .before .before .before .before .before .before .args .s)) _ (sym (c .before .before .before .before .whole .ensures) ∙ c .before .before .before .if1 .taken), rw (c .before .before .ver-at .ensures) (c .before .before .before .before .before .before .before .before .before .before .loop .inv .1 ∙ chain-more (now (c .before .before .before .before .before .before .before .before .before .before .before .before .args .s)) (c .before .before .before .before .before .before .before .before .before .before .loop .left) (c .before .before .before .before .before .before .before .before .before .before .loop .page) (c .before .before .before .before .before .before .before .before .before .before .loop .slot) (c .before .before .before .before .before .before .before .before .before .before .loop .ver) (c .before .before .before .before .before .before .before .before .before .loop-test .taken) _ _ _ (sym (c .before .before .before .before .before .before .before .before .old-at .ensures) ∙ c .before .before .before .before .before .before .p .given .1) (sym (c .before .before .before .before .whole .ensures) ∙ c .before .before .before .if1 .taken) (rw (← c .before .before .ver-at .ensures) (sym (c .before .newer .ensures) ∙ c .if2 .taken))))
+loop-again c =
+    let g = (turned-is (now (c .before .before .before .before .before .before .before .before .before .before .before .before .args .s)) (c .before .before .before .before .before .before .before .before .before .before .loop .hand) (c .before .before .before .before .before .before .before .before .before .before .loop .slot) (c .before .before .before .before .before .before .before .before .spot-at .result) (c .before .before .before .before .before .before .before .before .spot-at .ensures) (c .before .before .before .before .before .before .p .given .0 .0) (c .before .before .before .before .before .before .p .given .1)) in
+    (g .held, omega (arith, g .slot), c .before .before .before .before .before .before .before .before .before .before .loop .inv .2 ∙ turn-more (now (c .before .before .before .before .before .before .before .before .before .before .before .before .args .s)) (c .before .before .before .before .before .before .before .before .before .before .loop .hand) (c .before .before .before .before .before .before .before .before .before .before .loop .slot) (c .before .before .before .before .before .before .before .before .before .before .loop .left) (c .before .before .before .before .before .before .before .before .before .before .loop .ver) (c .before .before .before .before .before .before .before .before .before .loop-test .taken) (c .before .before .before .before .before .before .p .given .0 .0) g _ (c .before .before .before .old-ver .ensures) (sym (c .before .before .newer .ensures) ∙ c .before .if1 .taken))
 
-returns-4 : tie.Need-returns-4 Inv-loop μ-loop
-returns-4 c = (sym (c .before .loop .inv .1 ∙ chain-end (now (c .before .before .before .args .s)) (c .before .loop .left) (c .before .loop .page) (c .before .loop .slot) (c .before .loop .ver) (c .loop-test .left)), c .before .loop .inv .0)
+returns-3 : tie.Need-returns-3 Inv-loop μ-loop
+returns-3 c = (sym (c .before .loop .inv .2 ∙ chain-end (now (c .before .before .before .args .s)) (c .before .loop .left) (c .before .loop .hand .page) (c .before .loop .slot) (c .before .loop .ver) (c .loop-test .left)), c .before .loop .inv .0)
 
 pub chain-spec : {M : Type 1} → statement M
 chain-spec =
@@ -70,17 +69,15 @@ chain-spec =
     Inv-loop
     μ-loop
     loop-holds
-    old-at-requires
+    spot-at-requires
     enum-known-p
     enum-told
     returns
-    whole-requires
-    returns-2
-    ver-at-requires
+    old-ver-requires
     newer-requires
-    returns-3
+    returns-2
     add-slot
     sub-left
     loop-less
     loop-again
-    returns-4)
+    returns-3)

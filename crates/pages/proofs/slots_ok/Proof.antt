@@ -1,13 +1,12 @@
 -- `pages::slots_ok` meets its contract. Assumes nothing.
 use native.Mathlib.Omega.{arith}
-use borrow.Author.Needs.{needs}
 use Prim.Native.Nat.{_+_, _-_, _≤_}
 use mathlib.Core.Path.{_≡_, sym, _∙_}
 use denote.Ref.{now}
 use lib.ListN.{length}
 use Rattle.records.proofs.Inside.{at-inside}
 use Rattle.pages.specs.Sound.{slotsFrom, slotsOk}
-use Rattle.pages.proofs.Turns.{slots-bad, slots-gap, slots-fall, slots-more, slots-end}
+use Rattle.pages.proofs.Turns.{slots-bad, slots-gap, slots-fall, slots-more, slots-start, slots-end}
 use borrow.Author.Needs.{needs}
 use Rattle.pages.proofs.slots_ok.Statement.{statement}
 use Rattle.pages.proofs.slots_ok.Tie as tie
@@ -19,11 +18,10 @@ abbrev μ-loop : tie.MeasureT-loop
 μ-loop s b i₀ want₀ la₀ ln₀ i want la ln = b .elems - i
 
 loop-holds : tie.Need-loop-holds Inv-loop μ-loop
-unfolding slotsOk
-loop-holds c = (omega arith, omega arith, let z : c .before .args .b .elems - 0 ≡ c .before .args .b .elems = omega arith in rw z)
+loop-holds c = (omega arith, omega arith, slots-start (now (c .before .args .s)) (c .before .args .b))
 
-rec-at-requires : tie.Need-rec-at-requires Inv-loop μ-loop
-rec-at-requires c κs = c .before .before .before .before .pre
+old-or-child-requires : tie.Need-old-or-child-requires Inv-loop μ-loop
+old-or-child-requires c κs = c .before .before .before .before .pre
 
 enum-known-r : tie.Need-enum-known-r Inv-loop μ-loop
 enum-known-r c = search needs
@@ -32,14 +30,14 @@ enum-told : tie.Need-enum-told Inv-loop μ-loop
 enum-told c = search needs
 
 returns : tie.Need-returns Inv-loop μ-loop
-returns c = sym (c .before .before .before .before .before .loop .inv .2 ∙ slots-bad (now (c .before .before .before .before .before .before .before .args .s)) (c .before .before .before .before .before .before .before .args .b) (c .before .before .before .before .before .before .before .args .b .elems) _ _ _ _ (c .before .before .before .if1 .taken) (sym (c .before .before .rec-at .ensures) ∙ c .enum-told .given .1))
+returns c = sym (c .before .before .before .before .before .loop .inv .2 ∙ slots-bad (now (c .before .before .before .before .before .before .before .args .s)) (c .before .before .before .before .before .before .before .args .b) (c .before .before .before .before .before .before .before .args .b .elems) _ _ _ _ (c .before .before .before .if1 .taken) (sym (c .before .before .old-or-child .ensures) ∙ c .enum-told .given .1))
 
 returns-2 : tie.Need-returns-2 Inv-loop μ-loop
-returns-2 c = sym (c .before .before .before .before .before .before .before .before .loop .inv .2 ∙ slots-gap (now (c .before .before .before .before .before .before .before .before .before .before .args .s)) (c .before .before .before .before .before .before .before .before .before .before .args .b) (c .before .before .before .before .before .before .before .before .before .before .args .b .elems) _ _ _ _ (c .before .before .before .before .before .before .if1 .taken) (c .before .before .before .r .given .0 .0) (sym (c .before .before .before .before .before .rec-at .ensures) ∙ c .before .before .before .r .given .1) (c .if2 .taken))
+returns-2 c = sym (c .before .before .before .before .before .before .before .before .loop .inv .2 ∙ slots-gap (now (c .before .before .before .before .before .before .before .before .before .before .args .s)) (c .before .before .before .before .before .before .before .before .before .before .args .b) (c .before .before .before .before .before .before .before .before .before .before .args .b .elems) _ _ _ _ (c .before .before .before .before .before .before .if1 .taken) (c .before .before .before .r .given .0 .0) (sym (c .before .before .before .before .before .old-or-child .ensures) ∙ c .before .before .before .r .given .1) (c .if2 .taken))
 
 in-order-requires : tie.Need-in-order-requires Inv-loop μ-loop
 in-order-requires c κs =
-    let k = at-inside (now (c .before .before .before .before .before .before .before .before .before .before .args .s)) (c .before .before .before .before .before .before .before .before .before .before .args .b) (c .before .before .before .before .before .before .before .before .loop .i) (c .before .before .before .r .given .0 .0) (c .before .before .before .before .before .before .before .before .before .before .pre) (sym (c .before .before .before .before .before .rec-at .ensures) ∙ c .before .before .before .r .given .1) .0 in
+    let k = at-inside (now (c .before .before .before .before .before .before .before .before .before .before .args .s)) (c .before .before .before .before .before .before .before .before .before .before .args .b) (c .before .before .before .before .before .before .before .before .loop .i) (c .before .before .before .r .given .0 .0) (c .before .before .before .before .before .before .before .before .before .before .pre) (sym (c .before .before .before .before .before .old-or-child .ensures) ∙ c .before .before .before .r .given .1) .0 in
     (c .before .before .before .before .before .before .before .before .loop .inv .1, omega (arith, k .rest, c .before .before .before .before .before .before .before .before .before .before .pre .payload, c .before .before .before .before .before .before .before .before .before .before .pre .arena))
 
 add-i : tie.Need-add-i Inv-loop μ-loop
@@ -50,11 +48,11 @@ loop-less c = omega (arith, c .before .before .before .before .before .before .b
 
 loop-again : tie.Need-loop-again Inv-loop μ-loop
 loop-again c =
-    let k = at-inside (now (c .before .before .before .before .before .before .before .before .before .before .before .before .args .s)) (c .before .before .before .before .before .before .before .before .before .before .before .before .args .b) (c .before .before .before .before .before .before .before .before .before .before .loop .i) (c .before .before .before .before .before .r .given .0 .0) (c .before .before .before .before .before .before .before .before .before .before .before .before .pre) (sym (c .before .before .before .before .before .before .before .rec-at .ensures) ∙ c .before .before .before .before .before .r .given .1) .0 in
-    (omega (arith, c .before .before .before .before .before .before .before .before .if1 .taken), omega (arith, k .rest, c .before .before .before .before .before .before .before .before .before .before .before .before .pre .payload, c .before .before .before .before .before .before .before .before .before .before .before .before .pre .arena), c .before .before .before .before .before .before .before .before .before .before .loop .inv .2 ∙ slots-more (now (c .before .before .before .before .before .before .before .before .before .before .before .before .args .s)) (c .before .before .before .before .before .before .before .before .before .before .before .before .args .b) (c .before .before .before .before .before .before .before .before .before .before .before .before .args .b .elems) _ _ _ _ (c .before .before .before .before .before .before .before .before .if1 .taken) (c .before .before .before .before .before .r .given .0 .0) (sym (c .before .before .before .before .before .before .before .rec-at .ensures) ∙ c .before .before .before .before .before .r .given .1) (c .before .before .if2 .left) (sym (c .before .in-order .ensures) ∙ c .if3 .taken))
+    let k = at-inside (now (c .before .before .before .before .before .before .before .before .before .before .before .before .args .s)) (c .before .before .before .before .before .before .before .before .before .before .before .before .args .b) (c .before .before .before .before .before .before .before .before .before .before .loop .i) (c .before .before .before .before .before .r .given .0 .0) (c .before .before .before .before .before .before .before .before .before .before .before .before .pre) (sym (c .before .before .before .before .before .before .before .old-or-child .ensures) ∙ c .before .before .before .before .before .r .given .1) .0 in
+    (omega (arith, c .before .before .before .before .before .before .before .before .if1 .taken), omega (arith, k .rest, c .before .before .before .before .before .before .before .before .before .before .before .before .pre .payload, c .before .before .before .before .before .before .before .before .before .before .before .before .pre .arena), c .before .before .before .before .before .before .before .before .before .before .loop .inv .2 ∙ slots-more (now (c .before .before .before .before .before .before .before .before .before .before .before .before .args .s)) (c .before .before .before .before .before .before .before .before .before .before .before .before .args .b) (c .before .before .before .before .before .before .before .before .before .before .before .before .args .b .elems) _ _ _ _ (c .before .before .before .before .before .before .before .before .if1 .taken) (c .before .before .before .before .before .r .given .0 .0) (sym (c .before .before .before .before .before .before .before .old-or-child .ensures) ∙ c .before .before .before .before .before .r .given .1) (c .before .before .if2 .left) (sym (c .before .in-order .ensures) ∙ c .if3 .taken))
 
 returns-3 : tie.Need-returns-3 Inv-loop μ-loop
-returns-3 c = sym (c .before .before .before .before .before .before .before .before .before .before .loop .inv .2 ∙ slots-fall (now (c .before .before .before .before .before .before .before .before .before .before .before .before .args .s)) (c .before .before .before .before .before .before .before .before .before .before .before .before .args .b) (c .before .before .before .before .before .before .before .before .before .before .before .before .args .b .elems) _ _ _ _ (c .before .before .before .before .before .before .before .before .if1 .taken) (c .before .before .before .before .before .r .given .0 .0) (sym (c .before .before .before .before .before .before .before .rec-at .ensures) ∙ c .before .before .before .before .before .r .given .1) (c .before .before .if2 .left) (sym (c .before .in-order .ensures) ∙ c .if3 .left))
+returns-3 c = sym (c .before .before .before .before .before .before .before .before .before .before .loop .inv .2 ∙ slots-fall (now (c .before .before .before .before .before .before .before .before .before .before .before .before .args .s)) (c .before .before .before .before .before .before .before .before .before .before .before .before .args .b) (c .before .before .before .before .before .before .before .before .before .before .before .before .args .b .elems) _ _ _ _ (c .before .before .before .before .before .before .before .before .if1 .taken) (c .before .before .before .before .before .r .given .0 .0) (sym (c .before .before .before .before .before .before .before .old-or-child .ensures) ∙ c .before .before .before .before .before .r .given .1) (c .before .before .if2 .left) (sym (c .before .in-order .ensures) ∙ c .if3 .left))
 
 returns-4 : tie.Need-returns-4 Inv-loop μ-loop
 returns-4 c = sym (c .before .before .loop .inv .2 ∙ slots-end (now (c .before .before .before .before .args .s)) (c .before .before .before .before .args .b) (c .before .before .before .before .args .b .elems) _ _ _ _ (c .if1 .left))
@@ -66,7 +64,7 @@ slots-ok-spec =
     Inv-loop
     μ-loop
     loop-holds
-    rec-at-requires
+    old-or-child-requires
     enum-known-r
     enum-told
     returns
