@@ -16,6 +16,8 @@ pub type Contestant<'a> = &'a mut dyn FnMut(usize) -> u64;
 
 const FEWEST: usize = 21;
 const MOST: usize = 4001;
+/// How long a contestant is timed, unless its rounds take longer.
+pub const EACH: Duration = Duration::from_millis(400);
 
 /// Times contestants that do `calls` calls a round, for about `each` time a contestant.
 pub fn race(calls: usize, each: Duration, contestants: &mut [Contestant]) -> Vec<Time> {
