@@ -1,10 +1,11 @@
 //! This library, called through its C interface, beside the Rust (sst.rs, BaseIter, BaseRevIter, base.rs) and two databases in one run:
 //! the same pages, the same probes in the same order, warmed alike, rounds in turn. `tools/bench` builds and runs it and writes
 //! docs/BENCH.md and docs/bench.svg; `--print` only prints, `--only WORD` times the calls whose name has the word (`growth`
-//! is a table of its own). `--season` prints what the two named budgets of a history page cost instead.
+//! and `hostile` are tables of their own). `--season` prints what the two named budgets of a history page cost instead.
 
 mod builds;
 mod growth;
+mod hostile;
 mod lookups;
 mod others;
 mod plot;
@@ -40,6 +41,9 @@ fn main() {
     let mut tables = report::table(&sheet);
     if wanted("growth") {
         tables += &growth::table();
+    }
+    if wanted("hostile") {
+        tables += &hostile::table();
     }
     print!("{tables}");
     if !args.iter().any(|a| a == "--print") {
