@@ -3,7 +3,7 @@
 use crate::sheet::{Row, Sheet};
 use std::fmt::Write;
 
-const WIDE: f64 = 1440.0;
+const WIDE: f64 = 1500.0;
 const LEFT: f64 = 64.0;
 /// Of a line below a call's bars.
 const MOST_LETTERS: usize = 12;
