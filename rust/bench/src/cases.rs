@@ -4,28 +4,39 @@ use cresttrestle::sys::CT_RUST_HIST_PAGE_BUDGET;
 use oracle::answer::{Bounds, Built, Stamp};
 use oracle::arena::Arena;
 use oracle::list::{self, Child, Entry};
+use std::ops::Range;
 
+/// An inline limit that leaves every value in its page, and one that leaves none.
 pub const LIMIT: usize = 64;
+pub const ALL_REMOTE: usize = 1;
 pub const BUDGET: usize = CT_RUST_HIST_PAGE_BUDGET as usize;
 pub const STAMP: Stamp = Stamp { txid: 1, group: 0, lsn: 0, checkpoint: 0 };
 pub const BOUNDS: Bounds = Bounds { lo: &[], hi: &[], sibling: 0 };
-pub const PROBES: usize = 4096;
+/// The lengths of keys.
+pub const SHORT: usize = 6;
+pub const LONG: usize = 64;
+/// Lookups a round: few, so that few rounds meet another program.
+pub const CALLS: usize = 512;
+const ROUNDS: usize = 8;
 
 pub struct Case {
     pub keys: Vec<Vec<u8>>,
     /// Which key each lookup asks for: all of them are there, in no order.
-    pub probes: Vec<usize>,
+    probes: Vec<usize>,
     values: Vec<[u8; 8]>,
 }
 
+/// An arena with two pages that meet.
+pub type Neighbours = (Arena, Built, Built);
+
 impl Case {
-    pub fn new(n: usize, long: bool) -> Self {
-        let mut keys: Vec<Vec<u8>> = (0..n).map(|i| key(i, long)).collect();
+    pub fn new(n: usize, key_len: usize) -> Self {
+        let mut keys: Vec<Vec<u8>> = (0..n).map(|i| key(i, key_len == LONG)).collect();
         keys.sort();
         keys.dedup();
-        assert_eq!(keys.len(), n, "the keys differ");
+        assert_eq!((keys.len(), keys[0].len()), (n, key_len), "the keys differ");
         let mut x: u64 = 20_261_115;
-        let probes = (0..PROBES)
+        let probes = (0..ROUNDS * CALLS)
             .map(|_| {
                 x = x
                     .wrapping_mul(6_364_136_223_846_793_005)
@@ -36,10 +47,19 @@ impl Case {
         Case { keys, probes, values: (0..3 * n as u64).map(u64::to_le_bytes).collect() }
     }
 
-    /// The rows of keys `from` to `to`, newest first.
-    pub fn entries(&self, from: usize, to: usize) -> Vec<Entry<'_>> {
+    pub fn key_len(&self) -> usize {
+        self.keys[0].len()
+    }
+
+    /// The keys that a round asks for: each takes the next ones, so that all of the page is asked for.
+    pub fn probes(&self, round: usize) -> &[usize] {
+        &self.probes[round % ROUNDS * CALLS..][..CALLS]
+    }
+
+    /// The rows of some keys, newest first.
+    pub fn entries(&self, keys: Range<usize>) -> Vec<Entry<'_>> {
         let mut out = Vec::new();
-        for i in from..to {
+        for i in keys {
             for old in 0..if i % 3 == 0 { 3 } else { 1 } {
                 out.push(Entry {
                     key: &self.keys[i],
@@ -52,52 +72,71 @@ impl Case {
         out
     }
 
+    /// The rows of all keys.
+    pub fn all(&self) -> Vec<Entry<'_>> {
+        self.entries(0..self.keys.len())
+    }
+
+    /// The children that an index page has for some keys.
+    pub fn children(&self, keys: Range<usize>) -> Vec<Child<'_>> {
+        keys.map(|i| Child { key: &self.keys[i], pid: i as u64 + 1 }).collect()
+    }
+
     /// The newest value of a key.
     pub fn value(&self, i: usize) -> &[u8] {
         &self.values[3 * i]
     }
 
-    /// Room for the pages of these rows, their halves and a merge.
-    fn room(&self) -> usize {
-        8192 + self.keys.len() * 4 * (120 + self.keys[0].len())
+    /// An arena that nobody wrote to, with room for the pages of these rows, their halves and a merge.
+    pub fn empty(&self) -> Arena {
+        Arena::new(8192 + self.keys.len() * 4 * (120 + self.key_len()), 0)
     }
 
     /// One leaf of every row, made by the Rust; its address and the next free one.
     pub fn leaf(&self) -> (Arena, Built) {
-        let mut arena = Arena::new(self.room(), 0);
-        let built =
-            arena.build_leaf(8, LIMIT, BUDGET, &STAMP, &BOUNDS, &self.entries(0, self.keys.len()));
-        (arena, built)
-    }
-
-    /// An arena that nobody wrote to, as large as the leaf's.
-    pub fn empty(&self) -> Arena {
-        Arena::new(self.room(), 0)
-    }
-
-    pub fn list(&self) -> Vec<u8> {
-        list::write_entries(&self.entries(0, self.keys.len()))
-    }
-
-    /// Two leaves, the lower half of the keys and the upper: neighbours, whose boundaries meet at the upper's first key.
-    pub fn halves(&self) -> (Arena, Built, Built) {
         let mut arena = self.empty();
-        let (n, half) = (self.keys.len(), self.keys.len() / 2);
-        let (below, from) =
-            (Bounds { hi: &self.keys[half], ..BOUNDS }, Bounds { lo: &self.keys[half], ..BOUNDS });
-        let left = arena.build_leaf(8, LIMIT, BUDGET, &STAMP, &below, &self.entries(0, half));
-        let right =
-            arena.build_leaf(left.next, LIMIT, BUDGET, &STAMP, &from, &self.entries(half, n));
-        (arena, left, right)
+        let built = arena.build_leaf(8, LIMIT, BUDGET, &STAMP, &BOUNDS, &self.all());
+        (arena, built)
     }
 
     /// An index page of the keys.
     pub fn index(&self) -> (Arena, Built) {
         let mut arena = self.empty();
-        let children: Vec<Child> =
-            self.keys.iter().zip(1..).map(|(key, pid)| Child { key, pid }).collect();
-        let built = arena.build_index(8, &STAMP, &BOUNDS, &children);
+        let built = arena.build_index(8, &STAMP, &BOUNDS, &self.children(0..self.keys.len()));
         (arena, built)
+    }
+
+    pub fn leaves(&self, limit: usize) -> Neighbours {
+        self.halves(|arena, next, bounds, keys| {
+            arena.build_leaf(next, limit, BUDGET, &STAMP, bounds, &self.entries(keys))
+        })
+    }
+
+    pub fn indexes(&self) -> Neighbours {
+        self.halves(|arena, next, bounds, keys| {
+            arena.build_index(next, &STAMP, bounds, &self.children(keys))
+        })
+    }
+
+    /// Two pages, the lower half of the keys and the upper, whose boundaries meet at the upper's first key.
+    fn halves(
+        &self,
+        build: impl Fn(&mut Arena, u64, &Bounds, Range<usize>) -> Built,
+    ) -> Neighbours {
+        let mut arena = self.empty();
+        let (n, half) = (self.keys.len(), self.keys.len() / 2);
+        let middle = &self.keys[half][..];
+        let left = build(&mut arena, 8, &Bounds { hi: middle, ..BOUNDS }, 0..half);
+        let right = build(&mut arena, left.next, &Bounds { lo: middle, ..BOUNDS }, half..n);
+        (arena, left, right)
+    }
+
+    pub fn list(&self) -> Vec<u8> {
+        list::write_entries(&self.all())
+    }
+
+    pub fn index_list(&self) -> Vec<u8> {
+        list::write_children(&self.children(0..self.keys.len()))
     }
 }
 

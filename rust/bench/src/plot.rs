@@ -1,10 +1,12 @@
 //! docs/bench.svg: above, each call's ratio to the Rust on a log scale around 1; below, lookups beside the databases.
 
-use crate::report::Row;
+use crate::sheet::{Row, Sheet};
 use std::fmt::Write;
 
-const WIDE: f64 = 1080.0;
+const WIDE: f64 = 1500.0;
 const LEFT: f64 = 64.0;
+/// Of a line below a call's bars.
+const MOST_LETTERS: usize = 12;
 /// A colour for 6-byte keys and one for 64-byte keys, paler for smaller pages.
 const SHORT: [&str; 3] = ["#a9c8ea", "#5f97d3", "#23609f"];
 const LONG: [&str; 3] = ["#f6c79c", "#e8934a", "#b55d12"];
@@ -55,22 +57,12 @@ fn colour(row: &Row) -> &'static str {
     shades[(row.keys.ilog10() as usize).clamp(2, 4) - 2]
 }
 
-fn distinct<'a>(names: impl Iterator<Item = &'a str>) -> Vec<&'a str> {
-    let mut out: Vec<&str> = Vec::new();
-    for name in names {
-        if !out.contains(&name) {
-            out.push(name);
-        }
-    }
-    out
-}
-
-pub fn svg(rows: &[Row]) -> String {
+pub fn svg(sheet: &Sheet) -> String {
     let mut s = Svg(String::new());
-    let lookups: Vec<&Row> = rows.iter().filter(|r| r.call == "search").collect();
+    let lookups: Vec<&Row> = sheet.rows.iter().filter(|r| r.call == "search").collect();
     let height = 470.0 + if lookups.is_empty() { 0.0 } else { 80.0 + lookups.len() as f64 * 62.0 };
     s.rect(0.0, 0.0, WIDE, height, "#ffffff");
-    ratios(&mut s, rows);
+    ratios(&mut s, sheet);
     if !lookups.is_empty() {
         times(&mut s, &lookups, 500.0);
     }
@@ -81,8 +73,8 @@ pub fn svg(rows: &[Row]) -> String {
 }
 
 /// Bars from the line at 1: above it slower than the Rust, below it faster.
-fn ratios(s: &mut Svg, rows: &[Row]) {
-    let (top, bottom) = (96.0, 400.0);
+fn ratios(s: &mut Svg, sheet: &Sheet) {
+    let (top, bottom, rows) = (96.0, 400.0, &sheet.rows);
     let most = rows.iter().map(|r| r.ratio().max(r.fast_ratio())).fold(2.0, f64::max).log2().ceil();
     let least =
         rows.iter().map(|r| r.ratio().min(r.fast_ratio())).fold(0.5, f64::min).log2().floor();
@@ -117,11 +109,10 @@ fn ratios(s: &mut Svg, rows: &[Row]) {
         s.line(LEFT, y(ratio), WIDE - 20.0, y(ratio), stroke, more);
         s.text(LEFT - 8.0, y(ratio) + 4.0, 12.0, "end", PLAIN, &format!("{ratio}×"));
     }
-    let calls = distinct(rows.iter().map(|r| r.call));
+    let calls = sheet.by_call();
     let room = (WIDE - 20.0 - LEFT) / calls.len() as f64;
-    for (k, call) in calls.iter().enumerate() {
+    for (k, (call, of)) in calls.iter().enumerate() {
         let start = LEFT + k as f64 * room;
-        let of: Vec<&Row> = rows.iter().filter(|r| r.call == *call).collect();
         let bar = (room - 18.0) / of.len() as f64;
         for (i, row) in of.iter().enumerate() {
             let (a, b) = (y(row.ratio()), y(1.0));
@@ -141,8 +132,23 @@ fn ratios(s: &mut Svg, rows: &[Row]) {
         }
         let (first, rest) = call.split_once(", ").unwrap_or((call, ""));
         s.text(start + room / 2.0, bottom + 22.0, 12.5, "middle", STRONG, first);
-        s.text(start + room / 2.0, bottom + 38.0, 11.5, "middle", PLAIN, rest);
+        for (line, words) in wrapped(rest).iter().enumerate() {
+            let y = bottom + 38.0 + 14.0 * line as f64;
+            s.text(start + room / 2.0, y, 11.5, "middle", PLAIN, words);
+        }
     }
+}
+
+/// A text in lines that fit below a call's bars.
+fn wrapped(text: &str) -> Vec<String> {
+    let mut lines: Vec<String> = Vec::new();
+    for word in text.split_whitespace() {
+        match lines.last_mut() {
+            Some(line) if line.len() + word.len() < MOST_LETTERS => *line += &format!(" {word}"),
+            _ => lines.push(word.to_string()),
+        }
+    }
+    lines
 }
 
 /// Lookup times side by side, a bar a contestant.

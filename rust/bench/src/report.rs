@@ -1,50 +1,27 @@
-//! The table, and the part of docs/BENCH.md that holds it: everything between the two marks is made anew, the rest stays.
+//! The table of rows, and the part of docs/BENCH.md that holds all tables: everything between the two marks is made anew, the rest stays.
 
-use crate::timing::Time;
+use crate::sheet::{Row, Sheet};
 use std::fmt::Write;
 use std::fs;
 use std::path::Path;
-
-pub struct Row {
-    pub call: &'static str,
-    pub keys: usize,
-    pub key_len: usize,
-    pub ours: Time,
-    pub rust: Time,
-    pub others: Vec<(String, Time)>,
-}
-
-impl Row {
-    pub fn ratio(&self) -> f64 {
-        self.ours.median / self.rust.median
-    }
-
-    /// The same of the fast rounds.
-    pub fn fast_ratio(&self) -> f64 {
-        self.ours.fast / self.rust.fast
-    }
-}
 
 const BEGIN: &str = "<!-- from here to the end mark: made by tools/bench -->";
 const END: &str = "<!-- end of what tools/bench makes -->";
 
 /// Nanoseconds with three digits that say something.
-fn ns(t: f64) -> String {
+pub fn ns(t: f64) -> String {
     if t < 100.0 { format!("{t:.1}") } else { format!("{t:.0}") }
 }
 
-pub fn table(rows: &[Row]) -> String {
+pub fn table(sheet: &Sheet) -> String {
+    if sheet.rows.is_empty() {
+        return String::new();
+    }
     let mut out = String::from(
         "| call | keys | key bytes | ours ns | Rust ns | ratio | ours 5% | Rust 5% | ratio 5% |\n|---|--:|--:|--:|--:|--:|--:|--:|--:|\n",
     );
-    let mut calls: Vec<&str> = Vec::new();
-    for row in rows {
-        if !calls.contains(&row.call) {
-            calls.push(row.call);
-        }
-    }
-    for call in calls {
-        for r in rows.iter().filter(|r| r.call == call) {
+    for (call, rows) in sheet.by_call() {
+        for r in rows {
             let (a, b) = (ns(r.ours.fast), ns(r.rust.fast));
             let (keys, len, fast) = (r.keys, r.key_len, r.fast_ratio());
             writeln!(
@@ -57,7 +34,7 @@ pub fn table(rows: &[Row]) -> String {
             .unwrap();
         }
     }
-    let lookups: Vec<&Row> = rows.iter().filter(|r| !r.others.is_empty()).collect();
+    let lookups: Vec<&Row> = sheet.rows.iter().filter(|r| !r.others.is_empty()).collect();
     if let Some(first) = lookups.first() {
         let names: Vec<&str> = first.others.iter().map(|(name, _)| name.as_str()).collect();
         writeln!(out, "\nThe same lookups in what one might pick instead, median nanoseconds:\n")
@@ -113,7 +90,7 @@ fn library() -> &'static str {
     }
 }
 
-pub fn write(table: &str, svg: &str) {
+pub fn write(tables: &str, svg: &str) {
     let docs = Path::new(env!("CARGO_MANIFEST_DIR")).join("../../docs");
     let file = docs.join("BENCH.md");
     let old = fs::read_to_string(&file)
@@ -128,7 +105,7 @@ pub fn write(table: &str, svg: &str) {
     fs::write(
         &file,
         format!(
-            "{before}{BEGIN}\n\nMachine: {}. Library: {}.\n\n{picture}\n\n{table}\n{END}{after}",
+            "{before}{BEGIN}\n\nMachine: {}. Library: {}.\n\n{picture}\n\n{tables}\n{END}{after}",
             machine(),
             library()
         ),

@@ -1,7 +1,7 @@
 //! What a budget costs: one key with 1,200 old rows of 100 bytes, its history pages at the default budget and at the Rust's, side by side.
 //! `tools/bench --season` prints the table of docs/notes/order-2.md.
 
-use crate::timing::{Contestant, Time, race};
+use bench::timing::{Contestant, Time, race};
 use cresttrestle::{Addr, Arena, Bounds, Build, Ver, View};
 use oracle::list::{self, Entry};
 use std::time::Duration;

@@ -16,6 +16,10 @@ pub type Contestant<'a> = &'a mut dyn FnMut(usize) -> u64;
 
 const FEWEST: usize = 21;
 const MOST: usize = 4001;
+/// Rounds of a call that takes long by itself.
+const FEW: usize = 5;
+/// How long a contestant is timed, unless its rounds take longer.
+pub const EACH: Duration = Duration::from_millis(400);
 
 /// Times contestants that do `calls` calls a round, for about `each` time a contestant.
 pub fn race(calls: usize, each: Duration, contestants: &mut [Contestant]) -> Vec<Time> {
@@ -45,4 +49,16 @@ pub fn race(calls: usize, each: Duration, contestants: &mut [Contestant]) -> Vec
             Time { median: t[t.len() / 2], fast: t[t.len() / 20] }
         })
         .collect()
+}
+
+/// The milliseconds that one long call takes, the median of a few.
+pub fn long(mut call: impl FnMut() -> u32) -> f64 {
+    let mut rounds = [0.0; FEW];
+    for round in &mut rounds {
+        let t = Instant::now();
+        black_box(call());
+        *round = t.elapsed().as_secs_f64() * 1e3;
+    }
+    rounds.sort_by(f64::total_cmp);
+    rounds[FEW / 2]
 }
