@@ -26,12 +26,12 @@ use Rattle.build_bounds.specs.declared.Boundaries.{Boundaries}
 use Rattle.build_bounds.specs.Boundaries.{BothWithin, boundsOf}
 use Rattle.build_bounds.proofs.Laws.{length-boundary}
 use Rattle.build_totals.specs.declared.Totals.{Totals}
-use Rattle.build_totals.specs.declared.Tally.{Tally}
-use Rattle.build_totals.specs.declared.Pages.{Pages}
+use Rattle.build_sweep.specs.declared.Tally.{Tally}
+use Rattle.build_sweep.specs.declared.Pages.{Pages}
 use Rattle.build_totals.specs.Totals.{leafAt, remoteAt, remotesOf, totalsOf}
-use Rattle.build_totals.specs.Tally.{nothing, tallyOf}
-use Rattle.build_totals.specs.Pages.{pagesOf}
-use Rattle.build_totals.proofs.Tallying.{heads-are, olds-are, sums-are, counted-are, remotes-are, remote-is}
+use Rattle.build_sweep.specs.Tally.{nothing, tallyOf}
+use Rattle.build_sweep.specs.Pages.{pagesOf}
+use Rattle.build_sweep.proofs.Tallying.{heads-are, olds-are, sums-are, counted-are, remotes-are, remote-is}
 use Rattle.build_totals.proofs.Paged.{hist-remotes}
 use Rattle.build_leaf.specs.Leaf.{Small}
 use Rattle.build_table.specs.declared.LeafVerdict.{LeafVerdict}

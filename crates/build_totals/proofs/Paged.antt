@@ -19,8 +19,8 @@ use Rattle.build_image.proofs.Leaf.{remotes, length-addrs, remotes-cut}
 use Rattle.build_history.specs.declared.PageAhead.{PageAhead}
 use Rattle.build_history.specs.Runs.{runOf}
 use Rattle.build_history.proofs.Ahead.{Tells, tells-of}
-use Rattle.build_totals.specs.declared.Pages.{Pages}
-use Rattle.build_totals.specs.Pages.{pagesOf}
+use Rattle.build_sweep.specs.declared.Pages.{Pages}
+use Rattle.build_sweep.specs.Pages.{pagesOf}
 use Rattle.build_totals.proofs.Fine.{Fine, fine, fine-only, fine-take, remotes-most}
 
 abbrev pub cutsAt : ℕ → ℕ → List Entry → List ℕ

@@ -4,10 +4,10 @@ use Prim.Native.Nat.{ℕ, _+_}
 use lib.Dec.{ltb, eqb}
 use borrow.Author.Tests.{lt-ltb, le-ltb, eq-eqb, ne-eqb, not-true, not-false}
 use borrow.Author.Needs.{needs}
-use Rattle.build_totals.proofs.second.Statement.{statement}
-use Rattle.build_totals.proofs.second.Tie as tie
-use Rattle.build_totals.proofs.second.Reads as reads
-use Rattle.build_totals.proofs.second.Lts as lts
+use Rattle.build_sweep.proofs.second.Statement.{statement}
+use Rattle.build_sweep.proofs.second.Tie as tie
+use Rattle.build_sweep.proofs.second.Reads as reads
+use Rattle.build_sweep.proofs.second.Lts as lts
 use Rattle.values.proofs.Val.calc_size.Reads as calc-size-reads
 
 cast-calc-size : tie.Need-cast-calc-size

@@ -1,0 +1,6 @@
+-- The crate's laws.
+pub mod Tallying
+pub mod Cutting
+pub mod Ents
+pub mod Sweeping
+pub mod Listing
