@@ -4,3 +4,5 @@ pub mod Cutting
 pub mod Ents
 pub mod Sweeping
 pub mod Listing
+pub mod Ending
+pub mod Alone

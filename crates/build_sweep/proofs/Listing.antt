@@ -7,7 +7,7 @@ use Prim.Native.Nat.{ℕ, _+_, _-_, _≤_, _<_}
 use native.Mathlib.Omega.{arith}
 use lib.ListN.{length}
 use lib.Dec.{leb}
-use borrow.Author.Tests.{le-leb, lt-leb}
+use borrow.Author.Tests.{lt-leb}
 use Rattle.spans.specs.Span.{partOr}
 use Rattle.order.specs.declared.Order.{Order}
 use Rattle.order.specs.declared.Order.the-variants.{Less}
@@ -33,7 +33,7 @@ use Rattle.build_sweep.specs.Tally.{nothing, withOld, withHead}
 use Rattle.build_sweep.specs.Bounds.{Bounded}
 use Rattle.build_sweep.specs.Cuts.{begun, cutWith, closedOf, Slim}
 use Rattle.build_sweep.specs.Ents.{entAt, orderAt, verIn, wayBy, wayAt}
-use Rattle.build_sweep.specs.Swept.{listed, plain, Accepted}
+use Rattle.build_sweep.specs.Swept.{listed, plain, Ended, Accepted}
 use Rattle.build_sweep.proofs.Ents.{step-at, step-out, key-bare, same-order, way-head, way-old, way-falls}
 use Rattle.build_sweep.proofs.Sweeping.{Climbing, climb-begin, climb-up, climb-last, climb-falls, climb-on, Adding, add-begin, add-bounded, add-slim, Summed, add-end, add-many, add-head, add-old}
 
@@ -79,10 +79,6 @@ module _ (l : List ℕ) where
   unfolding plain
   not-few h = third-not (wellFormed l [] (firstOf 0)) (rising (listed l 0)) (leb (length (listed l 0)) maxEntries) (lt-leb (length (listed l 0)) maxEntries h)
 
-  all-plain : wellFormed l [] (firstOf 0) ≡ true → rising (listed l 0) ≡ true → length (listed l 0) ≤ maxEntries → plain l 0 ≡ true
-  unfolding plain
-  all-plain w r n = rw (w, r, le-leb (length (listed l 0)) maxEntries n) refl
-
 module _ (l : List ℕ) (p next limit budget at : ℕ) (seen : Bool) (kat klen : ℕ) (t : Tally) (g : Cut) (h : Lists l p next limit budget at seen kat klen t g)
     (nh : next ≤ 9223372036854775807) where
   abbrev c : Cursor
@@ -102,14 +98,20 @@ module _ (l : List ℕ) (p next limit budget at : ℕ) (seen : Bool) (kat klen :
       let e = ended l [] c (sym (record-end l [] c refl q)) in
       let s = add-end (listed l 0) rest p next limit budget t g (h .adds) (e .0) r er in
       record {
-        plain = all-plain l (sym (h .well) ∙ e .1) (climb-up (listed l 0) rest seen x (h .climbs) (e .0)) (s .few);
+        well = sym (h .well) ∙ e .1;
+        ended =
+            record {
+              rises = climb-up (listed l 0) rest seen x (h .climbs) (e .0);
+              count = omega (arith, h .adds .count, ap length (e .0));
+              last = climb-last (listed l 0) rest seen x (h .climbs) (e .0);
+              within = h .within;
+            };
+        few = s .few;
         tally = s .tally;
         pages = s .pages;
         bounded = s .bounded;
         end = s .end;
         count = s .count;
-        last = climb-last (listed l 0) rest seen x (h .climbs) (e .0);
-        within = h .within;
       }
 
   module _ (lt : at < length l) where

@@ -32,15 +32,22 @@ unfoldable pub lastKey : List ℕ → List Entry → List ℕ
 lastKey k [] = k
 lastKey k (e ∷ es) = lastKey (e .key) es
 
+-- the end of a list that rises: how many entries, and where the last key stands
+pub record Ended (l : List ℕ) (n kat klen : ℕ) : Type 0 where
+  pub rises : rising (listed l 0) ≡ true
+  pub count : n ≡ length (listed l 0)
+  pub last : 0 < length (listed l 0) → partOr l kat klen ≡ lastKey [] (listed l 0)
+  pub within : kat + klen ≤ length l
+
 pub record Accepted (l : List ℕ) (p at limit budget : ℕ) (t : Tally) (g : Pages) (kat klen : ℕ) : Type 0 where
-  pub plain : plain l 0 ≡ true
+  pub well : wellFormed l [] (firstOf 0) ≡ true
+  pub ended : Ended l (t .heads + t .olds) kat klen
+  pub few : length (listed l 0) ≤ maxEntries
   pub tally : t ≡ tallyOf limit p nothing (listed l 0)
   pub pages : g ≡ pagesOf limit budget 0 at (only true (listed l 0))
   pub bounded : Bounded t maxEntries
   pub end : g .end ≤ at + 12890734500
   pub count : g .count ≤ maxEntries
-  pub last : 0 < length (listed l 0) → partOr l kat klen ≡ lastKey [] (listed l 0)
-  pub within : kat + klen ≤ length l
 
 abbrev pub SweptBy : List ℕ → ℕ → ℕ → ℕ → ℕ → Swept → Type 0
 SweptBy l p at limit budget (Swept.Fits t g kat klen) = Accepted l p at limit budget t g kat klen

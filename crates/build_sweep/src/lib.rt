@@ -20,7 +20,8 @@ ghost use Rattle.build_sweep.specs.Tally.{withOld, withHead};
 ghost use Rattle.build_sweep.specs.Bounds.{Bounded};
 ghost use Rattle.build_sweep.specs.Cuts.{cutWith, closedOf, Slim};
 ghost use Rattle.build_sweep.specs.Ents.{entAt, orderAt, verIn, wayAt};
-ghost use Rattle.build_sweep.specs.Swept.{SweptBy};
+ghost use Rattle.build_sources.specs.Judged.{enclosed};
+ghost use Rattle.build_sweep.specs.Swept.{listed, Ended, SweptBy};
 
 // What a leaf's size and hint room are made of, summed up entry by entry; `after` says that the entry before is a head.
 pub struct Tally {
@@ -334,4 +335,20 @@ pub fn sweep_list(list: &[u8], p: usize, next: usize, limit: usize, budget: usiz
         }
     }
     Swept::Fits(t, closed(g), kat, klen)
+}
+
+// ---- between the boundaries
+
+// Whether n entries of a record list that rise, the last key at kat, lie between the boundaries: of keys that rise the first and the last decide.
+pub fn encloses(list: &[u8], n: usize, kat: usize, klen: usize, lo: &[u8], hi: &[u8]) -> bool
+    requires { ⌜ Ended (now list) n kat klen ⌝ }
+    ensures { λ r. ⌜ r ≡ enclosed (now (lo .entry)) (now (hi .entry)) (listed (now (list .entry)) 0) ⌝ }
+{
+    if n == 0 {
+        return order::below_by(order::compare(lo, hi), hi);
+    }
+    let k = numbers::read_u16_be(list, 5) as usize;
+    let low = order::compare(key_of(list, 7, k), lo);
+    let high = order::compare(key_of(list, kat, klen), hi);
+    !order::is_less(low) & order::below_by(high, hi)
 }
