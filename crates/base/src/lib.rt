@@ -104,9 +104,6 @@ pub fn new_leaf(
     let Started::From(c) = b else {
         return Built::Refused(Refusal::BadList);
     };
-    if !build_sources::well(list, &a[..next], c) {
-        return Built::Refused(Refusal::BadList);
-    }
     let m = build_image::call_of(limit, budget, group, txid, lsn, checkpoint);
     let x = build_bounds::boundary_of(lo);
     let y = build_bounds::boundary_of(hi);
@@ -117,5 +114,5 @@ pub fn new_leaf(
         prefix: p,
         sibling: sibling,
     };
-    build_table::build_leaf(a, next, list, c, m, lo, hi, e)
+    build_table::build_list(a, next, list, c, m, lo, hi, e)
 }

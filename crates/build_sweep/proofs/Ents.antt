@@ -25,15 +25,15 @@ use Rattle.build_sources.specs.declared.EntryAt.{EntryAt}
 use Rattle.build_sources.specs.declared.Spot.{Spot}
 use Rattle.build_sources.specs.declared.EntryRead.{EntryRead}
 use Rattle.build_sources.specs.Keys.{keyBytes}
-use Rattle.build_sources.specs.Lists.{listKey, cursorAt, sameKey, recordItem, recordAt}
-use Rattle.build_sources.specs.Source.{stepOf, nextOf, pastOf}
+use Rattle.build_sources.specs.Lists.{firstOf, listKey, sameKey, recordItem, recordAt, indexItem, indexAt, spotAt}
+use Rattle.build_sources.specs.Source.{stepOf, listNext, nextOf}
 use Rattle.build_sources.specs.Judged.{aboveBy}
 use Rattle.build_sources.proofs.Stepped.{record-on}
 use Rattle.build_sweep.specs.declared.Ent.{Ent}
 use Rattle.build_sweep.specs.declared.Ent.the-variants.{At, Out}
 use Rattle.build_sweep.specs.declared.Way.{Way}
 use Rattle.build_sweep.specs.declared.Way.the-variants.{Head, Old, Falls}
-use Rattle.build_sweep.specs.Ents.{entAt, spotOf, orderAt, verIn, wayBy, wayAt}
+use Rattle.build_sweep.specs.Ents.{entAt, spotOf, indexEntAt, indexSpotOf, orderAt, verIn, wayBy, wayAt}
 
 -- ---- the lengths
 
@@ -94,19 +94,77 @@ record-ent s c =
     let v = beAt 4 s (c .at + 2 + k + 12) in
     by-tests s c k v (leb (c .at + 2) (length s)) (leb k maxKey) (leb (c .at + 2 + (k + 16)) (length s)) (leb v maxValue) (leb (c .at + 2 + k + 16 + v) (length s))
 
+-- ---- an index list
+
+module _ (s : List ℕ) (at : ℕ) where
+  -- fewer than 10 bytes hold none
+  pub index-few : at ≤ length s → length s < at + 10 → Out ≡ indexEntAt s at
+  unfolding indexEntAt
+  index-few h g = rw (lt-leb (at + 2 + (beAt 2 s at + 8)) (length s) (omega arith)) (flat (leb (at + 2) (length s)) (leb (beAt 2 s at) maxKey))
+
+  module _ (k : ℕ) (ek : k ≡ beAt 2 s at) (h₁ : at + 2 ≤ length s) where
+    pub index-long : maxKey < k → Out ≡ indexEntAt s at
+    unfolding indexEntAt
+    index-long h = simp (sym ek, le-leb (at + 2) (length s) h₁, lt-leb k maxKey h)
+
+    module _ (h₂ : k ≤ maxKey) where
+      pub index-cut : length s < at + 2 + (k + 8) → Out ≡ indexEntAt s at
+      unfolding indexEntAt
+      index-cut h = simp (sym ek, le-leb (at + 2) (length s) h₁, le-leb k maxKey h₂, lt-leb (at + 2 + (k + 8)) (length s) h)
+
+      pub index-found : at + 2 + (k + 8) ≤ length s → At k 0 ≡ indexEntAt s at
+      unfolding indexEntAt
+      index-found h = simp (sym ek, le-leb (at + 2) (length s) h₁, le-leb k maxKey h₂, le-leb (at + 2 + (k + 8)) (length s) h)
+
+index-tests : (s : List ℕ) (c : Cursor) (k : ℕ) (x₁ x₂ x₃ : Bool)
+    → cond x₁ (cond x₂ (cond x₃ (Spot.At (indexItem s c k) (c .at + 2 + k + 8)) Spot.Out) Spot.Out) Spot.Out ≡ indexSpotOf s c (cond x₁ (cond x₂ (cond x₃ (At k 0) Out) Out) Out)
+index-tests s c k true true true = refl
+index-tests s c k true true false = refl
+index-tests s c k true false x₃ = refl
+index-tests s c k false x₂ x₃ = refl
+
+index-ent : (s : List ℕ) (c : Cursor) → indexAt s c ≡ indexSpotOf s c (indexEntAt s (c .at))
+unfolding indexAt indexEntAt
+index-ent s c = let k = beAt 2 s (c .at) in index-tests s c k (leb (c .at + 2) (length s)) (leb k maxKey) (leb (c .at + 2 + (k + 8)) (length s))
+
+-- a list's cursor in numbers: its source, its place, and the key before
+abbrev pub here : ℕ → ℕ → Bool → ℕ → ℕ → Cursor
+here source at seen kat klen =
+    record { source = source; seen = seen; key = listKey kat klen; at = at; walk = firstOf 0 .walk; pre = firstOf 0 .pre; then = firstOf 0 .then }
+
+-- the step of an index list by the entry's length
+module _ (l w : List ℕ) (at : ℕ) (seen : Bool) (kat klen : ℕ) where
+  pub index-end : length l ≤ at → nextOf l w (here 1 at seen kat klen) ≡ EntryRead.End
+  unfolding nextOf listNext
+  index-end h = rw (le-leb (length l) at h) refl
+
+  module _ (h : at < length l) where
+    index-is : (e : Ent) → e ≡ indexEntAt l at → nextOf l w (here 1 at seen kat klen) ≡ stepOf (here 1 at seen kat klen) (indexSpotOf l (here 1 at seen kat klen) e)
+    unfolding nextOf listNext spotAt
+    index-is e q = rw (lt-leb (length l) at h) (ap (stepOf (here 1 at seen kat klen)) (index-ent l (here 1 at seen kat klen) ∙ ap (indexSpotOf l (here 1 at seen kat klen)) (sym q)))
+
+    pub index-at : (k v : ℕ) → At k v ≡ indexEntAt l at
+        → nextOf l w (here 1 at seen kat klen) ≡ EntryRead.Got (indexItem l (here 1 at seen kat klen) k) (here 1 (at + 2 + k + 8) true (at + 2) k)
+    unfolding stepOf
+    index-at k v q = index-is (At k v) q
+
+    pub index-out : Out ≡ indexEntAt l at → nextOf l w (here 1 at seen kat klen) ≡ EntryRead.Bad
+    unfolding stepOf
+    index-out q = index-is Out q
+
 -- the step of a record list by the entry's lengths
 module _ (l w : List ℕ) (at : ℕ) (seen : Bool) (kat klen : ℕ) (h : at < length l) where
-  step-is : (e : Ent) → e ≡ entAt l at → nextOf l w (cursorAt at seen 0 0 kat klen) ≡ stepOf (cursorAt at seen 0 0 kat klen) (spotOf l (cursorAt at seen 0 0 kat klen) e)
+  step-is : (e : Ent) → e ≡ entAt l at → nextOf l w (here 0 at seen kat klen) ≡ stepOf (here 0 at seen kat klen) (spotOf l (here 0 at seen kat klen) e)
   step-is e q =
-      sym (record-on l w (cursorAt at seen 0 0 kat klen) refl h)
-      ∙ ap (stepOf (cursorAt at seen 0 0 kat klen)) (record-ent l (cursorAt at seen 0 0 kat klen) ∙ ap (spotOf l (cursorAt at seen 0 0 kat klen)) (sym q))
+      sym (record-on l w (here 0 at seen kat klen) refl h)
+      ∙ ap (stepOf (here 0 at seen kat klen)) (record-ent l (here 0 at seen kat klen) ∙ ap (spotOf l (here 0 at seen kat klen)) (sym q))
 
   pub step-at : (k v : ℕ) → At k v ≡ entAt l at
-      → nextOf l w (cursorAt at seen 0 0 kat klen) ≡ EntryRead.Got (recordItem l (cursorAt at seen 0 0 kat klen) k v) (cursorAt (at + 2 + k + 16 + v) true 0 0 (at + 2) k)
+      → nextOf l w (here 0 at seen kat klen) ≡ EntryRead.Got (recordItem l (here 0 at seen kat klen) k v) (here 0 (at + 2 + k + 16 + v) true (at + 2) k)
   unfolding stepOf
   step-at k v q = step-is (At k v) q
 
-  pub step-out : Out ≡ entAt l at → nextOf l w (cursorAt at seen 0 0 kat klen) ≡ EntryRead.Bad
+  pub step-out : Out ≡ entAt l at → nextOf l w (here 0 at seen kat klen) ≡ EntryRead.Bad
   unfolding stepOf
   step-out q = step-is Out q
 
@@ -121,9 +179,9 @@ key-bare s at n = go (leb 0 (length s)) (leb 0 (length s - 0))
     go true false = refl
     go false b = refl
 
-pub same-order : (s : List ℕ) (at : ℕ) (seen : Bool) (bat blen kat klen : ℕ) → sameKey s (cursorAt at seen 0 0 bat blen) (listKey kat klen) ≡ isEqual (orderAt s seen bat blen kat klen)
+pub same-order : (s : List ℕ) (source at : ℕ) (seen : Bool) (bat blen kat klen : ℕ) → sameKey s (here source at seen bat blen) (listKey kat klen) ≡ isEqual (orderAt s seen bat blen kat klen)
 unfolding sameKey orderAt
-same-order s at seen bat blen kat klen = rw (key-bare s bat blen, key-bare s kat klen) (go seen (cmpBytes (partOr s bat blen) (partOr s kat klen)))
+same-order s source at seen bat blen kat klen = rw (key-bare s bat blen, key-bare s kat klen) (go seen (cmpBytes (partOr s bat blen) (partOr s kat klen)))
   where
     go : (b : Bool) (o : Order) → cond b (isEqual o) false ≡ isEqual (cond b o Less)
     go true o = refl

@@ -2,12 +2,10 @@
 -- Assumes nothing.
 use mathlib.Core.Path.{_≡_, refl, sym, ap, _∙_}
 use mathlib.Core.List.{List, [], _∷_}
-use mathlib.Core.Bool.{Bool, true, false, cond, _&&_}
+use mathlib.Core.Bool.{Bool, true, false, cond}
 use Prim.Native.Nat.{ℕ, _+_, _-_, _≤_, _<_}
 use native.Mathlib.Omega.{arith}
 use lib.ListN.{length}
-use lib.Dec.{leb}
-use borrow.Author.Tests.{lt-leb}
 use Rattle.spans.specs.Span.{partOr}
 use Rattle.order.specs.declared.Order.{Order}
 use Rattle.order.specs.declared.Order.the-variants.{Less}
@@ -17,7 +15,7 @@ use Rattle.frames.specs.Limits.{maxBudget, maxEntries, maxKey, maxLimit, maxVal
 use Rattle.values.specs.Vals.{sizeOf}
 use Rattle.build_sources.specs.declared.Cursor.{Cursor}
 use Rattle.build_sources.specs.declared.EntryAt.{EntryAt}
-use Rattle.build_sources.specs.Lists.{cursorAt, firstOf, recordItem}
+use Rattle.build_sources.specs.Lists.{firstOf, recordItem}
 use Rattle.build_sources.specs.Source.{Entry, entryOf, entries, wellFormed}
 use Rattle.build_sources.specs.Judged.{rising}
 use Rattle.build_sources.proofs.Sourced.{Found, found, ended, odd}
@@ -33,56 +31,30 @@ use Rattle.build_sweep.specs.Tally.{nothing, withOld, withHead}
 use Rattle.build_sweep.specs.Bounds.{Bounded}
 use Rattle.build_sweep.specs.Cuts.{begun, cutWith, closedOf, Slim}
 use Rattle.build_sweep.specs.Ents.{entAt, orderAt, verIn, wayBy, wayAt}
-use Rattle.build_sweep.specs.Swept.{listed, plain, Ended, Accepted}
-use Rattle.build_sweep.proofs.Ents.{step-at, step-out, key-bare, same-order, way-head, way-old, way-falls}
+use Rattle.build_sweep.specs.Swept.{listed, plain, Accepted}
+use Rattle.build_sweep.proofs.Ents.{here, step-at, step-out, key-bare, same-order, way-head, way-old, way-falls}
+use Rattle.build_sweep.proofs.Plain.{not-well, not-rising, not-few}
 use Rattle.build_sweep.proofs.Sweeping.{Climbing, climb-begin, climb-up, climb-last, climb-falls, climb-on, Adding, add-begin, add-bounded, add-slim, Summed, add-end, add-many, add-head, add-old}
 
 -- the entry before, by all that the order asks of it
 abbrev pub prior : List ℕ → ℕ → ℕ → Entry
 prior l kat klen = record { old = false; key = partOr l kat klen; ver = verIn l (kat + klen); val = []; kept = 0; page = 0 }
 
-abbrev pub here : ℕ → Bool → ℕ → ℕ → Cursor
-here at seen kat klen = cursorAt at seen 0 0 kat klen
-
 pub record Lists (l : List ℕ) (p next limit budget at : ℕ) (seen : Bool) (kat klen : ℕ) (t : Tally) (g : Cut) : Type 0 where
-  pub climbs : Climbing (listed l 0) (entries l [] (here at seen kat klen)) seen (prior l kat klen)
-  pub adds : Adding (listed l 0) (entries l [] (here at seen kat klen)) p next limit budget t g
-  pub well : wellFormed l [] (here at seen kat klen) ≡ wellFormed l [] (firstOf 0)
+  pub climbs : Climbing (listed l 0) (entries l [] (here 0 at seen kat klen)) seen (prior l kat klen)
+  pub adds : Adding (listed l 0) (entries l [] (here 0 at seen kat klen)) p next limit budget t g
+  pub well : wellFormed l [] (here 0 at seen kat klen) ≡ wellFormed l [] (firstOf 0)
   pub few : t .heads + t .olds ≤ maxEntries
   pub behind : kat + klen ≤ at
-  pub within : kat + klen ≤ length l
 
 pub list-begin : (l : List ℕ) (p next limit budget : ℕ) → Lists l p next limit budget 5 false 0 0 nothing (begun next)
 list-begin l p next limit budget =
-    record { climbs = climb-begin (listed l 0) (prior l 0 0); adds = add-begin (listed l 0) p next limit budget; well = refl; few = omega arith; behind = omega arith; within = omega arith }
-
--- one thing that does not hold is enough
-module _ (l : List ℕ) where
-  pub not-well : wellFormed l [] (firstOf 0) ≡ false → plain l 0 ≡ false
-  unfolding plain
-  not-well e = rw e refl
-
-  second-not : (a b c : Bool) → b ≡ false → a && (b && c) ≡ false
-  second-not true b c e = rw e refl
-  second-not false b c e = refl
-
-  third-not : (a b c : Bool) → c ≡ false → a && (b && c) ≡ false
-  third-not true true c e = e
-  third-not true false c e = refl
-  third-not false b c e = refl
-
-  pub not-rising : rising (listed l 0) ≡ false → plain l 0 ≡ false
-  unfolding plain
-  not-rising e = second-not (wellFormed l [] (firstOf 0)) (rising (listed l 0)) (leb (length (listed l 0)) maxEntries) e
-
-  pub not-few : maxEntries < length (listed l 0) → plain l 0 ≡ false
-  unfolding plain
-  not-few h = third-not (wellFormed l [] (firstOf 0)) (rising (listed l 0)) (leb (length (listed l 0)) maxEntries) (lt-leb (length (listed l 0)) maxEntries h)
+    record { climbs = climb-begin (listed l 0) (prior l 0 0); adds = add-begin (listed l 0) p next limit budget; well = refl; few = omega arith; behind = omega arith }
 
 module _ (l : List ℕ) (p next limit budget at : ℕ) (seen : Bool) (kat klen : ℕ) (t : Tally) (g : Cut) (h : Lists l p next limit budget at seen kat klen t g)
     (nh : next ≤ 9223372036854775807) where
   abbrev c : Cursor
-  c = here at seen kat klen
+  c = here 0 at seen kat klen
 
   abbrev rest : List Entry
   rest = entries l [] c
@@ -98,15 +70,14 @@ module _ (l : List ℕ) (p next limit budget at : ℕ) (seen : Bool) (kat klen :
       let e = ended l [] c (sym (record-end l [] c refl q)) in
       let s = add-end (listed l 0) rest p next limit budget t g (h .adds) (e .0) r er in
       record {
-        well = sym (h .well) ∙ e .1;
         ended =
             record {
+              well = sym (h .well) ∙ e .1;
               rises = climb-up (listed l 0) rest seen x (h .climbs) (e .0);
               count = omega (arith, h .adds .count, ap length (e .0));
+              few = h .few;
               last = climb-last (listed l 0) rest seen x (h .climbs) (e .0);
-              within = h .within;
             };
-        few = s .few;
         tally = s .tally;
         pages = s .pages;
         bounded = s .bounded;
@@ -116,14 +87,14 @@ module _ (l : List ℕ) (p next limit budget at : ℕ) (seen : Bool) (kat klen :
 
   module _ (lt : at < length l) where
     pub list-bad : Out ≡ entAt l at → plain l 0 ≡ false
-    list-bad q = not-well l (sym (h .well) ∙ odd l [] c (step-out l [] at seen kat klen lt q) .1)
+    list-bad q = not-well l 0 (sym (h .well) ∙ odd l [] c (step-out l [] at seen kat klen lt q) .1)
 
     module _ (k v : ℕ) (en : At k v ≡ entAt l at) where
       abbrev it : EntryAt
       it = recordItem l c k v
 
       abbrev on : Cursor
-      on = here (at + 2 + k + 16 + v) true (at + 2) k
+      on = here 0 (at + 2 + k + 16 + v) true (at + 2) k
 
       abbrev ent : Entry
       ent = entryOf l [] it
@@ -139,7 +110,7 @@ module _ (l : List ℕ) (p next limit budget at : ℕ) (seen : Bool) (kat klen :
       key-long = fd .klen ∙ omega arith
 
       pub list-many : maxEntries ≤ t .heads + t .olds → plain l 0 ≡ false
-      list-many q = not-few l (add-many (listed l 0) rest p next limit budget t g (h .adds) ent (entries l [] on) (fd .list) k v 0 key-long (fd .vlen) kept-is q)
+      list-many q = not-few l 0 (add-many (listed l 0) rest p next limit budget t g (h .adds) ent (entries l [] on) (fd .list) k v 0 key-long (fd .vlen) kept-is q)
 
       pub list-key : k ≤ maxKey
       list-key = omega (arith, fd .placed .ksmall)
@@ -173,7 +144,7 @@ module _ (l : List ℕ) (p next limit budget at : ℕ) (seen : Bool) (kat klen :
 
       old-is : ent .old ≡ isEqual ord
       unfolding entryOf
-      old-is = same-order l at seen kat klen (at + 2) k
+      old-is = same-order l 0 at seen kat klen (at + 2) k
 
       module _ (y : Way) (ey : y ≡ wayAt l seen kat klen (at + 2) k) where
         way-is : y ≡ wayBy ord (newerThan (x .ver) (ent .ver))
@@ -182,7 +153,7 @@ module _ (l : List ℕ) (p next limit budget at : ℕ) (seen : Bool) (kat klen :
 
         pub list-falls : y ≡ Falls → plain l 0 ≡ false
         list-falls q =
-            not-rising l
+            not-rising l 0
             (climb-falls (listed l 0) rest seen x (h .climbs) ent (entries l [] on) (fd .list) ord ord-is (way-falls ord (x .ver) (ent .ver) (sym way-is ∙ q)))
 
         module _ (fw : t .heads + t .olds < maxEntries) where
@@ -196,7 +167,6 @@ module _ (l : List ℕ) (p next limit budget at : ℕ) (seen : Bool) (kat klen :
                 well = sym (fd .well) ∙ h .well;
                 few = s .few;
                 behind = omega arith;
-                within = omega (arith, list-fits);
               }
 
           pub list-old : y ≡ Old → limit ≤ maxLimit → budget ≤ maxBudget → (r : Tally) → r ≡ withOld limit t v 0 → (d : Cut)
@@ -210,5 +180,4 @@ module _ (l : List ℕ) (p next limit budget at : ℕ) (seen : Bool) (kat klen :
                 well = sym (fd .well) ∙ h .well;
                 few = s .few;
                 behind = omega arith;
-                within = omega (arith, list-fits);
               }

@@ -1,4 +1,4 @@
--- An entry of a record list by its two lengths, and what it is beside the entry before: a head, an old version, or none that may stand there.
+-- An entry of a list by its two lengths, and what it is beside the entry before: a head, an old version, or none that may stand there.
 -- Assumes nothing.
 use Prim.Native.Nat.{ℕ, _+_}
 use mathlib.Core.List.{List}
@@ -14,7 +14,7 @@ use Rattle.order.specs.Version.{verOf, newerThan}
 use Rattle.frames.specs.Limits.{maxKey, maxValue}
 use Rattle.build_sources.specs.declared.Cursor.{Cursor}
 use Rattle.build_sources.specs.declared.Spot.{Spot}
-use Rattle.build_sources.specs.Lists.{recordItem}
+use Rattle.build_sources.specs.Lists.{recordItem, indexItem}
 use Rattle.build_sweep.specs.declared.Ent.{Ent}
 use Rattle.build_sweep.specs.declared.Way.{Way}
 
@@ -29,10 +29,20 @@ entAt s at =
     Ent.Out)
     Ent.Out
 
+-- the same of an index list, by `indexAt`'s tests
+unfoldable pub indexEntAt : List ℕ → ℕ → Ent
+indexEntAt s at =
+    let k = beAt 2 s at in
+    cond (leb (at + 2) (length s)) (cond (leb k maxKey) (cond (leb (at + 2 + (k + 8)) (length s)) (Ent.At k 0) Ent.Out) Ent.Out) Ent.Out
+
 -- the entry that those lengths stand for
 abbrev pub spotOf : List ℕ → Cursor → Ent → Spot
 spotOf s c (Ent.At k v) = Spot.At (recordItem s c k v) (c .at + 2 + k + 16 + v)
 spotOf s c Ent.Out = Spot.Out
+
+abbrev pub indexSpotOf : List ℕ → Cursor → Ent → Spot
+indexSpotOf s c (Ent.At k v) = Spot.At (indexItem s c k) (c .at + 2 + k + 8)
+indexSpotOf s c Ent.Out = Spot.Out
 
 -- the key before (if there is one) against this one
 unfoldable pub orderAt : List ℕ → Bool → ℕ → ℕ → ℕ → ℕ → Order

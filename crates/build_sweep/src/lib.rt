@@ -19,9 +19,8 @@ ghost use Rattle.build_image.specs.Sizes.{remoteLen};
 ghost use Rattle.build_sweep.specs.Tally.{withOld, withHead};
 ghost use Rattle.build_sweep.specs.Bounds.{Bounded};
 ghost use Rattle.build_sweep.specs.Cuts.{cutWith, closedOf, Slim};
-ghost use Rattle.build_sweep.specs.Ents.{entAt, orderAt, verIn, wayAt};
-ghost use Rattle.build_sources.specs.Judged.{enclosed};
-ghost use Rattle.build_sweep.specs.Swept.{listed, Ended, SweptBy};
+ghost use Rattle.build_sweep.specs.Ents.{entAt, indexEntAt, orderAt, verIn, wayAt};
+ghost use Rattle.build_sweep.specs.Swept.{SweptBy, IndexSweptBy, spansEnds};
 
 // What a leaf's size and hint room are made of, summed up entry by entry; `after` says that the entry before is a head.
 pub struct Tally {
@@ -337,18 +336,77 @@ pub fn sweep_list(list: &[u8], p: usize, next: usize, limit: usize, budget: usiz
     Swept::Fits(t, closed(g), kat, klen)
 }
 
+// ---- an index list
+
+// What a sweep over an index list finds: how many entries, the size of all records and the place of the last key; or that the list is refused.
+pub enum IndexSwept {
+    Fits(usize, usize, usize, usize),
+    Not,
+}
+
+// An entry of an index list, by the length of its key; it has no value.
+fn index_ent(s: &[u8], at: usize) -> Ent
+    requires { ⌜ at ≤ length (now s) ⌝ }
+    ensures { λ r. ⌜ r ≡ indexEntAt (now (s .entry)) at ⌝ }
+{
+    let n = s.len() - at;
+    if n < 10 {
+        return Ent::Out;
+    }
+    let klen = numbers::read_u16_be(s, at) as usize;
+    if BaseHeader::MAX_KEY < klen {
+        return Ent::Out;
+    }
+    if n - 10 < klen {
+        return Ent::Out;
+    }
+    Ent::At(klen, 0)
+}
+
+// Sweeps an index list; p is the length of the page's prefix.
+pub fn sweep_index(list: &[u8], p: usize) -> IndexSwept
+    ensures { λ r. ⌜ IndexSweptBy (now (list .entry)) p r ⌝ }
+{
+    let len = list.len();
+    let mut at: usize = 5;
+    let mut seen = false;
+    let mut kat: usize = 0;
+    let mut klen: usize = 0;
+    let mut n: usize = 0;
+    let mut sums: usize = 0;
+    while at < len {
+        let Ent::At(k, _) = index_ent(list, at) else {
+            return IndexSwept::Not;
+        };
+        if BaseHeader::MAX_ENTRIES <= n {
+            return IndexSwept::Not;
+        }
+        let here = at + 2;
+        if !order::is_less(order_at(list, seen, kat, klen, here, k)) {
+            return IndexSwept::Not;
+        }
+        sums += values::index_key_size(spans::less(k, p) as u16) + 8;
+        n += 1;
+        seen = true;
+        kat = here;
+        klen = k;
+        at = here + k + 8;
+    }
+    IndexSwept::Fits(n, sums, kat, klen)
+}
+
 // ---- between the boundaries
 
-// Whether n entries of a record list that rise, the last key at kat, lie between the boundaries: of keys that rise the first and the last decide.
-pub fn encloses(list: &[u8], n: usize, kat: usize, klen: usize, lo: &[u8], hi: &[u8]) -> bool
-    requires { ⌜ Ended (now list) n kat klen ⌝ }
-    ensures { λ r. ⌜ r ≡ enclosed (now (lo .entry)) (now (hi .entry)) (listed (now (list .entry)) 0) ⌝ }
+// Whether the boundaries span the first and the last key of a list of n entries, the last key at kat: of keys that rise these two decide.
+pub fn spans_ends(list: &[u8], n: usize, kat: usize, klen: usize, lo: &[u8], hi: &[u8]) -> bool
+    requires { ⌜ ((n ≡ 0 → ⊥) → 7 ≤ length (now list)) ⌝ }
+    ensures { λ r. ⌜ r ≡ spansEnds (now (list .entry)) n kat klen (now (lo .entry)) (now (hi .entry)) ⌝ }
 {
     if n == 0 {
         return order::below_by(order::compare(lo, hi), hi);
     }
     let k = numbers::read_u16_be(list, 5) as usize;
-    let low = order::compare(key_of(list, 7, k), lo);
-    let high = order::compare(key_of(list, kat, klen), hi);
+    let low = order::compare(spans::part_of(list, 7, k), lo);
+    let high = order::compare(spans::part_of(list, kat, klen), hi);
     !order::is_less(low) & order::below_by(high, hi)
 }

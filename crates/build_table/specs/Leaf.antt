@@ -1,15 +1,22 @@
 -- What a build of a leaf answers and leaves, on its entries.
 -- Assumes nothing.
-use Prim.Native.Nat.{ℕ, _+_}
+use Prim.Native.Nat.{ℕ, _+_, _*_}
 use mathlib.Core.List.{List}
-use mathlib.Core.Bool.{true}
-use lib.ListN.{length}
+use mathlib.Core.Bool.{true, cond}
+use lib.Dec.{leb}
+use lib.ListN.{length, take}
 use Rattle.spans.specs.Span.{put}
-use Rattle.frames.specs.Layout.{addr}
-use Rattle.build_sources.specs.Source.{Entry}
+use Rattle.frames.specs.declared.Refusal.the-variants.{BadList, TooBig, NoRoom}
+use Rattle.frames.specs.Layout.{addr, baseLen, frameLen}
+use Rattle.frames.specs.Limits.{maxSize}
+use Rattle.build_sources.specs.Lists.{firstOf}
+use Rattle.build_sources.specs.Source.{Entry, entries, wellFormed}
 use Rattle.build_sources.specs.Judged.{rising, prefixed}
 use Rattle.build_image.specs.declared.Call.{Call}
 use Rattle.build_image.specs.Image.{Borders, leafSize, leafRoom, leafImage}
+use Rattle.build_image.specs.Sizes.{roomOf}
+use Rattle.build_sweep.specs.declared.Tally.{Tally}
+use Rattle.build_sweep.specs.declared.Pages.{Pages}
 use Rattle.build_totals.specs.declared.Totals.{Totals}
 use Rattle.build_totals.specs.Totals.{leafAt, totalsOf}
 use Rattle.build_image.specs.declared.Built.{Built}
@@ -36,7 +43,37 @@ unfoldable pub leafArena : List ℕ → ℕ → Call → Borders → List Entry 
 unfolding rising prefixed leafSize leafRoom leafEnd put leafImage
 leafArena a next m b es = judged (leafRows (length a) next m b es) (λ r. a) (put a next (leafImage m b next es))
 
--- what its judge finds
+-- ---- the judge
+
+-- what the judge of a leaf finds
 unfoldable pub leafVerdict : ℕ → ℕ → Call → Borders → List Entry → LeafVerdict
 unfolding rising prefixed leafSize leafRoom leafEnd totalsOf
 leafVerdict len next m b es = judged (leafRows len next m b es) LeafVerdict.No (LeafVerdict.Fits (totalsOf m b next es))
+
+-- 8 and 9 on what the entries sum up to; x and y are the lengths of the boundaries
+unfoldable pub weighed : ℕ → ℕ → ℕ → Tally → Pages → LeafVerdict
+unfolding roomOf
+weighed len x y t g =
+    let size = baseLen + 4 * t .heads + x + y + t .sums in
+    let room = roomOf (g .count) (t .counted) in
+    let end = g .end + frameLen (size + room) + t .remote in
+    cond (leb (size + room) maxSize)
+    (cond (leb end len)
+    (LeafVerdict.Fits
+    (record { heads = t .heads; olds = t .olds; pages = g .count; remotes = t .remotes; size = size; room = room; leaf = g .end; end = end }))
+    (LeafVerdict.No NoRoom))
+    (LeafVerdict.No TooBig)
+
+-- ---- a record list: 3 where it does not end well, then the numbers of its entries
+
+unfoldable pub listVerdict : List ℕ → List ℕ → ℕ → ℕ → Call → Borders → LeafVerdict
+unfolding wellFormed entries leafVerdict
+listVerdict l w len next m b = cond (wellFormed l w (firstOf 0)) (leafVerdict len next m b (entries l w (firstOf 0))) (LeafVerdict.No BadList)
+
+unfoldable pub listAnswer : List ℕ → ℕ → List ℕ → Call → Borders → Built
+unfolding wellFormed entries leafAnswer
+listAnswer a next l m b = cond (wellFormed l (take next a) (firstOf 0)) (leafAnswer a next m b (entries l (take next a) (firstOf 0))) (Built.Refused BadList)
+
+unfoldable pub listArena : List ℕ → ℕ → List ℕ → Call → Borders → List ℕ
+unfolding wellFormed entries leafArena
+listArena a next l m b = cond (wellFormed l (take next a) (firstOf 0)) (leafArena a next m b (entries l (take next a) (firstOf 0))) a

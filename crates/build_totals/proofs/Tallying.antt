@@ -1,40 +1,30 @@
--- The tally: one entry, all entries, and that it is what the image's definitions say.
+-- A tally over a source: finishing from here gives that of all entries.
 -- Assumes nothing.
-use mathlib.Core.Path.{_≡_, refl, sym, ap, _∙_, subst}
+use mathlib.Core.Path.{_≡_, refl, sym, ap, _∙_}
 use mathlib.Core.List.{List, [], _∷_}
-use mathlib.Core.Bool.{Bool, true, false, not, cond}
-use Prim.Native.Nat.{ℕ, zero, suc, _+_, _-_, _*_, _≤_, _<_}
+use mathlib.Core.Bool.{Bool}
+use Prim.Native.Nat.{ℕ, suc, _+_, _-_, _≤_}
 use native.Mathlib.Omega.{arith}
-use lib.Dec.{ltb, eqb}
 use lib.ListN.{length}
 use Rattle.frames.specs.Limits.{maxEntries, maxKey, maxValue}
-use Rattle.values.specs.Vals.{sizeOf}
 use Rattle.build_sources.specs.declared.Cursor.{Cursor}
 use Rattle.build_sources.specs.declared.EntryAt.{EntryAt}
-use Rattle.build_sources.specs.Source.{Entry, entryOf, entries, only, olds, heads}
+use Rattle.build_sources.specs.Source.{entryOf, entries}
 use Rattle.build_sources.proofs.Sourced.{Found}
-use Rattle.build_image.specs.Sizes.{remoteLen, valLen, remotesLen, keyLen, sums, counted}
-use Rattle.build_image.proofs.Lengths.{remote-most}
-use Rattle.build_image.proofs.Leaf.{remotes}
-use Rattle.build_heads.specs.Steps.{Long}
-use Rattle.build_heads.proofs.Slots.{key-most, size-most}
 use Rattle.build_sweep.specs.declared.Tally.{Tally}
-use Rattle.build_sweep.specs.Tally.{nothing, withOld, withHead, withOne, tallyOf}
+use Rattle.build_sweep.specs.Tally.{nothing, withOne, tallyOf}
 use Rattle.build_sweep.specs.Bounds.{Bounded}
-
--- ---- all entries
+use Rattle.build_sweep.proofs.Tallying.{up, one-bounded, tally-nil}
 
 pub record Tallying (l w : List ℕ) (limit p : ℕ) (c₀ c : Cursor) (t : Tally) : Type 0 where
   pub goes : tallyOf limit p t (entries l w c) ≡ tallyOf limit p nothing (entries l w c₀)
-  pub long : Long p (entries l w c)
   pub few : length (entries l w c) ≤ maxEntries
   pub bounded : Bounded t (maxEntries - length (entries l w c))
 
-pub tally-begin : (l w : List ℕ) (limit p : ℕ) (c : Cursor) → Long p (entries l w c) → length (entries l w c) ≤ maxEntries → Tallying l w limit p c c nothing
-tally-begin l w limit p c h k =
+pub tally-begin : (l w : List ℕ) (limit p : ℕ) (c : Cursor) → length (entries l w c) ≤ maxEntries → Tallying l w limit p c c nothing
+tally-begin l w limit p c k =
     record {
       goes = refl;
-      long = h;
       few = k;
       bounded = record { heads = omega arith; olds = omega arith; sums = omega arith; counted = omega arith; remotes = omega arith; remote = omega arith };
     }
@@ -52,13 +42,8 @@ module _ (l w : List ℕ) (limit p : ℕ) (c₀ c : Cursor) (t : Tally) (h : Tal
   tally-end e = (sym (tally-nil limit p t (entries l w c) e) ∙ h .goes, up t (maxEntries - length (entries l w c)) maxEntries (omega arith) (h .bounded))
 
   module _ (i : EntryAt) (d : Cursor) (f : Found l w c i d) where
-    longs : Long p (entryOf l w i ∷ entries l w d)
-    longs = subst (λ (es : List Entry). Long p es) (f .list) (h .long)
-
-    pub tally-asks : (i .vlen ≤ maxValue) × (((i .key .plen + i .key .klen ≤ maxKey) × (p ≤ i .key .plen + i .key .klen)) × Bounded t maxEntries)
-    tally-asks =
-        let q = longs .0 in
-        (f .placed .vsmall, ((f .placed .ksmall, omega (arith, q, f .klen)), up t (maxEntries - length (entries l w c)) maxEntries (omega arith) (h .bounded)))
+    pub tally-asks : (i .vlen ≤ maxValue) × ((i .key .plen + i .key .klen ≤ maxKey) × Bounded t maxEntries)
+    tally-asks = (f .placed .vsmall, (f .placed .ksmall, up t (maxEntries - length (entries l w c)) maxEntries (omega arith) (h .bounded)))
 
     opened : tallyOf limit p t (entries l w c) ≡ tallyOf limit p (withOne limit p t (i .old) (i .key .plen + i .key .klen) (i .vlen) (i .kept .0)) (entries l w d)
     unfolding tallyOf
@@ -75,7 +60,6 @@ module _ (l w : List ℕ) (limit p : ℕ) (c₀ c : Cursor) (t : Tally) (h : Tal
         rw e
         (record {
           goes = sym opened ∙ h .goes;
-          long = longs .1;
           few = omega (arith, n, h .few);
           bounded =
               up _ (maxEntries - length (entries l w c) + 1) (maxEntries - length (entries l w d)) (omega (arith, n, h .few))

@@ -1,19 +1,16 @@
 // What a leaf build is going to write, measured before anything is written.
-use build_sweep::Pages;
-use build_sweep::Tally;
 use build_sources::Cursor;
 use build_sources::EntryAt;
 use build_sources::EntryRead;
+use build_sweep::Pages;
+use build_sweep::Tally;
 ghost use mathlib.Core.Path.{_≡_};
-ghost use mathlib.Core.Bool.{true, cond};
+ghost use mathlib.Core.Bool.{true};
 ghost use Prim.Native.Nat.{_+_, _≤_};
 ghost use lib.ListN.{length};
-ghost use lib.Dec.{ltb, eqb};
 ghost use Rattle.frames.specs.Limits.{maxBudget, maxEntries, maxKey, maxLimit, maxValue};
-ghost use Rattle.values.specs.Vals.{sizeOf};
 ghost use Rattle.build_sources.specs.Source.{entries, only};
 ghost use Rattle.build_image.specs.Sizes.{roomOf};
-ghost use Rattle.build_heads.specs.Steps.{Long};
 ghost use Rattle.build_sweep.specs.Tally.{nothing, withOne, tallyOf};
 ghost use Rattle.build_sweep.specs.Pages.{pagesOf};
 ghost use Rattle.build_sweep.specs.Bounds.{Bounded};
@@ -35,7 +32,7 @@ pub struct Totals {
 
 fn with_one(limit: usize, p: usize, t: Tally, i: EntryAt) -> Tally
     requires { ⌜ i .vlen ≤ maxValue ⌝ }
-    requires { ⌜ (i .key .plen + i .key .klen ≤ maxKey) × (p ≤ i .key .plen + i .key .klen) ⌝ }
+    requires { ⌜ i .key .plen + i .key .klen ≤ maxKey ⌝ }
     requires { ⌜ Bounded t maxEntries ⌝ }
     ensures { λ r. ⌜ r ≡ withOne limit p t (i .old) (i .key .plen + i .key .klen) (i .vlen) (i .kept .0) ⌝ }
 {
@@ -50,7 +47,6 @@ fn with_one(limit: usize, p: usize, t: Tally, i: EntryAt) -> Tally
 // ---- all entries
 
 pub fn tally_up(list: &[u8], ground: &[u8], from: Cursor, p: usize, limit: usize) -> Tally
-    requires { ⌜ Long p (entries (now list) (now ground) from) ⌝ }
     requires { ⌜ length (entries (now list) (now ground) from) ≤ maxEntries ⌝ }
     ensures { λ r. ⌜ r ≡ tallyOf limit p nothing (entries (now (list .entry)) (now (ground .entry)) from) ⌝ }
     ensures { λ r. ⌜ Bounded r maxEntries ⌝ }
