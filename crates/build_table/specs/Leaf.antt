@@ -4,13 +4,12 @@ use Prim.Native.Nat.{ℕ, _+_, _*_}
 use mathlib.Core.List.{List}
 use mathlib.Core.Bool.{true, cond}
 use lib.Dec.{leb}
-use lib.ListN.{length, take}
+use lib.ListN.{length}
 use Rattle.spans.specs.Span.{put}
-use Rattle.frames.specs.declared.Refusal.the-variants.{BadList, TooBig, NoRoom}
+use Rattle.frames.specs.declared.Refusal.the-variants.{TooBig, NoRoom}
 use Rattle.frames.specs.Layout.{addr, baseLen, frameLen}
 use Rattle.frames.specs.Limits.{maxSize}
-use Rattle.build_sources.specs.Lists.{firstOf}
-use Rattle.build_sources.specs.Source.{Entry, entries, wellFormed}
+use Rattle.build_sources.specs.Source.{Entry}
 use Rattle.build_sources.specs.Judged.{rising, prefixed}
 use Rattle.build_image.specs.declared.Call.{Call}
 use Rattle.build_image.specs.Image.{Borders, leafSize, leafRoom, leafImage}
@@ -63,17 +62,3 @@ weighed len x y t g =
     (record { heads = t .heads; olds = t .olds; pages = g .count; remotes = t .remotes; size = size; room = room; leaf = g .end; end = end }))
     (LeafVerdict.No NoRoom))
     (LeafVerdict.No TooBig)
-
--- ---- a record list: 3 where it does not end well, then the numbers of its entries
-
-unfoldable pub listVerdict : List ℕ → List ℕ → ℕ → ℕ → Call → Borders → LeafVerdict
-unfolding wellFormed entries leafVerdict
-listVerdict l w len next m b = cond (wellFormed l w (firstOf 0)) (leafVerdict len next m b (entries l w (firstOf 0))) (LeafVerdict.No BadList)
-
-unfoldable pub listAnswer : List ℕ → ℕ → List ℕ → Call → Borders → Built
-unfolding wellFormed entries leafAnswer
-listAnswer a next l m b = cond (wellFormed l (take next a) (firstOf 0)) (leafAnswer a next m b (entries l (take next a) (firstOf 0))) (Built.Refused BadList)
-
-unfoldable pub listArena : List ℕ → ℕ → List ℕ → Call → Borders → List ℕ
-unfolding wellFormed entries leafArena
-listArena a next l m b = cond (wellFormed l (take next a) (firstOf 0)) (leafArena a next m b (entries l (take next a) (firstOf 0))) a

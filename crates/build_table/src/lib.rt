@@ -6,6 +6,7 @@ use build_image::Built;
 use build_image::Call;
 use build_sources::Cursor;
 use build_sources::Risen;
+use build_sweep::IndexSwept;
 use build_sweep::Pages;
 use build_sweep::Swept;
 use build_sweep::Tally;
@@ -19,9 +20,13 @@ ghost use lib.ListN.{length, take};
 ghost use Rattle.build_sources.specs.Source.{entries};
 ghost use Rattle.build_sources.specs.Judged.{prefixed, risenOf};
 ghost use Rattle.build_bounds.specs.Boundaries.{Within, BothWithin, boundaryBytes, boundaryOf, boundsOf};
-ghost use Rattle.build_table.specs.Table.{boundsOk, leafLimits, outsideOf, apartOf};
-ghost use Rattle.build_table.specs.Index.{Held, indexVerdict, indexAnswer, indexArena};
-ghost use Rattle.build_table.specs.Leaf.{leafVerdict, leafAnswer, leafArena, weighed, listVerdict, listAnswer, listArena};
+ghost use Rattle.build_table.specs.Table.{boundsOk, leafLimits, ofList, outsideOf, apartOf};
+ghost use Rattle.frames.specs.declared.Refusal.{Refusal};
+ghost use Rattle.build_image.specs.declared.Built.{Built};
+ghost use Rattle.build_table.specs.declared.IndexVerdict.{IndexVerdict};
+ghost use Rattle.build_table.specs.declared.LeafVerdict.{LeafVerdict};
+ghost use Rattle.build_table.specs.Index.{Held, indexVerdict, indexAnswer, indexArena, indexWeighed};
+ghost use Rattle.build_table.specs.Leaf.{leafVerdict, leafAnswer, leafArena, weighed};
 ghost use Rattle.build_sources.specs.Lists.{firstOf};
 ghost use Rattle.build_sweep.specs.Bounds.{Bounded};
 ghost use Rattle.frames.specs.Limits.{maxEntries, maxKey};
@@ -148,6 +153,23 @@ pub fn apart(
 
 // ---- index pages
 
+// 8 and 9 of an index page of n entries whose records take so many bytes; x and y are the lengths of the boundaries.
+fn weigh_index(len: usize, next: usize, x: usize, y: usize, n: usize, sums: usize) -> IndexVerdict
+    requires { ⌜ (x ≤ maxKey) × (y ≤ maxKey) ⌝ }
+    requires { ⌜ (n ≤ maxEntries) × (sums ≤ 269283315) ⌝ }
+    requires { ⌜ next ≤ len ⌝ }
+    ensures { λ r. ⌜ r ≡ indexWeighed len next x y n sums ⌝ }
+{
+    let size = BaseHeader::HDR_LEN + 4 * n + x + y + sums;
+    if BaseHeader::MAX_SIZE < size {
+        return IndexVerdict::No(Refusal::TooBig);
+    }
+    if !spans::room(len, next, frames::frame_len(size as u32)) {
+        return IndexVerdict::No(Refusal::NoRoom);
+    }
+    IndexVerdict::Fits(n, size)
+}
+
 // Judges the entries of an index page: 6, 7, 10, 8, 9. It writes nothing.
 pub fn judge_index(
     list: &[u8],
@@ -175,18 +197,8 @@ pub fn judge_index(
     if BaseHeader::MAX_ENTRIES < n {
         return IndexVerdict::No(Refusal::TooBig);
     }
-    let size = BaseHeader::HDR_LEN
-        + 4 * n
-        + x.len
-        + y.len
-        + build_index::index_sums(list, ground, from, p);
-    if BaseHeader::MAX_SIZE < size {
-        return IndexVerdict::No(Refusal::TooBig);
-    }
-    if !spans::room(len, next, frames::frame_len(size as u32)) {
-        return IndexVerdict::No(Refusal::NoRoom);
-    }
-    IndexVerdict::Fits(n, size)
+    let sums = build_index::index_sums(list, ground, from, p);
+    weigh_index(len, next, x.len, y.len, n, sums)
 }
 
 // Builds an index page of the entries from a cursor on.
@@ -327,7 +339,7 @@ fn judge_slowly(
     requires { ⌜ Held (now lo) (now hi) (now ground) e ⌝ }
     requires { ⌜ Sane m ⌝ }
     requires { ⌜ (next ≤ len) × (len ≤ 9223372036854775807) ⌝ }
-    ensures { λ r. ⌜ r ≡ listVerdict (now (list .entry)) (now (ground .entry)) len next m (boundsOf (now (lo .entry)) (now (hi .entry)) (now (ground .entry)) e) ⌝ }
+    ensures { λ r. ⌜ r ≡ ofList (now (list .entry)) (now (ground .entry)) 0 (LeafVerdict.No Refusal.BadList) (leafVerdict len next m (boundsOf (now (lo .entry)) (now (hi .entry)) (now (ground .entry)) e)) ⌝ }
 {
     if !build_sources::well(list, ground, from) {
         return LeafVerdict::No(Refusal::BadList);
@@ -352,13 +364,13 @@ pub fn judge_list(
     requires { ⌜ Held (now lo) (now hi) (now ground) e ⌝ }
     requires { ⌜ Sane m ⌝ }
     requires { ⌜ (next ≤ len) × (len ≤ 9223372036854775807) ⌝ }
-    ensures { λ r. ⌜ r ≡ listVerdict (now (list .entry)) (now (ground .entry)) len next m (boundsOf (now (lo .entry)) (now (hi .entry)) (now (ground .entry)) e) ⌝ }
+    ensures { λ r. ⌜ r ≡ ofList (now (list .entry)) (now (ground .entry)) 0 (LeafVerdict.No Refusal.BadList) (leafVerdict len next m (boundsOf (now (lo .entry)) (now (hi .entry)) (now (ground .entry)) e)) ⌝ }
 {
     let s = build_sweep::sweep_list(list, e.prefix, next, m.limit, m.budget);
     let Swept::Fits(t, g, kat, klen) = s else {
         return judge_slowly(list, ground, from, len, next, m, lo, hi, e);
     };
-    if build_sweep::encloses(list, t.heads + t.olds, kat, klen, lo, hi) {
+    if build_sweep::spans_ends(list, t.heads + t.olds, kat, klen, lo, hi) {
         return weigh(len, lo.len(), hi.len(), t, g);
     }
     judge_slowly(list, ground, from, len, next, m, lo, hi, e)
@@ -380,8 +392,8 @@ pub fn build_list(
     requires { ⌜ next ≤ length (now a) ⌝ }
     requires { ⌜ Held (now lo) (now hi) (take next (now a)) e ⌝ }
     requires { ⌜ Sane m ⌝ }
-    ensures { λ r. ⌜ r ≡ listAnswer (now (a .entry)) next (now (list .entry)) m (boundsOf (now (lo .entry)) (now (hi .entry)) (take next (now (a .entry))) e) ⌝ }
-    ensures { λ _. ⌜ now (a .exit) ≡ listArena (now (a .entry)) next (now (list .entry)) m (boundsOf (now (lo .entry)) (now (hi .entry)) (take next (now (a .entry))) e) ⌝ }
+    ensures { λ r. ⌜ r ≡ ofList (now (list .entry)) (take next (now (a .entry))) 0 (Built.Refused Refusal.BadList) (leafAnswer (now (a .entry)) next m (boundsOf (now (lo .entry)) (now (hi .entry)) (take next (now (a .entry))) e)) ⌝ }
+    ensures { λ _. ⌜ now (a .exit) ≡ ofList (now (list .entry)) (take next (now (a .entry))) 0 (now (a .entry)) (leafArena (now (a .entry)) next m (boundsOf (now (lo .entry)) (now (hi .entry)) (take next (now (a .entry))) e)) ⌝ }
 {
     let len = a.len();
     let v = judge_list(list, &a[..next], from, len, next, m, lo, hi, e);
@@ -391,6 +403,86 @@ pub fn build_list(
             let end = t.end;
             let leaf = build_leaf::write_leaf(a, next, list, from, next, m, t, lo, hi, e);
             Built::At(Addr(leaf as u64), end)
+        }
+    }
+}
+
+// ---- an index list
+
+// The lowest number of an index list, by the passes over any source.
+fn index_slowly(
+    list: &[u8],
+    ground: &[u8],
+    from: Cursor,
+    len: usize,
+    next: usize,
+    lo: &[u8],
+    hi: &[u8],
+    e: Boundaries,
+) -> IndexVerdict
+    requires { ⌜ from ≡ firstOf 1 ⌝ }
+    requires { ⌜ Held (now lo) (now hi) (now ground) e ⌝ }
+    requires { ⌜ next ≤ len ⌝ }
+    ensures { λ r. ⌜ r ≡ ofList (now (list .entry)) (now (ground .entry)) 1 (IndexVerdict.No Refusal.BadList) (indexVerdict len next (boundsOf (now (lo .entry)) (now (hi .entry)) (now (ground .entry)) e) e) ⌝ }
+{
+    if !build_sources::well(list, ground, from) {
+        return IndexVerdict::No(Refusal::BadList);
+    }
+    judge_index(list, ground, from, len, next, lo, hi, e)
+}
+
+// Judges an index list: 3, 6, 7, 10, 8, 9. It writes nothing. One sweep accepts it; what the sweep does not accept is judged slowly.
+pub fn judge_index_list(
+    list: &[u8],
+    ground: &[u8],
+    from: Cursor,
+    len: usize,
+    next: usize,
+    lo: &[u8],
+    hi: &[u8],
+    e: Boundaries,
+) -> IndexVerdict
+    requires { ⌜ from ≡ firstOf 1 ⌝ }
+    requires { ⌜ (e .lo ≡ boundaryOf (now lo)) × (e .hi ≡ boundaryOf (now hi)) ⌝ }
+    requires { ⌜ Held (now lo) (now hi) (now ground) e ⌝ }
+    requires { ⌜ next ≤ len ⌝ }
+    ensures { λ r. ⌜ r ≡ ofList (now (list .entry)) (now (ground .entry)) 1 (IndexVerdict.No Refusal.BadList) (indexVerdict len next (boundsOf (now (lo .entry)) (now (hi .entry)) (now (ground .entry)) e) e) ⌝ }
+{
+    let s = build_sweep::sweep_index(list, e.prefix);
+    let IndexSwept::Fits(n, sums, kat, klen) = s else {
+        return index_slowly(list, ground, from, len, next, lo, hi, e);
+    };
+    if build_sweep::spans_ends(list, n, kat, klen, lo, hi) {
+        return weigh_index(len, next, lo.len(), hi.len(), n, sums);
+    }
+    index_slowly(list, ground, from, len, next, lo, hi, e)
+}
+
+// Builds an index page of an index list, whose boundaries are the lent slices.
+pub fn build_index_list(
+    a: &mut [u8],
+    next: usize,
+    list: &[u8],
+    from: Cursor,
+    m: Call,
+    lo: &[u8],
+    hi: &[u8],
+    e: Boundaries,
+) -> Built
+    requires { ⌜ from ≡ firstOf 1 ⌝ }
+    requires { ⌜ (e .lo ≡ boundaryOf (now lo)) × (e .hi ≡ boundaryOf (now hi)) ⌝ }
+    requires { ⌜ next ≤ length (now a) ⌝ }
+    requires { ⌜ Held (now lo) (now hi) (take next (now a)) e ⌝ }
+    ensures { λ r. ⌜ r ≡ ofList (now (list .entry)) (take next (now (a .entry))) 1 (Built.Refused Refusal.BadList) (indexAnswer (now (a .entry)) next m (boundsOf (now (lo .entry)) (now (hi .entry)) (take next (now (a .entry))) e)) ⌝ }
+    ensures { λ _. ⌜ now (a .exit) ≡ ofList (now (list .entry)) (take next (now (a .entry))) 1 (now (a .entry)) (indexArena (now (a .entry)) next m (boundsOf (now (lo .entry)) (now (hi .entry)) (take next (now (a .entry))) e)) ⌝ }
+{
+    let len = a.len();
+    let v = judge_index_list(list, &a[..next], from, len, next, lo, hi, e);
+    match v {
+        IndexVerdict::No(r) => Built::Refused(r),
+        IndexVerdict::Fits(n, size) => {
+            build_index::write_index(a, next, list, from, next, m, n, size, lo, hi, e);
+            Built::At(Addr(next as u64), next + frames::frame_len(size as u32))
         }
     }
 }
