@@ -1,10 +1,8 @@
+-- `build_sweep::closed` meets its contract. Assumes nothing.
 use Rattle.build_sweep.proofs.Cutting.{closed-none, closed-some}
 use borrow.Author.Needs.{needs}
 use Rattle.build_sweep.proofs.closed.Statement.{statement}
 use Rattle.build_sweep.proofs.closed.Tie as tie
-use Rattle.build_sweep.proofs.closed.Reads as reads
-use Rattle.build_sweep.proofs.closed.Lts as lts
-use Rattle.frames.proofs.frame_len.Reads as frame-len-reads
 
 returns : tie.Need-returns
 returns c = closed-none (c .before .before .args .g) (c .if1 .taken)

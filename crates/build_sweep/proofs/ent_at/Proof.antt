@@ -1,12 +1,9 @@
+-- `build_sweep::ent_at` meets its contract. Assumes nothing.
 use native.Mathlib.Omega.{arith}
 use Rattle.build_sweep.proofs.Ents.{ent-few, ent-long, ent-cut, ent-big, ent-open, ent-found}
 use borrow.Author.Needs.{needs}
 use Rattle.build_sweep.proofs.ent_at.Statement.{statement}
 use Rattle.build_sweep.proofs.ent_at.Tie as tie
-use Rattle.build_sweep.proofs.ent_at.Reads as reads
-use Rattle.build_sweep.proofs.ent_at.Lts as lts
-use Rattle.numbers.proofs.read_u16_be.Reads as read-u16-be-reads
-use Rattle.numbers.proofs.read_u32_be.Reads as read-u32-be-reads
 
 sub-n : tie.Need-sub-n
 sub-n c = search needs

@@ -1,11 +1,9 @@
+-- `build_sweep::index_ent` meets its contract. Assumes nothing.
 use native.Mathlib.Omega.{arith}
 use Rattle.build_sweep.proofs.Ents.{index-few, index-long, index-cut, index-found}
 use borrow.Author.Needs.{needs}
 use Rattle.build_sweep.proofs.index_ent.Statement.{statement}
 use Rattle.build_sweep.proofs.index_ent.Tie as tie
-use Rattle.build_sweep.proofs.index_ent.Reads as reads
-use Rattle.build_sweep.proofs.index_ent.Lts as lts
-use Rattle.numbers.proofs.read_u16_be.Reads as read-u16-be-reads
 
 sub-n : tie.Need-sub-n
 sub-n c = search needs

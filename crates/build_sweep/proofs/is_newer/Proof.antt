@@ -1,13 +1,8 @@
+-- `build_sweep::is_newer` meets its contract. Assumes nothing.
 use Rattle.build_sweep.proofs.Ents.{newer-is}
 use borrow.Author.Needs.{needs}
 use Rattle.build_sweep.proofs.is_newer.Statement.{statement}
 use Rattle.build_sweep.proofs.is_newer.Tie as tie
-use Rattle.build_sweep.proofs.is_newer.Reads as reads
-use Rattle.build_sweep.proofs.is_newer.Lts as lts
-use Rattle.numbers.proofs.read_u32_be.Reads as read-u32-be-reads
-use Rattle.numbers.proofs.read_u64_be.Reads as read-u64-be-reads
-use Rattle.order.proofs.Ver.new.Reads as new-reads
-use Rattle.order.proofs.Ver.newer.Reads as newer-reads
 
 read-u64-be-requires : tie.Need-read-u64-be-requires
 read-u64-be-requires c κs = search needs

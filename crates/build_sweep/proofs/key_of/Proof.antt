@@ -1,14 +1,10 @@
-use native.Mathlib.Omega.{arith}
+-- `build_sweep::key_of` meets its contract. Assumes nothing.
 use native.Mathlib.Nat.{add-sub-cancel-left}
-use borrow.Author.Tests.{le-leb}
-use mathlib.Core.Path.{_≡_, sym, _∙_}
 use Rattle.spans.specs.Span.{part}
 use Rattle.spans.proofs.Part.{partOr-in}
 use borrow.Author.Needs.{needs}
 use Rattle.build_sweep.proofs.key_of.Statement.{statement}
 use Rattle.build_sweep.proofs.key_of.Tie as tie
-use Rattle.build_sweep.proofs.key_of.Reads as reads
-use Rattle.build_sweep.proofs.key_of.Lts as lts
 
 add-e : tie.Need-add-e
 add-e c = search needs

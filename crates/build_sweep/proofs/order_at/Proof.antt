@@ -1,12 +1,8 @@
+-- `build_sweep::order_at` meets its contract. Assumes nothing.
 use Rattle.build_sweep.proofs.Ents.{order-seen, order-none, same-long}
 use borrow.Author.Needs.{needs}
 use Rattle.build_sweep.proofs.order_at.Statement.{statement}
 use Rattle.build_sweep.proofs.order_at.Tie as tie
-use Rattle.build_sweep.proofs.order_at.Reads as reads
-use Rattle.build_sweep.proofs.order_at.Lts as lts
-use Rattle.build_sweep.proofs.key_of.Reads as key-of-reads
-use Rattle.build_sweep.proofs.told.Reads as told-reads
-use Rattle.order.proofs.compare.Reads as compare-reads
 
 key-of-requires : tie.Need-key-of-requires
 key-of-requires c κs = search needs

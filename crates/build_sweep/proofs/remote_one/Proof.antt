@@ -1,13 +1,8 @@
-use borrow.Author.Needs.{needs}
-use native.Mathlib.Omega.{arith}
-use mathlib.Core.Path.{_≡_, refl, sym, ap, _∙_}
-use Prim.Native.Nat.{ℕ, _+_}
-use lib.Dec.{ltb, eqb}
-use borrow.Author.Tests.{lt-ltb, le-ltb, eq-eqb, ne-eqb, not-true, not-false}
+-- `build_sweep::remote_one` meets its contract. Assumes nothing.
+use mathlib.Core.Path.{refl}
+use borrow.Author.Tests.{lt-ltb, le-ltb}
 use Rattle.build_sweep.proofs.remote_one.Statement.{statement}
 use Rattle.build_sweep.proofs.remote_one.Tie as tie
-use Rattle.build_sweep.proofs.remote_one.Reads as reads
-use Rattle.build_sweep.proofs.remote_one.Lts as lts
 
 returns : tie.Need-returns
 returns c = rw (lt-ltb (c .before .args .n) (c .before .args .limit) (c .if1 .taken)) refl

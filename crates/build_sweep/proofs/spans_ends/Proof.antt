@@ -1,15 +1,9 @@
+-- `build_sweep::spans_ends` meets its contract. Assumes nothing.
 use native.Mathlib.Omega.{arith}
 use Rattle.build_sweep.proofs.Ending.{spans-none, spans-some}
 use borrow.Author.Needs.{needs}
 use Rattle.build_sweep.proofs.spans_ends.Statement.{statement}
 use Rattle.build_sweep.proofs.spans_ends.Tie as tie
-use Rattle.build_sweep.proofs.spans_ends.Reads as reads
-use Rattle.build_sweep.proofs.spans_ends.Lts as lts
-use Rattle.numbers.proofs.read_u16_be.Reads as read-u16-be-reads
-use Rattle.order.proofs.below_by.Reads as below-by-reads
-use Rattle.order.proofs.compare.Reads as compare-reads
-use Rattle.order.proofs.is_less.Reads as is-less-reads
-use Rattle.spans.proofs.part_of.Reads as part-of-reads
 
 compare-requires : tie.Need-compare-requires
 compare-requires c κs = search needs

@@ -1,3 +1,4 @@
+-- `build_sweep::sweep_index` meets its contract. Assumes nothing.
 use native.Mathlib.Omega.{arith}
 use mathlib.Core.Path.{sym, _∙_}
 use Prim.Native.Nat.{_-_}
@@ -7,13 +8,6 @@ use Rattle.build_sweep.proofs.Indexing.{Indexes, index-begin, index-who
 use borrow.Author.Needs.{needs}
 use Rattle.build_sweep.proofs.sweep_index.Statement.{statement}
 use Rattle.build_sweep.proofs.sweep_index.Tie as tie
-use Rattle.build_sweep.proofs.sweep_index.Reads as reads
-use Rattle.build_sweep.proofs.sweep_index.Lts as lts
-use Rattle.build_sweep.proofs.index_ent.Reads as index-ent-reads
-use Rattle.build_sweep.proofs.order_at.Reads as order-at-reads
-use Rattle.order.proofs.is_less.Reads as is-less-reads
-use Rattle.spans.proofs.less.Reads as less-reads
-use Rattle.values.proofs.index_key_size.Reads as index-key-size-reads
 
 abbrev Inv-loop : tie.InvT-loop
 Inv-loop list p len at₀ seen₀ kat₀ klen₀ n₀ sums₀ at seen kat klen n sums = Indexes list p at seen kat klen n sums

@@ -1,3 +1,4 @@
+-- `build_sweep::sweep_list` meets its contract. Assumes nothing.
 use native.Mathlib.Omega.{arith}
 use mathlib.Core.Path.{sym, _∙_}
 use Prim.Native.Nat.{_-_}
@@ -6,14 +7,6 @@ use Rattle.build_sweep.proofs.Listing.{Lists, list-begin, list-slim, li
 use borrow.Author.Needs.{needs}
 use Rattle.build_sweep.proofs.sweep_list.Statement.{statement}
 use Rattle.build_sweep.proofs.sweep_list.Tie as tie
-use Rattle.build_sweep.proofs.sweep_list.Reads as reads
-use Rattle.build_sweep.proofs.sweep_list.Lts as lts
-use Rattle.build_sweep.proofs.closed.Reads as closed-reads
-use Rattle.build_sweep.proofs.ent_at.Reads as ent-at-reads
-use Rattle.build_sweep.proofs.way_at.Reads as way-at-reads
-use Rattle.build_sweep.proofs.with_cut.Reads as with-cut-reads
-use Rattle.build_sweep.proofs.with_head.Reads as with-head-reads
-use Rattle.build_sweep.proofs.with_old.Reads as with-old-reads
 
 abbrev Inv-loop : tie.InvT-loop
 Inv-loop list p next limit budget n at₀ seen₀ kat₀ klen₀ t₀ g₀ at seen kat klen t g = Lists list p next limit budget at seen kat klen t g

@@ -1,11 +1,8 @@
+-- `build_sweep::told` meets its contract. Assumes nothing.
 use Rattle.build_sweep.proofs.Ents.{told-less, told-greater, told-equal}
 use borrow.Author.Needs.{needs}
 use Rattle.build_sweep.proofs.told.Statement.{statement}
 use Rattle.build_sweep.proofs.told.Tie as tie
-use Rattle.build_sweep.proofs.told.Reads as reads
-use Rattle.build_sweep.proofs.told.Lts as lts
-use Rattle.order.proofs.compare.Reads as compare-reads
-use Rattle.order_pair.proofs.pair_of.Reads as pair-of-reads
 
 pair-of-requires : tie.Need-pair-of-requires
 pair-of-requires c κs = search needs

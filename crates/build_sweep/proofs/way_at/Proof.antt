@@ -1,11 +1,8 @@
+-- `build_sweep::way_at` meets its contract. Assumes nothing.
 use Rattle.build_sweep.proofs.Ents.{less-head, equal-older, equal-not, greater-falls}
 use borrow.Author.Needs.{needs}
 use Rattle.build_sweep.proofs.way_at.Statement.{statement}
 use Rattle.build_sweep.proofs.way_at.Tie as tie
-use Rattle.build_sweep.proofs.way_at.Reads as reads
-use Rattle.build_sweep.proofs.way_at.Lts as lts
-use Rattle.build_sweep.proofs.is_newer.Reads as is-newer-reads
-use Rattle.build_sweep.proofs.order_at.Reads as order-at-reads
 
 order-at-requires : tie.Need-order-at-requires
 order-at-requires c κs = search needs

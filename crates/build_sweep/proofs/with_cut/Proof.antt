@@ -1,15 +1,10 @@
+-- `build_sweep::with_cut` meets its contract. Assumes nothing.
 use native.Mathlib.Omega.{arith}
 use Rattle.build_image.proofs.Lengths.{remote-most, size-some}
 use Rattle.build_sweep.proofs.Cutting.{more-is, next-is}
 use borrow.Author.Needs.{needs}
 use Rattle.build_sweep.proofs.with_cut.Statement.{statement}
 use Rattle.build_sweep.proofs.with_cut.Tie as tie
-use Rattle.build_sweep.proofs.with_cut.Reads as reads
-use Rattle.build_sweep.proofs.with_cut.Lts as lts
-use Rattle.build_image.proofs.remote_len.Reads as remote-len-reads
-use Rattle.build_paging.proofs.takes.Reads as takes-reads
-use Rattle.frames.proofs.frame_len.Reads as frame-len-reads
-use Rattle.values.proofs.Val.calc_size.Reads as calc-size-reads
 
 cast-calc-size : tie.Need-cast-calc-size
 cast-calc-size c = search needs

@@ -1,22 +1,13 @@
+-- `build_sweep::with_head` meets its contract. Assumes nothing.
 use native.Mathlib.Omega.{arith}
-use mathlib.Core.Path.{_∙_, ap}
-use Prim.Native.Nat.{ℕ, _-_}
+use Prim.Native.Nat.{_-_}
 use mathlib.Core.Bool.{false}
 use lib.Dec.{ltb, eqb}
-use Rattle.values.specs.Keys.{leafKeySize}
 use Rattle.build_image.proofs.Lengths.{remote-most, key-most, size-most}
 use Rattle.build_sweep.proofs.Tallying.{one-most, remote-one-most, head-is, key-by}
 use borrow.Author.Needs.{needs}
 use Rattle.build_sweep.proofs.with_head.Statement.{statement}
 use Rattle.build_sweep.proofs.with_head.Tie as tie
-use Rattle.build_sweep.proofs.with_head.Reads as reads
-use Rattle.build_sweep.proofs.with_head.Lts as lts
-use Rattle.build_image.proofs.remote_len.Reads as remote-len-reads
-use Rattle.build_sweep.proofs.counted_one.Reads as counted-one-reads
-use Rattle.build_sweep.proofs.remote_one.Reads as remote-one-reads
-use Rattle.spans.proofs.less.Reads as less-reads
-use Rattle.values.proofs.Val.calc_size.Reads as calc-size-reads
-use Rattle.values.proofs.leaf_key_size.Reads as leaf-key-size-reads
 
 less-requires : tie.Need-less-requires
 less-requires c κs = search needs

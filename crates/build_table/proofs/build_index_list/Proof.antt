@@ -1,3 +1,4 @@
+-- `build_table::build_index_list` meets its contract. Assumes nothing.
 use native.Mathlib.Omega.{arith}
 use mathlib.Core.Path.{sym}
 use lib.Seq.{length-take-le}
@@ -6,11 +7,6 @@ use Rattle.build_table.proofs.Listing.{index-list-refused, index-list-v
 use borrow.Author.Needs.{needs}
 use Rattle.build_table.proofs.build_index_list.Statement.{statement}
 use Rattle.build_table.proofs.build_index_list.Tie as tie
-use Rattle.build_table.proofs.build_index_list.Reads as reads
-use Rattle.build_table.proofs.build_index_list.Lts as lts
-use Rattle.build_index.proofs.write_index.Reads as write-index-reads
-use Rattle.build_table.proofs.judge_index_list.Reads as judge-index-list-reads
-use Rattle.frames.proofs.frame_len.Reads as frame-len-reads
 
 slice-reshare-prefix-judge-index-list : tie.Need-slice-reshare-prefix-judge-index-list
 slice-reshare-prefix-judge-index-list c = c .before .before .before .before .pre .1 .1 .0

@@ -1,3 +1,4 @@
+-- `build_table::build_list` meets its contract. Assumes nothing.
 use native.Mathlib.Omega.{arith}
 use mathlib.Core.Path.{sym}
 use lib.Seq.{length-take-le}
@@ -6,10 +7,6 @@ use Rattle.build_table.proofs.Listing.{leaf-list-refused, leaf-list-ver
 use borrow.Author.Needs.{needs}
 use Rattle.build_table.proofs.build_list.Statement.{statement}
 use Rattle.build_table.proofs.build_list.Tie as tie
-use Rattle.build_table.proofs.build_list.Reads as reads
-use Rattle.build_table.proofs.build_list.Lts as lts
-use Rattle.build_leaf.proofs.write_leaf.Reads as write-leaf-reads
-use Rattle.build_table.proofs.judge_list.Reads as judge-list-reads
 
 slice-reshare-prefix-judge-list : tie.Need-slice-reshare-prefix-judge-list
 slice-reshare-prefix-judge-list c = c .before .before .before .before .pre .1 .1 .0

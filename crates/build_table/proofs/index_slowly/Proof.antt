@@ -1,3 +1,4 @@
+-- `build_table::index_slowly` meets its contract. Assumes nothing.
 use denote.Ref.{now}
 use borrow.Author.Tests.{not-true, not-false}
 use Rattle.build_bounds.specs.Boundaries.{boundsOf}
@@ -8,10 +9,6 @@ use Rattle.build_table.proofs.Listing.{of-bad, of-well}
 use borrow.Author.Needs.{needs}
 use Rattle.build_table.proofs.index_slowly.Statement.{statement}
 use Rattle.build_table.proofs.index_slowly.Tie as tie
-use Rattle.build_table.proofs.index_slowly.Reads as reads
-use Rattle.build_table.proofs.index_slowly.Lts as lts
-use Rattle.build_sources.proofs.well.Reads as well-reads
-use Rattle.build_table.proofs.judge_index.Reads as judge-index-reads
 
 well-requires : tie.Need-well-requires
 well-requires c κs = search needs

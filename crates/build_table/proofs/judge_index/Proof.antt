@@ -1,3 +1,4 @@
+-- `build_table::judge_index` meets its contract. Assumes nothing.
 use native.Mathlib.Omega.{arith}
 use mathlib.Core.Path.{sym, ap, _∙_}
 use borrow.Author.Tests.{not-true, not-false}
@@ -9,12 +10,6 @@ use Rattle.build_table.proofs.Judging.{held-shared, held-long, held-pre
 use borrow.Author.Needs.{needs}
 use Rattle.build_table.proofs.judge_index.Statement.{statement}
 use Rattle.build_table.proofs.judge_index.Tie as tie
-use Rattle.build_table.proofs.judge_index.Reads as reads
-use Rattle.build_table.proofs.judge_index.Lts as lts
-use Rattle.build_index.proofs.index_sums.Reads as index-sums-reads
-use Rattle.build_table.proofs.outside.Reads as outside-reads
-use Rattle.build_table.proofs.rises.Reads as rises-reads
-use Rattle.build_table.proofs.weigh_index.Reads as weigh-index-reads
 
 rises-requires : tie.Need-rises-requires
 rises-requires c κs = c .before .before .before .before .before .before .pre .0 .inside

@@ -1,3 +1,4 @@
+-- `build_table::judge_index_list` meets its contract. Assumes nothing.
 use native.Mathlib.Omega.{arith}
 use mathlib.Core.Path.{ap}
 use denote.Ref.{now}
@@ -6,12 +7,6 @@ use Rattle.build_table.proofs.Listing.{index-accepted, index-ends, inde
 use borrow.Author.Needs.{needs}
 use Rattle.build_table.proofs.judge_index_list.Statement.{statement}
 use Rattle.build_table.proofs.judge_index_list.Tie as tie
-use Rattle.build_table.proofs.judge_index_list.Reads as reads
-use Rattle.build_table.proofs.judge_index_list.Lts as lts
-use Rattle.build_sweep.proofs.spans_ends.Reads as spans-ends-reads
-use Rattle.build_sweep.proofs.sweep_index.Reads as sweep-index-reads
-use Rattle.build_table.proofs.index_slowly.Reads as index-slowly-reads
-use Rattle.build_table.proofs.weigh_index.Reads as weigh-index-reads
 
 sweep-index-requires : tie.Need-sweep-index-requires
 sweep-index-requires c κs = search needs

@@ -1,3 +1,4 @@
+-- `build_table::judge_leaf` meets its contract. Assumes nothing.
 use native.Mathlib.Omega.{arith}
 use mathlib.Core.Path.{sym, ap, _∙_}
 use mathlib.Core.Bool.{true}
@@ -12,13 +13,6 @@ use Rattle.build_sources.specs.Source.{entries}
 use borrow.Author.Needs.{needs}
 use Rattle.build_table.proofs.judge_leaf.Statement.{statement}
 use Rattle.build_table.proofs.judge_leaf.Tie as tie
-use Rattle.build_table.proofs.judge_leaf.Reads as reads
-use Rattle.build_table.proofs.judge_leaf.Lts as lts
-use Rattle.build_table.proofs.outside.Reads as outside-reads
-use Rattle.build_table.proofs.rises.Reads as rises-reads
-use Rattle.build_table.proofs.weigh.Reads as weigh-reads
-use Rattle.build_totals.proofs.count_pages.Reads as count-pages-reads
-use Rattle.build_totals.proofs.tally_up.Reads as tally-up-reads
 
 rises-requires : tie.Need-rises-requires
 rises-requires c κs = c .before .before .before .before .before .before .pre .0 .inside

@@ -1,3 +1,4 @@
+-- `build_table::judge_list` meets its contract. Assumes nothing.
 use native.Mathlib.Omega.{arith}
 use mathlib.Core.Path.{ap}
 use denote.Ref.{now}
@@ -6,12 +7,6 @@ use Rattle.build_table.proofs.Listing.{accepted, record-ends, list-weig
 use borrow.Author.Needs.{needs}
 use Rattle.build_table.proofs.judge_list.Statement.{statement}
 use Rattle.build_table.proofs.judge_list.Tie as tie
-use Rattle.build_table.proofs.judge_list.Reads as reads
-use Rattle.build_table.proofs.judge_list.Lts as lts
-use Rattle.build_sweep.proofs.spans_ends.Reads as spans-ends-reads
-use Rattle.build_sweep.proofs.sweep_list.Reads as sweep-list-reads
-use Rattle.build_table.proofs.judge_slowly.Reads as judge-slowly-reads
-use Rattle.build_table.proofs.weigh.Reads as weigh-reads
 
 sweep-list-requires : tie.Need-sweep-list-requires
 sweep-list-requires c κs = ((c .before .before .before .before .pre .1 .1 .1 .0 .limit, c .before .before .before .before .pre .1 .1 .1 .0 .budget), omega (arith, c .before .before .before .before .pre .1 .1 .1 .1 .0, c .before .before .before .before .pre .1 .1 .1 .1 .1))

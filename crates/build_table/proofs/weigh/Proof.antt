@@ -1,12 +1,9 @@
+-- `build_table::weigh` meets its contract. Assumes nothing.
 use native.Mathlib.Omega.{arith}
 use Rattle.build_table.proofs.Leafing.{room-most, weigh-large, weigh-full, weigh-fits}
 use borrow.Author.Needs.{needs}
 use Rattle.build_table.proofs.weigh.Statement.{statement}
 use Rattle.build_table.proofs.weigh.Tie as tie
-use Rattle.build_table.proofs.weigh.Reads as reads
-use Rattle.build_table.proofs.weigh.Lts as lts
-use Rattle.build_totals.proofs.room_of.Reads as room-of-reads
-use Rattle.frames.proofs.frame_len.Reads as frame-len-reads
 
 mul-size : tie.Need-mul-size
 mul-size c = let q = c .before .pre .1 .0 in omega (arith, q .heads)

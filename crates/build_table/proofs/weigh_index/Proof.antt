@@ -1,13 +1,10 @@
+-- `build_table::weigh_index` meets its contract. Assumes nothing.
 use native.Mathlib.Omega.{arith}
 use Rattle.build_table.proofs.Judging.{weigh-index-large, weigh-index-full, weigh-index-fits}
 use borrow.Author.Tests.{not-true, not-false}
 use borrow.Author.Needs.{needs}
 use Rattle.build_table.proofs.weigh_index.Statement.{statement}
 use Rattle.build_table.proofs.weigh_index.Tie as tie
-use Rattle.build_table.proofs.weigh_index.Reads as reads
-use Rattle.build_table.proofs.weigh_index.Lts as lts
-use Rattle.frames.proofs.frame_len.Reads as frame-len-reads
-use Rattle.spans.proofs.room.Reads as room-reads
 
 mul-size : tie.Need-mul-size
 mul-size c = omega (arith, c .pre .1 .0 .0)
