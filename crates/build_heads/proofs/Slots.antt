@@ -4,7 +4,6 @@ use mathlib.Core.Path.{_≡_, refl, sym, ap, _∙_}
 use mathlib.Core.List.{List, [], _∷_, _++_}
 use mathlib.Core.Bool.{Bool, true, false, cond}
 use Prim.Native.Nat.{ℕ, suc, _+_, _≤_}
-use Rattle.spans.specs.Span.{part}
 use Rattle.spans.proofs.Part.{length-part}
 use Rattle.build_sources.specs.Keys.{srcOf}
 use Rattle.build_sources.proofs.Sourced.{length-key}

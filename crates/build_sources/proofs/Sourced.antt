@@ -3,13 +3,12 @@
 use mathlib.Core.Path.{_≡_, refl, sym, ap, _∙_}
 use mathlib.Core.List.{List, [], _∷_, _++_}
 use mathlib.Core.Bool.{Bool, true, false, cond}
-use Prim.Native.Nat.{ℕ, zero, suc, _+_, _-_, _≤_, _<_}
-use native.Mathlib.Numerals.{sub-one}
+use Prim.Native.Nat.{ℕ, _+_, _-_, _≤_, _<_}
 use native.Mathlib.Omega.{arith}
-use lib.ListN.{length, drop, length-append}
+use lib.ListN.{length, length-append}
 use lib.Dec.{leb, eqb}
-use borrow.Author.Tests.{leb-true, leb-false, le-leb, eqb-true, eqb-false, ne-eqb}
-use Rattle.spans.specs.Span.{part, partOr}
+use borrow.Author.Tests.{leb-true, eqb-true, eqb-false, ne-eqb}
+use Rattle.spans.specs.Span.{part}
 use Rattle.spans.proofs.Part.{length-part, partOr-in}
 use Rattle.spans.proofs.Tests.{ask}
 use Rattle.numbers.specs.Number.{beAt}
@@ -24,8 +23,8 @@ use Rattle.build_sources.specs.declared.EntryRead.the-variants.{Got, End
 use Rattle.build_sources.specs.declared.Pick.{Pick}
 use Rattle.build_sources.specs.declared.Pick.the-variants.{One, None}
 use Rattle.build_sources.specs.Keys.{keyBytes, srcOf}
-use Rattle.build_sources.specs.Lists.{recordAt, indexAt, spotAt, recordItem, indexItem, listKey}
-use Rattle.build_sources.specs.Source.{Entry, Placed, after, listF, wellF, listNext, nextOf, stepOf, pastOf, entryOf, leftOf, entries, wellFormed, only, wanted, Chosen, ChosenBy}
+use Rattle.build_sources.specs.Lists.{recordAt, indexAt, spotAt, recordItem, indexItem}
+use Rattle.build_sources.specs.Source.{Placed, after, listNext, nextOf, stepOf, pastOf, entryOf, leftOf, entries, wellFormed, only, wanted, Chosen, ChosenBy}
 use Rattle.build_sources.specs.Pages.{pagesNext}
 use Rattle.build_sources.proofs.Walk.{list-step, well-step}
 use Rattle.build_sources.proofs.Paged.{pages-fall}

@@ -4,16 +4,16 @@ use mathlib.Core.Path.{_≡_, refl, sym, ap, ap₂, _∙_}
 use mathlib.Core.List.{List, [], _∷_, _++_, append-assoc}
 use mathlib.Core.Bool.{Bool, true, false, cond}
 use mathlib.Core.Logic.{⊎-elim}
-use Prim.Native.Nat.{ℕ, zero, suc, _+_, _-_, _*_, _≤_, _<_}
+use Prim.Native.Nat.{ℕ, _+_, _-_, _≤_, _<_}
 use native.Mathlib.Omega.{arith}
 use lib.ListN.{length, take, drop, length-append}
 use lib.Seq.{take-at, drop-at}
 use lib.Dec.{eqb}
-use borrow.Author.Tests.{eq-eqb, ne-eqb, eqb-true, eqb-false}
+use borrow.Author.Tests.{eq-eqb, ne-eqb, eqb-false}
 use Rattle.frames.specs.Layout.{baseLen, frameLen}
 use Rattle.frames.specs.Limits.{maxBudget, maxEntries, maxLimit, maxValue}
 use Rattle.values.specs.Vals.{sizeOf}
-use Rattle.build_paging.specs.Cuts.{fits, cutsFrom, cuts, total}
+use Rattle.build_paging.specs.Cuts.{fits, cutsFrom, total}
 use Rattle.build_paging.proofs.Cutting.{fits-says, fits-not}
 use Rattle.build_sources.specs.Source.{Entry}
 use Rattle.build_image.specs.Sizes.{remoteLen, cost, costsOf, remotesLen}

@@ -18,7 +18,7 @@ use Rattle.order.proofs.Bounds.{lastOf, ends-decide, no-keys}
 use Rattle.frames.specs.Limits.{maxKey, maxValue}
 use Rattle.build_sources.specs.Lists.{firstOf, recordItem, indexItem}
 use Rattle.build_sources.specs.Source.{Entry, entryOf, entries}
-use Rattle.build_sources.specs.Judged.{risingFrom, rising, enclosed}
+use Rattle.build_sources.specs.Judged.{rising, enclosed}
 use Rattle.build_sources.proofs.Judging.{ascending}
 use Rattle.build_sources.proofs.Sourced.{found, ended, odd}
 use Rattle.build_sources.proofs.Stepped.{record-end}

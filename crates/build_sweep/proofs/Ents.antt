@@ -1,7 +1,7 @@
 -- An entry by its two lengths is the entry that a record list's step finds; and what the ways say.
 -- Assumes nothing.
 use mathlib.Core.Path.{_≡_, refl, sym, ap, _∙_}
-use mathlib.Core.List.{List, [], _∷_, _++_}
+use mathlib.Core.List.{List, [], _++_}
 use mathlib.Core.Bool.{Bool, true, false, cond}
 use Prim.Native.Nat.{ℕ, _+_, _-_, _≤_, _<_}
 use native.Mathlib.Omega.{arith}
@@ -9,7 +9,6 @@ use lib.ListN.{length}
 use lib.Dec.{leb}
 use borrow.Author.Tests.{le-leb, lt-leb}
 use Rattle.spans.specs.Span.{part, partOr}
-use Rattle.spans.proofs.Part.{length-part, partOr-in}
 use Rattle.numbers.specs.Number.{beAt}
 use Rattle.frames.specs.Limits.{maxKey, maxValue}
 use Rattle.order.specs.declared.Order.{Order}
@@ -17,11 +16,7 @@ use Rattle.order.specs.declared.Ver.{Ver}
 use Rattle.order.specs.declared.Order.the-variants.{Less, Equal, Greater}
 use Rattle.order.specs.Order.{cmpBytes, isEqual}
 use Rattle.order.specs.Version.{verOf, newerThan}
-use Rattle.order.proofs.Laws.{is-less, is-greater}
-use Rattle.order_pair.specs.declared.Pair.{Pair}
-use Rattle.order_pair.specs.Apart.{StandsAs}
 use Rattle.build_sources.specs.declared.Cursor.{Cursor}
-use Rattle.build_sources.specs.declared.EntryAt.{EntryAt}
 use Rattle.build_sources.specs.declared.Spot.{Spot}
 use Rattle.build_sources.specs.declared.EntryRead.{EntryRead}
 use Rattle.build_sources.specs.Keys.{keyBytes}
@@ -31,7 +26,6 @@ use Rattle.build_sources.specs.Judged.{aboveBy}
 use Rattle.build_sources.proofs.Stepped.{record-on}
 use Rattle.build_sweep.specs.declared.Ent.{Ent}
 use Rattle.build_sweep.specs.declared.Ent.the-variants.{At, Out}
-use Rattle.build_sweep.specs.declared.Way.{Way}
 use Rattle.build_sweep.specs.declared.Way.the-variants.{Head, Old, Falls}
 use Rattle.build_sweep.specs.Ents.{entAt, spotOf, indexEntAt, indexSpotOf, orderAt, verIn, wayBy, wayAt}
 
@@ -242,18 +236,3 @@ module _ (s : List ℕ) (seen : Bool) (bat blen kat klen : ℕ) where
 pub newer-is : (s : List ℕ) (x y : ℕ) (r : Bool) (v w : Ver) (a b c d : ℕ) → r ≡ newerThan v w → v ≡ verOf a b → w ≡ verOf c d
     → a ≡ beAt 8 s x → b ≡ beAt 4 s (x + 8) → c ≡ beAt 8 s y → d ≡ beAt 4 s (y + 8) → r ≡ newerThan (verIn s x) (verIn s y)
 newer-is s x y r v w a b c d er ev ew ea eb ec ed = er ∙ rw (ev, ew, ea, eb, ec, ed) refl
-
--- two keys of one length, by what two numbers decide
-module _ (a b : List ℕ) (r : Pair) (d : StandsAs a b r) where
-  pub told-less : r .x < r .y → Less ≡ cmpBytes a b
-  told-less h = sym (d .differ (λ e. omega arith) ∙ is-less (r .x) (r .y) Equal h)
-
-  pub told-greater : r .y < r .x → Greater ≡ cmpBytes a b
-  told-greater h = sym (d .differ (λ e. omega arith) ∙ is-greater (r .x) (r .y) Equal h)
-
-  pub told-equal : r .y ≤ r .x → r .x ≤ r .y → r .whole ≡ true → Equal ≡ cmpBytes a b
-  told-equal h k w = sym (d .same (omega arith) w)
-
-pub same-long : (s : List ℕ) (bat blen kat klen : ℕ) → bat + blen ≤ length s → kat + klen ≤ length s → blen ≡ klen → (a b : List ℕ) → a ≡ partOr s bat blen → b ≡ partOr s kat klen → length a ≡ length b
-same-long s bat blen kat klen h k e a b ea eb =
-    omega (arith, ap length ea, ap length (partOr-in s bat blen h), length-part s bat blen h, ap length eb, ap length (partOr-in s kat klen k), length-part s kat klen k)

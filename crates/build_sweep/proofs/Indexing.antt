@@ -1,7 +1,7 @@
 -- The sweep over an index list: where it stands, in numbers.
 -- Assumes nothing.
 use mathlib.Core.Path.{_≡_, refl, sym, ap, _∙_}
-use mathlib.Core.List.{List, [], _∷_}
+use mathlib.Core.List.{List, []}
 use mathlib.Core.Bool.{Bool, true, false, cond}
 use Prim.Native.Nat.{ℕ, _+_, _-_, _*_, _≤_, _<_}
 use native.Mathlib.Omega.{arith}
@@ -22,7 +22,7 @@ use Rattle.build_sources.specs.declared.Cursor.{Cursor}
 use Rattle.build_sources.specs.declared.EntryAt.{EntryAt}
 use Rattle.build_sources.specs.Lists.{firstOf, indexItem}
 use Rattle.build_sources.specs.Source.{Entry, entryOf, entries, wellFormed}
-use Rattle.build_sources.specs.Judged.{aboveBy, rising}
+use Rattle.build_sources.specs.Judged.{aboveBy}
 use Rattle.build_sources.proofs.Sourced.{Found, found, ended, odd}
 use Rattle.build_image.specs.Image.{indexKeyLen, indexSums}
 use Rattle.build_sweep.specs.declared.Ent.the-variants.{At, Out}

@@ -1,7 +1,7 @@
 -- The sweep over a record list: where it stands, in numbers.
 -- Assumes nothing.
 use mathlib.Core.Path.{_≡_, refl, sym, ap, _∙_}
-use mathlib.Core.List.{List, [], _∷_}
+use mathlib.Core.List.{List, []}
 use mathlib.Core.Bool.{Bool, true, false, cond}
 use Prim.Native.Nat.{ℕ, _+_, _-_, _≤_, _<_}
 use native.Mathlib.Omega.{arith}
@@ -17,7 +17,6 @@ use Rattle.build_sources.specs.declared.Cursor.{Cursor}
 use Rattle.build_sources.specs.declared.EntryAt.{EntryAt}
 use Rattle.build_sources.specs.Lists.{firstOf, recordItem}
 use Rattle.build_sources.specs.Source.{Entry, entryOf, entries, wellFormed}
-use Rattle.build_sources.specs.Judged.{rising}
 use Rattle.build_sources.proofs.Sourced.{Found, found, ended, odd}
 use Rattle.build_sources.proofs.Stepped.{record-end}
 use Rattle.build_image.specs.Sizes.{remoteLen}
@@ -34,7 +33,7 @@ use Rattle.build_sweep.specs.Ents.{entAt, orderAt, verIn, wayBy, wayAt}
 use Rattle.build_sweep.specs.Swept.{listed, plain, Accepted}
 use Rattle.build_sweep.proofs.Ents.{here, step-at, step-out, key-bare, same-order, way-head, way-old, way-falls}
 use Rattle.build_sweep.proofs.Plain.{not-well, not-rising, not-few}
-use Rattle.build_sweep.proofs.Sweeping.{Climbing, climb-begin, climb-up, climb-last, climb-falls, climb-on, Adding, add-begin, add-bounded, add-slim, Summed, add-end, add-many, add-head, add-old}
+use Rattle.build_sweep.proofs.Sweeping.{Climbing, climb-begin, climb-up, climb-last, climb-falls, climb-on, Adding, add-begin, add-bounded, add-slim, add-end, add-many, add-head, add-old}
 
 -- the entry before, by all that the order asks of it
 abbrev pub prior : List ℕ → ℕ → ℕ → Entry

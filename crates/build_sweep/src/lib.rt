@@ -11,7 +11,6 @@ ghost use Prim.Native.Nat.{_+_, _≤_, _<_};
 ghost use lib.ListN.{length};
 ghost use lib.Dec.{ltb, eqb};
 ghost use Rattle.spans.specs.Span.{partOr};
-ghost use Rattle.order.specs.Order.{cmpBytes};
 ghost use Rattle.order.specs.Version.{newerThan};
 ghost use Rattle.frames.specs.Limits.{maxBudget, maxEntries, maxKey, maxLimit, maxValue};
 ghost use Rattle.values.specs.Vals.{sizeOf};
@@ -213,36 +212,13 @@ fn key_of(s: &[u8], at: usize, n: usize) -> &[u8]
     &s[at..e]
 }
 
-// Two keys of one length, by two numbers.
-fn told(a: &[u8], b: &[u8]) -> Order
-    requires { ⌜ length (now a) ≡ length (now b) ⌝ }
-    ensures { λ r. ⌜ r ≡ cmpBytes (now (a .entry)) (now (b .entry)) ⌝ }
-{
-    let q = order_pair::pair_of(a, b);
-    if q.x < q.y {
-        return Order::Less;
-    }
-    if q.y < q.x {
-        return Order::Greater;
-    }
-    if q.whole {
-        return Order::Equal;
-    }
-    order::compare(a, b)
-}
-
-// The key before, if there is one, against this one.
+// The key before, if there is one, against this one. Not by `order_pair::pair_of`: a second caller would leave it out of the loop of a search.
 fn order_at(s: &[u8], seen: bool, bat: usize, blen: usize, kat: usize, klen: usize) -> Order
     requires { ⌜ (bat + blen ≤ length (now s)) × (kat + klen ≤ length (now s)) ⌝ }
     ensures { λ r. ⌜ r ≡ orderAt (now (s .entry)) seen bat blen kat klen ⌝ }
 {
     if seen {
-        let a = key_of(s, bat, blen);
-        let b = key_of(s, kat, klen);
-        if blen == klen {
-            return told(a, b);
-        }
-        return order::compare(a, b);
+        return order::compare(key_of(s, bat, blen), key_of(s, kat, klen));
     }
     Order::Less
 }

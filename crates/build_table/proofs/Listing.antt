@@ -1,15 +1,13 @@
 -- Lists: what one sweep accepted is what the table says; and what a verdict on a list says of answer and arena.
 -- Assumes nothing.
 use mathlib.Core.Path.{_≡_, refl, sym, ap, ap₂, _∙_}
-use mathlib.Core.List.{List, []}
+use mathlib.Core.List.{List}
 use mathlib.Core.Bool.{Bool, true, false, cond}
 use Prim.Native.Nat.{ℕ, _+_, _≤_, _<_}
 use native.Mathlib.Omega.{arith}
 use lib.ListN.{length, take}
-use Rattle.spans.specs.Span.{partOr}
 use Rattle.frames.specs.declared.Refusal.{Refusal}
 use Rattle.frames.specs.declared.Refusal.the-variants.{BadList}
-use Rattle.frames.specs.Limits.{maxEntries}
 use Rattle.build_sources.specs.declared.Cursor.{Cursor}
 use Rattle.build_sources.specs.Lists.{firstOf}
 use Rattle.build_sources.specs.Source.{Entry, entries, wellFormed, only}
