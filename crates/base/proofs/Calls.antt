@@ -19,7 +19,7 @@ use Rattle.build_sources.specs.declared.Cursor.{Cursor}
 use Rattle.build_sources.specs.declared.Started.{Started}
 use Rattle.build_sources.specs.declared.Started.the-variants.{From, Bad}
 use Rattle.build_sources.specs.Lists.{begunOf, firstOf}
-use Rattle.build_sources.specs.Source.{Entry, entries, wellFormed}
+use Rattle.build_sources.specs.Source.{Entry, wellFormed}
 use Rattle.build_image.specs.declared.Call.{Call}
 use Rattle.build_image.specs.Prefix.{common}
 use Rattle.build_image.specs.Image.{leafImage, indexImage, Borders}
@@ -34,9 +34,10 @@ use Rattle.build_totals.specs.Totals.{leafAt}
 use Rattle.build_image.specs.Call.{limitOk, budgetOk, limitsOk, nextOk}
 use Rattle.build_image.proofs.Asked.{limit-true, budget-true, next-true}
 use Rattle.build_image.specs.Table.{Row, judged}
-use Rattle.build_table.specs.Table.{boundsOk, leafLimits, isOpen, listOk}
+use Rattle.build_table.specs.Table.{boundsOk, leafLimits, isOpen, listOk, ofList}
 use Rattle.build_table.specs.Leaf.{leafEnd, leafAnswer, leafArena, leafRows}
 use Rattle.build_table.specs.Index.{Held, indexEnd, indexAnswer, indexArena, indexRows}
+use Rattle.build_table.proofs.Listing.{of-by}
 use Rattle.frames.specs.declared.PageId.{PageId}
 use Rattle.frames.specs.Limits.{maxKey}
 use Rattle.base.specs.Calls.{boundsFrom, listed, listRows, newIndexAnswer, newIndexArena, newAnswer, newArena}
@@ -86,8 +87,8 @@ module _ (l w : List ℕ) (source : ℕ) (b : Started) (e : b ≡ begunOf l sour
     pub at-first : c ≡ firstOf source
     at-first = from-first l source c (sym e ∙ q)
 
-    pub list-is : (t : Bool) → t ≡ wellFormed l w c → listOk l w source ≡ t
-    list-is t h = ap (λ (x : Started). isOpen x && wellFormed l w (firstOf source)) (sym e ∙ q) ∙ sym (h ∙ ap (wellFormed l w) at-first)
+    pub list-opens : listOk l w source ≡ wellFormed l w (firstOf source)
+    list-opens = ap (λ (x : Started). isOpen x && wellFormed l w (firstOf source)) (sym e ∙ q)
 
 -- ---- boundaries that are whole slices
 
@@ -142,11 +143,17 @@ module _ (limits : Bool) (a : List ℕ) (next : ℕ) (l : List ℕ) (source : �
         three limits a next l source rows (λ (k : Refusal). a) (put a next image) (sym e₁ ∙ h₁) (sym e₂ ∙ h₂) h,
       )
 
-      pub call-on : listOk l (take next a) source ≡ true → (r : Built) (a₁ : List ℕ) → r ≡ judged rows Refused (At (addr at) end) → a₁ ≡ judged rows (λ (k : Refusal). a) (put a next image) → Both r a₁
+      call-on : listOk l (take next a) source ≡ true → (r : Built) (a₁ : List ℕ) → r ≡ judged rows Refused (At (addr at) end) → a₁ ≡ judged rows (λ (k : Refusal). a) (put a next image) → Both r a₁
       call-on h r a₁ er ea = (
         er ∙ on limits a next l source rows Refused (At (addr at) end) (sym e₁ ∙ h₁) (sym e₂ ∙ h₂) h,
         ea ∙ on limits a next l source rows (λ (k : Refusal). a) (put a next image) (sym e₁ ∙ h₁) (sym e₂ ∙ h₂) h,
       )
+
+      -- 3 by the builder, which finds whether the list ends well
+      pub call-list : (t : Bool) → listOk l (take next a) source ≡ t → (r : Built) (a₁ : List ℕ) → r ≡ cond t (judged rows Refused (At (addr at) end)) (Refused BadList)
+          → a₁ ≡ cond t (judged rows (λ (k : Refusal). a) (put a next image)) a → Both r a₁
+      call-list true h r a₁ er ea = call-on h r a₁ er ea
+      call-list false h r a₁ er ea = let z = call-three h in (er ∙ z .0, ea ∙ z .1)
 
 -- ---- new_intl
 
@@ -174,17 +181,17 @@ module _ (a : List ℕ) (next : ℕ) (l : List ℕ) (m : Call) (b : Borders) whe
       unfolding newIndexAnswer newIndexArena
       index-three h = call-three limits a next l 1 rows next (indexEnd next m b es) (indexImage m b es) t₁ e₁ h₁ t₂ e₂ h₂ h
 
-      pub index-on : listOk l (take next a) 1 ≡ true → (r : Built) (a₁ : List ℕ) (m′ : Call) (b′ : Borders) (c : Cursor) → m′ ≡ m → b′ ≡ b → c ≡ firstOf 1
-          → r ≡ indexAnswer a next m′ b′ (entries l (take next a) c) → a₁ ≡ indexArena a next m′ b′ (entries l (take next a) c) → (r ≡ newIndexAnswer a next l m b) × (a₁ ≡ newIndexArena a next l m b)
+      pub index-list : listOk l (take next a) 1 ≡ wellFormed l (take next a) (firstOf 1) → (r : Built) (a₁ : List ℕ) (m′ : Call) (b′ : Borders) → m′ ≡ m → b′ ≡ b
+          → r ≡ ofList l (take next a) 1 (Refused BadList) (indexAnswer a next m′ b′) → a₁ ≡ ofList l (take next a) 1 a (indexArena a next m′ b′) → (r ≡ newIndexAnswer a next l m b) × (a₁ ≡ newIndexArena a next l m b)
       unfolding newIndexAnswer newIndexArena indexAnswer indexArena
-      index-on h r a₁ m′ b′ c em eb ec er ea =
-          call-on limits a next l 1 rows next (indexEnd next m b es) (indexImage m b es) t₁ e₁ h₁ t₂ e₂ h₂ h r a₁
+      index-list h r a₁ m′ b′ em eb er ea =
+          call-list limits a next l 1 rows next (indexEnd next m b es) (indexImage m b es) t₁ e₁ h₁ t₂ e₂ h₂ (wellFormed l (take next a) (firstOf 1)) h r a₁
           (er
-          ∙ ap (λ (x : Call). indexAnswer a next x b′ (entries l (take next a) c)) em
-          ∙ ap₂ (λ (x : Borders) (y : Cursor). indexAnswer a next m x (entries l (take next a) y)) eb ec)
+          ∙ ap₂ (λ (x : Call) (y : Borders). ofList l (take next a) 1 (Refused BadList) (indexAnswer a next x y)) em eb
+          ∙ of-by l (take next a) 1 (Refused BadList) (indexAnswer a next m b) (wellFormed l (take next a) (firstOf 1)) refl)
           (ea
-          ∙ ap (λ (x : Call). indexArena a next x b′ (entries l (take next a) c)) em
-          ∙ ap₂ (λ (x : Borders) (y : Cursor). indexArena a next m x (entries l (take next a) y)) eb ec)
+          ∙ ap₂ (λ (x : Call) (y : Borders). ofList l (take next a) 1 a (indexArena a next x y)) em eb
+          ∙ of-by l (take next a) 1 a (indexArena a next m b) (wellFormed l (take next a) (firstOf 1)) refl)
 
 -- ---- new_leaf
 
@@ -227,14 +234,14 @@ module _ (a : List ℕ) (next : ℕ) (l : List ℕ) (m : Call) (b : Borders) whe
       unfolding newAnswer newArena
       new-three h = call-three lims a next l 0 lrows (leafAt m next les) (leafEnd next m b les) (leafImage m b next les) t₁ e₁ h₁ t₂ e₂ h₂ h
 
-      pub new-on : listOk l (take next a) 0 ≡ true → (r : Built) (a₁ : List ℕ) (m′ : Call) (b′ : Borders) (c : Cursor) → m′ ≡ m → b′ ≡ b → c ≡ firstOf 0
-          → r ≡ leafAnswer a next m′ b′ (entries l (take next a) c) → a₁ ≡ leafArena a next m′ b′ (entries l (take next a) c) → (r ≡ newAnswer a next l m b) × (a₁ ≡ newArena a next l m b)
+      pub new-list : listOk l (take next a) 0 ≡ wellFormed l (take next a) (firstOf 0) → (r : Built) (a₁ : List ℕ) (m′ : Call) (b′ : Borders) → m′ ≡ m → b′ ≡ b
+          → r ≡ ofList l (take next a) 0 (Refused BadList) (leafAnswer a next m′ b′) → a₁ ≡ ofList l (take next a) 0 a (leafArena a next m′ b′) → (r ≡ newAnswer a next l m b) × (a₁ ≡ newArena a next l m b)
       unfolding newAnswer newArena leafAnswer leafArena
-      new-on h r a₁ m′ b′ c em eb ec er ea =
-          call-on lims a next l 0 lrows (leafAt m next les) (leafEnd next m b les) (leafImage m b next les) t₁ e₁ h₁ t₂ e₂ h₂ h r a₁
+      new-list h r a₁ m′ b′ em eb er ea =
+          call-list lims a next l 0 lrows (leafAt m next les) (leafEnd next m b les) (leafImage m b next les) t₁ e₁ h₁ t₂ e₂ h₂ (wellFormed l (take next a) (firstOf 0)) h r a₁
           (er
-          ∙ ap (λ (x : Call). leafAnswer a next x b′ (entries l (take next a) c)) em
-          ∙ ap₂ (λ (x : Borders) (y : Cursor). leafAnswer a next m x (entries l (take next a) y)) eb ec)
+          ∙ ap₂ (λ (x : Call) (y : Borders). ofList l (take next a) 0 (Refused BadList) (leafAnswer a next x y)) em eb
+          ∙ of-by l (take next a) 0 (Refused BadList) (leafAnswer a next m b) (wellFormed l (take next a) (firstOf 0)) refl)
           (ea
-          ∙ ap (λ (x : Call). leafArena a next x b′ (entries l (take next a) c)) em
-          ∙ ap₂ (λ (x : Borders) (y : Cursor). leafArena a next m x (entries l (take next a) y)) eb ec)
+          ∙ ap₂ (λ (x : Call) (y : Borders). ofList l (take next a) 0 a (leafArena a next x y)) em eb
+          ∙ of-by l (take next a) 0 a (leafArena a next m b) (wellFormed l (take next a) (firstOf 0)) refl)

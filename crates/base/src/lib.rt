@@ -58,9 +58,6 @@ pub fn new_intl(
     let Started::From(c) = b else {
         return Built::Refused(Refusal::BadList);
     };
-    if !build_sources::well(list, &a[..next], c) {
-        return Built::Refused(Refusal::BadList);
-    }
     let m = build_image::call_of(0, 0, group, txid, lsn, checkpoint);
     let x = build_bounds::boundary_of(lo);
     let y = build_bounds::boundary_of(hi);
@@ -71,7 +68,7 @@ pub fn new_intl(
         prefix: p,
         sibling: sibling,
     };
-    build_table::build_index(a, next, list, c, m, lo, hi, e)
+    build_table::build_index_list(a, next, list, c, m, lo, hi, e)
 }
 
 // Builds a leaf of a record list, its history pages before it and its remote frames behind it: its address and the new next free
@@ -104,9 +101,6 @@ pub fn new_leaf(
     let Started::From(c) = b else {
         return Built::Refused(Refusal::BadList);
     };
-    if !build_sources::well(list, &a[..next], c) {
-        return Built::Refused(Refusal::BadList);
-    }
     let m = build_image::call_of(limit, budget, group, txid, lsn, checkpoint);
     let x = build_bounds::boundary_of(lo);
     let y = build_bounds::boundary_of(hi);
@@ -117,5 +111,5 @@ pub fn new_leaf(
         prefix: p,
         sibling: sibling,
     };
-    build_table::build_leaf(a, next, list, c, m, lo, hi, e)
+    build_table::build_list(a, next, list, c, m, lo, hi, e)
 }

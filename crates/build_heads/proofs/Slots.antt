@@ -3,11 +3,7 @@
 use mathlib.Core.Path.{_≡_, refl, sym, ap, _∙_}
 use mathlib.Core.List.{List, [], _∷_, _++_}
 use mathlib.Core.Bool.{Bool, true, false, cond}
-use Prim.Native.Nat.{ℕ, zero, suc, _+_, _-_, _/_, _%_, _≤_}
-use lib.Dec.{ltb}
-use Rattle.lengths.specs.Leb128.{enc, uleb}
-use Rattle.frames.specs.Limits.{maxValue}
-use Rattle.spans.specs.Span.{part}
+use Prim.Native.Nat.{ℕ, suc, _+_, _≤_}
 use Rattle.spans.proofs.Part.{length-part}
 use Rattle.build_sources.specs.Keys.{srcOf}
 use Rattle.build_sources.proofs.Sourced.{length-key}
@@ -85,31 +81,3 @@ module _ (l w : List ℕ) (i : EntryAt) (q : Placed l w i) (es : List Entry) (li
   pub step-head : i .old ≡ false → (h : Bool) (x y : ℕ) → h ≡ any (oldRun es) → x ≡ keyLen p (i .key .plen + i .key .klen) → y ≡ sizeOf h limit (i .vlen) → x + y ≡ stepLen limit p (entryOf l w i) es
   unfolding stepLen
   step-head e h x y eh ex ey = rw (old-is ∙ e, key-is, val-is, ex, ey, eh) refl
-
--- a size has at most five bytes
-most : (k n : ℕ) → length (enc k n) ≤ k
-unfolding enc
-most zero n = omega arith
-most (suc k) n = by (ltb n 128) (most k (n / 128))
-  where
-    by : (b : Bool) → length (enc k (n / 128)) ≤ k → length (cond b (n ∷ []) ((n % 128 + 128) ∷ enc k (n / 128))) ≤ suc k
-    by true h = omega arith
-    by false h = omega arith
-
-pub uleb-most : (n : ℕ) → length (uleb n) ≤ 5
-unfolding uleb
-uleb-most n = most 5 n
-
-pub key-most : (p n : ℕ) → keyLen p n ≤ 17 + n
-unfolding keyLen
-key-most p n = omega (arith, uleb-most (12 + (n - p)))
-
-size-by : (h b : Bool) (limit n : ℕ) → n ≤ maxValue → cond h 14 0 + cond b (5 + n) 13 ≤ 65600
-size-by true true limit n q = omega arith
-size-by true false limit n q = omega arith
-size-by false true limit n q = omega arith
-size-by false false limit n q = omega arith
-
-pub size-most : (h : Bool) (limit n : ℕ) → n ≤ maxValue → sizeOf h limit n ≤ 65600
-unfolding sizeOf
-size-most h limit n q = size-by h (ltb n limit) limit n q

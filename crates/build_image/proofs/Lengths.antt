@@ -1,13 +1,13 @@
 -- The length of each thing that a build writes: the arithmetic of its judge.
 -- Assumes nothing.
-use mathlib.Core.Path.{_≡_, refl, sym, ap, _∙_}
+use mathlib.Core.Path.{_≡_, refl, ap, _∙_}
 use mathlib.Core.List.{List, [], _∷_, _++_}
 use mathlib.Core.Bool.{Bool, true, false, cond}
-use Prim.Native.Nat.{ℕ, zero, suc, _+_, _-_, _*_, _/_, _≤_, _<_}
+use Prim.Native.Nat.{ℕ, zero, suc, _+_, _-_, _*_, _≤_, _<_}
 use native.Mathlib.Omega.{arith}
-use borrow.Author.Tests.{ltb-true, ltb-false, lt-ltb, le-ltb}
+use borrow.Author.Tests.{ltb-true}
 use lib.Dec.{ltb, eqb}
-use lib.ListN.{length, take, drop, length-append, replicate, length-replicate}
+use lib.ListN.{length, take, drop, length-append, length-replicate}
 use Rattle.numbers.specs.Number.{le}
 use Rattle.numbers.proofs.Numbers.{length-le}
 use Rattle.frames.specs.Layout.{boxLen, baseLen, slotsAt, boxRemote, nodeLeaf, flagSibling, frameLen}
@@ -17,10 +17,12 @@ use Rattle.values.specs.declared.HistRef.{HistRef}
 use Rattle.values.specs.Keys.{verBytes}
 use Rattle.values.specs.Vals.{noHist, sizeOf, frontSize, inlineBytes, remoteBytes}
 use Rattle.values.proofs.Laws.{length-ver, length-inline, length-remote}
+use Rattle.lengths.proofs.Laws.{uleb-few}
+use Rattle.frames.specs.Limits.{maxValue}
 use Rattle.build_paging.specs.Cuts.{total}
 use Rattle.build_sources.specs.Source.{Entry, wanted, only}
 use Rattle.build_image.specs.declared.Call.{Call}
-use Rattle.build_image.specs.Sizes.{pad, remoteLen, valLen, cost, costsOf, remotesLen}
+use Rattle.build_image.specs.Sizes.{pad, remoteLen, valLen, cost, costsOf, remotesLen, keyLen}
 use Rattle.build_image.specs.Image.{boxOf, pageBox, remoteAddr, valBytes, remoteFrame, remoteFrameOf, remoteFrames, oldRec, oldRecs, oldSlots, histHead, histSize, histPage, pageEnd}
 
 pub frame-least : (n : ℕ) → boxLen + n ≤ frameLen n
@@ -43,7 +45,21 @@ unfolding only
 only-few b [] = omega arith
 only-few b (e ∷ es) = few-by (wanted b (e .old)) e (only b es) (length es) (only-few b es)
 
--- ---- values
+-- ---- keys and values
+
+pub key-most : (p n : ℕ) → keyLen p n ≤ 17 + n
+unfolding keyLen
+key-most p n = omega (arith, uleb-few (12 + (n - p)))
+
+whole-by : (h b : Bool) (limit n : ℕ) → n ≤ maxValue → cond h 14 0 + cond b (5 + n) 13 ≤ 65600
+whole-by true true limit n q = omega arith
+whole-by true false limit n q = omega arith
+whole-by false true limit n q = omega arith
+whole-by false false limit n q = omega arith
+
+pub size-most : (h : Bool) (limit n : ℕ) → n ≤ maxValue → sizeOf h limit n ≤ 65600
+unfolding sizeOf
+size-most h limit n q = whole-by h (ltb n limit) limit n q
 
 size-by : (b : Bool) (limit n : ℕ) → ltb n limit ≡ b → (5 ≤ 0 + cond b (5 + n) 13) × (0 + cond b (5 + n) 13 ≤ limit + 13)
 size-by true limit n e = (omega arith, let h : n < limit = ltb-true n limit e in omega arith)

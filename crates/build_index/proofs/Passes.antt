@@ -22,14 +22,14 @@ use Rattle.build_sources.proofs.Sourced.{Found, length-key}
 use Rattle.build_image.specs.Image.{indexKeyLen, indexSums, indexSlots, indexRecs}
 use Rattle.build_history.proofs.Writes.{wrote-le, room-le}
 use Rattle.build_heads.specs.Steps.{Long}
-use Rattle.build_heads.proofs.Slots.{uleb-most}
+use Rattle.lengths.proofs.Laws.{uleb-few}
 use Rattle.build_index.specs.Parts.{indexRec}
 
 -- ---- what each definition says of the first entry
 
 pub key-most : (p n : ℕ) → indexKeyLen p n ≤ 5 + n
 unfolding indexKeyLen
-key-most p n = omega (arith, uleb-most (n - p))
+key-most p n = omega (arith, uleb-few (n - p))
 
 sums-nil : (p : ℕ) (es : List Entry) → es ≡ [] → indexSums p es ≡ 0
 unfolding indexSums

@@ -9,3 +9,4 @@ pub mod Marked
 pub mod Judging
 pub mod Cases
 pub mod Decided
+pub mod Alone

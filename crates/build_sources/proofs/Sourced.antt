@@ -3,13 +3,12 @@
 use mathlib.Core.Path.{_≡_, refl, sym, ap, _∙_}
 use mathlib.Core.List.{List, [], _∷_, _++_}
 use mathlib.Core.Bool.{Bool, true, false, cond}
-use Prim.Native.Nat.{ℕ, zero, suc, _+_, _-_, _≤_, _<_}
-use native.Mathlib.Numerals.{sub-one}
+use Prim.Native.Nat.{ℕ, _+_, _-_, _≤_, _<_}
 use native.Mathlib.Omega.{arith}
-use lib.ListN.{length, drop, length-append}
+use lib.ListN.{length, length-append}
 use lib.Dec.{leb, eqb}
-use borrow.Author.Tests.{leb-true, leb-false, le-leb, eqb-true, eqb-false, ne-eqb}
-use Rattle.spans.specs.Span.{part, partOr}
+use borrow.Author.Tests.{leb-true, eqb-true, eqb-false, ne-eqb}
+use Rattle.spans.specs.Span.{part}
 use Rattle.spans.proofs.Part.{length-part, partOr-in}
 use Rattle.spans.proofs.Tests.{ask}
 use Rattle.numbers.specs.Number.{beAt}
@@ -24,8 +23,8 @@ use Rattle.build_sources.specs.declared.EntryRead.the-variants.{Got, End
 use Rattle.build_sources.specs.declared.Pick.{Pick}
 use Rattle.build_sources.specs.declared.Pick.the-variants.{One, None}
 use Rattle.build_sources.specs.Keys.{keyBytes, srcOf}
-use Rattle.build_sources.specs.Lists.{recordAt, indexAt, spotAt, recordItem, indexItem, listKey}
-use Rattle.build_sources.specs.Source.{Entry, Placed, after, listF, wellF, listNext, nextOf, stepOf, pastOf, entryOf, leftOf, entries, wellFormed, only, wanted, Chosen, ChosenBy}
+use Rattle.build_sources.specs.Lists.{recordAt, indexAt, spotAt, recordItem, indexItem}
+use Rattle.build_sources.specs.Source.{Placed, after, listNext, nextOf, stepOf, pastOf, entryOf, leftOf, entries, wellFormed, only, wanted, Chosen, ChosenBy}
 use Rattle.build_sources.specs.Pages.{pagesNext}
 use Rattle.build_sources.proofs.Walk.{list-step, well-step}
 use Rattle.build_sources.proofs.Paged.{pages-fall}
@@ -87,15 +86,26 @@ spot-lies s c i past e = go (eqb (c .source) 1) e
     go true e = index-lies s c i past e
     go false e = record-lies s c i past e
 
-record Went (l w : List ℕ) (c : Cursor) (i : EntryAt) (d : Cursor) : Type 0 where
-  placed : Placed l w i
-  falls : leftOf l w d < leftOf l w c
-
 stepped : (b : Bool) (c : Cursor) (sp : Spot) (i : EntryAt) (d : Cursor) → cond b End (stepOf c sp) ≡ Got i d → (past : ℕ) × (sp ≡ At i past) × (pastOf c past i ≡ d)
 unfolding stepOf
 stepped true c sp i d e = absurd (let z : _≡_ {A = ℕ} 0 1 = cc in omega arith)
 stepped false c (At j past) i d e = (past, cc, cc)
 stepped false c Out i d e = absurd (let z : _≡_ {A = ℕ} 0 1 = cc in omega arith)
+
+-- an entry of a list: it lies in the lent slice, whatever the ground, and the cursor past it reads the same list
+pub list-item : (l w : List ℕ) (c : Cursor) (i : EntryAt) (d : Cursor) → (c .source ≡ 2 → ⊥) → nextOf l w c ≡ Got i d → (i .ground ≡ false) × (d .source ≡ c .source)
+unfolding nextOf listNext
+list-item l w c i d n e =
+    let g = stepped (leb (length l) (c .at)) c (spotAt l c) i d (sym (rw (ne-eqb (c .source) 2 n) refl) ∙ e) in
+    (spot-lies l c i (g .0) (g .1) .same, ap (λ (x : Cursor). x .source) (sym (g .2)))
+
+pub list-any : (l w : List ℕ) (c : Cursor) → (c .source ≡ 2 → ⊥) → nextOf l w c ≡ nextOf l [] c
+unfolding nextOf
+list-any l w c n = rw (ne-eqb (c .source) 2 n) refl
+
+record Went (l w : List ℕ) (c : Cursor) (i : EntryAt) (d : Cursor) : Type 0 where
+  placed : Placed l w i
+  falls : leftOf l w d < leftOf l w c
 
 list-went : (l w : List ℕ) (c : Cursor) (i : EntryAt) (d : Cursor) → (c .source ≡ 2 → ⊥) → listNext l c ≡ Got i d → Went l w c i d
 unfolding listNext leftOf

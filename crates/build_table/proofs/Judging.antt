@@ -5,7 +5,7 @@ use mathlib.Core.List.{List, [], _∷_}
 use mathlib.Core.Bool.{Bool, true, false, cond, _&&_}
 use Prim.Native.Nat.{ℕ, _+_, _*_, _≤_, _<_}
 use native.Mathlib.Omega.{arith}
-use borrow.Author.Tests.{leb-true, le-leb, lt-leb}
+use borrow.Author.Tests.{leb-true, leb-false, le-leb, lt-leb}
 use lib.Dec.{leb}
 use lib.ListN.{length, take}
 use lib.Seq.{length-take-le, take-take}
@@ -37,7 +37,7 @@ use Rattle.build_table.specs.declared.IndexVerdict.the-variants.{Fits, N
 use Rattle.build_image.specs.declared.Built.the-variants.{At, Refused}
 use Rattle.build_image.specs.Table.{Row, row, judged}
 use Rattle.build_table.specs.Table.{entryRows, outsideOf, apartOf}
-use Rattle.build_table.specs.Index.{Held, indexVerdict, indexEnd, indexRows, indexAnswer, indexArena}
+use Rattle.build_table.specs.Index.{Held, indexVerdict, indexWeighed, indexEnd, indexRows, indexAnswer, indexArena}
 use Rattle.build_image.proofs.Tables.{All, all-go, refuses, passes}
 
 pub and-both : (x y : Bool) → x && y ≡ true → (x ≡ true) × (y ≡ true)
@@ -167,7 +167,7 @@ module _ (len next : ℕ) (lo hi w : List ℕ) (e : Boundaries) (h : Held lo hi 
         few : leb (length es) maxEntries ≡ true
         few = le-leb (length es) maxEntries (rw en at h8)
 
-        pub index-large : maxSize < baseLen + 4 * n + e .lo .len + e .hi .len + s → No TooBig ≡ indexVerdict len next bs e es
+        index-large : maxSize < baseLen + 4 * n + e .lo .len + e .hi .len + s → No TooBig ≡ indexVerdict len next bs e es
         unfolding indexVerdict
         index-large q = rw (h6, h7, h10, few, lt-leb (indexSizeAt (e .lo .len) (e .hi .len) (e .prefix) es) maxSize (rw size-is at q)) refl
 
@@ -178,13 +178,55 @@ module _ (len next : ℕ) (lo hi w : List ℕ) (e : Boundaries) (h : Held lo hi 
           room-is : (t : Bool) → t ≡ leb (next + x) len → leb (next + frameLen (indexSizeAt (e .lo .len) (e .hi .len) (e .prefix) es)) len ≡ t
           room-is t q = sym (q ∙ ap (λ (k : ℕ). leb (next + k) len) (ex ∙ ap frameLen size-is))
 
-          pub index-full : (t : Bool) → t ≡ leb (next + x) len → t ≡ false → No NoRoom ≡ indexVerdict len next bs e es
+          index-full : (t : Bool) → t ≡ leb (next + x) len → t ≡ false → No NoRoom ≡ indexVerdict len next bs e es
           unfolding indexVerdict
           index-full t q f = rw (h6, h7, h10, few, small, room-is t q ∙ f) refl
 
-          pub index-fits : (t : Bool) → t ≡ leb (next + x) len → t ≡ true → Fits n (baseLen + 4 * n + e .lo .len + e .hi .len + s) ≡ indexVerdict len next bs e es
+          index-fits : (t : Bool) → t ≡ leb (next + x) len → t ≡ true → Fits n (baseLen + 4 * n + e .lo .len + e .hi .len + s) ≡ indexVerdict len next bs e es
           unfolding indexVerdict
           index-fits t q f = rw (h6, h7, h10, few, small, room-is t q ∙ f) (ap₂ Fits en size-is)
+
+-- ---- 8 and 9, weighed
+
+module _ (len next x y n s : ℕ) where
+  abbrev total : ℕ
+  total = baseLen + 4 * n + x + y + s
+
+  pub weigh-index-large : maxSize < total → No TooBig ≡ indexWeighed len next x y n s
+  unfolding indexWeighed
+  weigh-index-large q = rw (lt-leb total maxSize q) refl
+
+  module _ (hs : total ≤ maxSize) (f : ℕ) (ef : f ≡ frameLen total) (t : Bool) (et : t ≡ leb (next + f) len) where
+    fits-is : leb (next + frameLen total) len ≡ t
+    fits-is = sym (et ∙ ap (λ (k : ℕ). leb (next + k) len) ef)
+
+    pub weigh-index-full : t ≡ false → No NoRoom ≡ indexWeighed len next x y n s
+    unfolding indexWeighed
+    weigh-index-full q = rw (le-leb total maxSize hs, fits-is ∙ q) refl
+
+    pub weigh-index-fits : t ≡ true → Fits n total ≡ indexWeighed len next x y n s
+    unfolding indexWeighed
+    weigh-index-fits q = rw (le-leb total maxSize hs, fits-is ∙ q) refl
+
+module _ (len next : ℕ) (lo hi w : List ℕ) (e : Boundaries) (h : Held lo hi w e) (es : List Entry) (h6 : rising es ≡ true)
+    (h10 : enclosed (boundaryBytes lo w (e .lo)) (boundaryBytes hi w (e .hi)) es ≡ true) (n : ℕ) (en : n ≡ length es) (h8 : n ≤ maxEntries) (s : ℕ) (eq : s ≡ indexSums (e .prefix) es) where
+  abbrev whole : ℕ
+  whole = baseLen + 4 * n + e .lo .len + e .hi .len + s
+
+  -- it is what the table's rows say
+  pub index-weighed : indexWeighed len next (e .lo .len) (e .hi .len) n s ≡ indexVerdict len next (boundsOf lo hi w e) e es
+  index-weighed = go (leb whole maxSize) refl (leb (next + frameLen whole) len) refl
+    where
+      go : (a : Bool) → leb whole maxSize ≡ a → (b : Bool) → leb (next + frameLen whole) len ≡ b → indexWeighed len next (e .lo .len) (e .hi .len) n s ≡ indexVerdict len next (boundsOf lo hi w e) e es
+      go true p true q =
+          sym (weigh-index-fits len next (e .lo .len) (e .hi .len) n s (leb-true _ _ p) (frameLen whole) refl true (sym q) refl)
+          ∙ index-fits len next lo hi w e h es h6 h10 n en h8 s eq (leb-true _ _ p) (frameLen whole) refl true (sym q) refl
+      go true p false q =
+          sym (weigh-index-full len next (e .lo .len) (e .hi .len) n s (leb-true _ _ p) (frameLen whole) refl false (sym q) refl)
+          ∙ index-full len next lo hi w e h es h6 h10 n en h8 s eq (leb-true _ _ p) (frameLen whole) refl false (sym q) refl
+      go false p b q =
+          sym (weigh-index-large len next (e .lo .len) (e .hi .len) n s (leb-false _ _ p))
+          ∙ index-large len next lo hi w e h es h6 h10 n en h8 s eq (leb-false _ _ p)
 
 -- ---- what is built
 

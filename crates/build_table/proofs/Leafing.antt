@@ -5,7 +5,7 @@ use mathlib.Core.List.{List}
 use mathlib.Core.Bool.{Bool, true, false, cond}
 use Prim.Native.Nat.{ℕ, _+_, _*_, _≤_, _<_}
 use native.Mathlib.Omega.{arith}
-use borrow.Author.Tests.{leb-true, le-leb, lt-leb}
+use borrow.Author.Tests.{leb-true, leb-false, le-leb, lt-leb}
 use lib.Dec.{leb, eqb}
 use lib.ListN.{length, take, length-append}
 use Rattle.spans.specs.Span.{put}
@@ -23,15 +23,15 @@ use Rattle.build_image.specs.Image.{cutsOf, historyEnd, histAddrs, remoteAddrs,
 use Rattle.build_image.proofs.Leaf.{remotes, length-addrs, remotes-kinds, length-leaf-image}
 use Rattle.build_heads.specs.Steps.{Long}
 use Rattle.build_bounds.specs.declared.Boundaries.{Boundaries}
-use Rattle.build_bounds.specs.Boundaries.{BothWithin, boundsOf}
+use Rattle.build_bounds.specs.Boundaries.{BothWithin, boundaryBytes, boundsOf}
 use Rattle.build_bounds.proofs.Laws.{length-boundary}
 use Rattle.build_totals.specs.declared.Totals.{Totals}
-use Rattle.build_totals.specs.declared.Tally.{Tally}
-use Rattle.build_totals.specs.declared.Pages.{Pages}
+use Rattle.build_sweep.specs.declared.Tally.{Tally}
+use Rattle.build_sweep.specs.declared.Pages.{Pages}
 use Rattle.build_totals.specs.Totals.{leafAt, remoteAt, remotesOf, totalsOf}
-use Rattle.build_totals.specs.Tally.{nothing, tallyOf}
-use Rattle.build_totals.specs.Pages.{pagesOf}
-use Rattle.build_totals.proofs.Tallying.{heads-are, olds-are, sums-are, counted-are, remotes-are, remote-is}
+use Rattle.build_sweep.specs.Tally.{nothing, tallyOf}
+use Rattle.build_sweep.specs.Pages.{pagesOf}
+use Rattle.build_sweep.proofs.Tallying.{heads-are, olds-are, sums-are, counted-are, remotes-are, remote-is}
 use Rattle.build_totals.proofs.Paged.{hist-remotes}
 use Rattle.build_leaf.specs.Leaf.{Small}
 use Rattle.build_table.specs.declared.LeafVerdict.{LeafVerdict}
@@ -40,7 +40,7 @@ use Rattle.build_image.specs.declared.Built.the-variants.{At, Refused}
 use Rattle.build_image.specs.Table.{Row, judged}
 use Rattle.build_table.specs.Table.{outsideOf}
 use Rattle.build_table.specs.Index.{Held}
-use Rattle.build_table.specs.Leaf.{leafEnd, leafRows, leafAnswer, leafArena, leafVerdict}
+use Rattle.build_table.specs.Leaf.{leafEnd, leafRows, leafAnswer, leafArena, leafVerdict, weighed}
 use Rattle.build_image.proofs.Tables.{All, all-go, refuses, passes}
 use Rattle.build_table.proofs.Judging.{and-both, held-shared, held-long, held-prefixed, at-six, at-outside}
 
@@ -180,7 +180,7 @@ module _ (m : Call) (lo hi w : List ℕ) (e : Boundaries) (h : Held lo hi w e) (
         pay-is : size + room ≡ leafSize m b es + leafRoom m es
         pay-is = ap₂ (λ (x y : ℕ). x + y) size-is room-is
 
-        pub leaf-large : maxSize < size + room → No TooBig ≡ leafVerdict len next m b es
+        leaf-large : maxSize < size + room → No TooBig ≡ leafVerdict len next m b es
         unfolding leafVerdict
         leaf-large q = rw (h6, h7, h10, few, lt-leb (leafSize m b es + leafRoom m es) maxSize (rw pay-is at q)) refl
 
@@ -191,7 +191,7 @@ module _ (m : Call) (lo hi w : List ℕ) (e : Boundaries) (h : Held lo hi w e) (
           end-is : g .end + x + tl .remote ≡ leafEnd next m b es
           end-is = end-by m b next es (g .end) x (tl .remote) leaf-is (ex ∙ ap frameLen pay-is) remotes-len-is
 
-          pub leaf-full : len < g .end + x + tl .remote → No NoRoom ≡ leafVerdict len next m b es
+          leaf-full : len < g .end + x + tl .remote → No NoRoom ≡ leafVerdict len next m b es
           unfolding leafVerdict
           leaf-full q = rw (h6, h7, h10, few, small, lt-leb (leafEnd next m b es) len (rw end-is at q)) refl
 
@@ -199,13 +199,58 @@ module _ (m : Call) (lo hi w : List ℕ) (e : Boundaries) (h : Held lo hi w e) (
           unfolding leafVerdict
           fit-by q = rw (h6, h7, h10, few, small, le-leb (leafEnd next m b es) len (rw end-is at q)) refl
 
-          pub leaf-fits : g .end + x + tl .remote ≤ len
+          leaf-fits : g .end + x + tl .remote ≤ len
               → Fits (record { heads = tl .heads; olds = tl .olds; pages = g .count; remotes = tl .remotes; size = size; room = room; leaf = g .end; end = g .end + x + tl .remote }) ≡ leafVerdict len next m b es
           leaf-fits q =
               ap Fits
               (totals-by m b next es (tl .heads) (tl .olds) (g .count) (tl .remotes) size room (g .end) (g .end + x + tl .remote) heads-is olds-is pages-is remotes-is size-is room-is
               (leaf-by m next es (g .end) leaf-is) end-is)
               ∙ fit-by q
+
+-- ---- 8 and 9, weighed
+
+module _ (len x y : ℕ) (t : Tally) (g : Pages) (room : ℕ) (er : room ≡ roomOf (g .count) (t .counted)) where
+  abbrev all : ℕ
+  all = baseLen + 4 * t .heads + x + y + t .sums
+
+  pub weigh-large : maxSize < all + room → No TooBig ≡ weighed len x y t g
+  unfolding weighed
+  weigh-large q = rw (sym er, lt-leb (all + room) maxSize q) refl
+
+  module _ (hs : all + room ≤ maxSize) (f : ℕ) (ef : f ≡ frameLen (all + room)) where
+    pub weigh-full : len < g .end + f + t .remote → No NoRoom ≡ weighed len x y t g
+    unfolding weighed
+    weigh-full q = rw (sym er, le-leb (all + room) maxSize hs, sym ef, lt-leb (g .end + f + t .remote) len q) refl
+
+    pub weigh-fits : g .end + f + t .remote ≤ len
+        → Fits (record { heads = t .heads; olds = t .olds; pages = g .count; remotes = t .remotes; size = all; room = room; leaf = g .end; end = g .end + f + t .remote }) ≡ weighed len x y t g
+    unfolding weighed
+    weigh-fits q = rw (sym er, le-leb (all + room) maxSize hs, sym ef, le-leb (g .end + f + t .remote) len q) refl
+
+module _ (m : Call) (lo hi w : List ℕ) (e : Boundaries) (h : Held lo hi w e) (len next : ℕ) (es : List Entry) (h6 : rising es ≡ true)
+    (h10 : enclosed (boundaryBytes lo w (e .lo)) (boundaryBytes hi w (e .hi)) es ≡ true) (n : ℕ) (en : n ≡ length es) (h8 : n ≤ maxEntries)
+    (t : Tally) (et : t ≡ tallyOf (m .limit) (e .prefix) nothing es) (g : Pages) (eg : g ≡ pagesOf (m .limit) (m .budget) 0 next (only true es)) where
+  abbrev sum : ℕ
+  sum = baseLen + 4 * t .heads + e .lo .len + e .hi .len + t .sums
+
+  abbrev hints : ℕ
+  hints = roomOf (g .count) (t .counted)
+
+  abbrev top : ℕ
+  top = g .end + frameLen (sum + hints) + t .remote
+
+  -- it is what the table's rows say
+  pub leaf-weighed : weighed len (e .lo .len) (e .hi .len) t g ≡ leafVerdict len next m (boundsOf lo hi w e) es
+  leaf-weighed = go (leb (sum + hints) maxSize) refl (leb top len) refl
+    where
+      go : (a : Bool) → leb (sum + hints) maxSize ≡ a → (b : Bool) → leb top len ≡ b → weighed len (e .lo .len) (e .hi .len) t g ≡ leafVerdict len next m (boundsOf lo hi w e) es
+      go true p true q =
+          sym (weigh-fits len (e .lo .len) (e .hi .len) t g hints refl (leb-true _ _ p) (frameLen (sum + hints)) refl (leb-true _ _ q))
+          ∙ leaf-fits m lo hi w e h len next es h6 h10 n en h8 t et g eg hints refl (leb-true _ _ p) (frameLen (sum + hints)) refl (leb-true _ _ q)
+      go true p false q =
+          sym (weigh-full len (e .lo .len) (e .hi .len) t g hints refl (leb-true _ _ p) (frameLen (sum + hints)) refl (leb-false _ _ q))
+          ∙ leaf-full m lo hi w e h len next es h6 h10 n en h8 t et g eg hints refl (leb-true _ _ p) (frameLen (sum + hints)) refl (leb-false _ _ q)
+      go false p b q = sym (weigh-large len (e .lo .len) (e .hi .len) t g hints refl (leb-false _ _ p)) ∙ leaf-large m lo hi w e h len next es h6 h10 n en h8 t et g eg hints refl (leb-false _ _ p)
 
 -- ---- what is built
 

@@ -1,3 +1,4 @@
 -- The crate's laws.
 pub mod Judging
 pub mod Leafing
+pub mod Listing

@@ -1,13 +1,15 @@
 -- What a build of an index page answers and leaves, on its entries.
 -- Assumes nothing.
-use Prim.Native.Nat.{ℕ, _+_, _≤_}
+use Prim.Native.Nat.{ℕ, _+_, _*_, _≤_}
 use mathlib.Core.Path.{_≡_}
 use mathlib.Core.List.{List}
-use mathlib.Core.Bool.{true}
+use mathlib.Core.Bool.{true, cond}
+use lib.Dec.{leb}
 use lib.ListN.{length}
 use Rattle.spans.specs.Span.{put}
-use Rattle.frames.specs.Layout.{addr, frameLen}
-use Rattle.frames.specs.Limits.{maxKey}
+use Rattle.frames.specs.declared.Refusal.the-variants.{TooBig, NoRoom}
+use Rattle.frames.specs.Layout.{addr, baseLen, frameLen}
+use Rattle.frames.specs.Limits.{maxKey, maxSize}
 use Rattle.build_sources.specs.Source.{Entry}
 use Rattle.build_sources.specs.Judged.{rising, prefixed}
 use Rattle.build_image.specs.declared.Call.{Call}
@@ -46,6 +48,12 @@ unfolding rising prefixed indexSums
 indexVerdict len next b e es =
     let size = indexSizeAt (e .lo .len) (e .hi .len) (e .prefix) es in
     judged (entryRows true b es size (next + frameLen size) len) IndexVerdict.No (IndexVerdict.Fits (length es) size)
+
+-- 8 and 9 on the count of the entries and the size of their records; x and y are the lengths of the boundaries
+unfoldable pub indexWeighed : ℕ → ℕ → ℕ → ℕ → ℕ → ℕ → IndexVerdict
+indexWeighed len next x y n sums =
+    let size = baseLen + 4 * n + x + y + sums in
+    cond (leb size maxSize) (cond (leb (next + frameLen size) len) (IndexVerdict.Fits n size) (IndexVerdict.No NoRoom)) (IndexVerdict.No TooBig)
 
 -- what a judge is told of the boundaries: they lie in their slices, the prefix is what they have in common, and they are no longer than a key
 pub record Held (lo hi w : List ℕ) (e : Boundaries) : Type 0 where

@@ -10,7 +10,7 @@ use Rattle.frames.specs.declared.Refusal.the-variants.{OutOfOrder, WrongPrefix,
 use Rattle.frames.specs.Limits.{maxEntries, maxKey, maxSize}
 use Rattle.build_sources.specs.declared.Started.{Started}
 use Rattle.build_sources.specs.Lists.{begunOf, firstOf}
-use Rattle.build_sources.specs.Source.{Entry, wellFormed}
+use Rattle.build_sources.specs.Source.{Entry, entries, wellFormed}
 use Rattle.build_sources.specs.Judged.{rising, prefixed, enclosed}
 use Rattle.build_image.specs.Call.{limitsOk}
 use Rattle.build_image.specs.Image.{Borders}
@@ -31,6 +31,11 @@ isOpen Started.Bad = false
 
 abbrev pub listOk : List ℕ → List ℕ → ℕ → Bool
 listOk l w source = isOpen (begunOf l source) && wellFormed l w (firstOf source)
+
+-- what a list comes to: bad (3) where it does not end well, else what its entries come to
+unfoldable pub ofList {ℓ} : {X : Type ℓ} → List ℕ → List ℕ → ℕ → X → (List Entry → X) → X
+unfolding wellFormed entries
+ofList l w source bad go = cond (wellFormed l w (firstOf source)) (go (entries l w (firstOf source))) bad
 
 -- 6 OUT OF ORDER: "an entry not above the one before"; 7 WRONG PREFIX: "a key .. does not begin with the page's prefix"; 10 OUTSIDE:
 -- "a key below lo, or not below a nonempty hi, .. a lo not below a nonempty hi too, and a merge needs the left hi to equal the right lo"

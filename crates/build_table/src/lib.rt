@@ -6,6 +6,10 @@ use build_image::Built;
 use build_image::Call;
 use build_sources::Cursor;
 use build_sources::Risen;
+use build_sweep::IndexSwept;
+use build_sweep::Pages;
+use build_sweep::Swept;
+use build_sweep::Tally;
 use build_totals::Totals;
 use frames::Addr;
 use frames::BaseHeader;
@@ -15,10 +19,17 @@ ghost use Prim.Native.Nat.{_≤_};
 ghost use lib.ListN.{length, take};
 ghost use Rattle.build_sources.specs.Source.{entries};
 ghost use Rattle.build_sources.specs.Judged.{prefixed, risenOf};
-ghost use Rattle.build_bounds.specs.Boundaries.{Within, BothWithin, boundaryBytes, boundsOf};
-ghost use Rattle.build_table.specs.Table.{boundsOk, leafLimits, outsideOf, apartOf};
-ghost use Rattle.build_table.specs.Index.{Held, indexVerdict, indexAnswer, indexArena};
-ghost use Rattle.build_table.specs.Leaf.{leafVerdict, leafAnswer, leafArena};
+ghost use Rattle.build_bounds.specs.Boundaries.{Within, BothWithin, boundaryBytes, boundaryOf, boundsOf};
+ghost use Rattle.build_table.specs.Table.{boundsOk, leafLimits, ofList, outsideOf, apartOf};
+ghost use Rattle.frames.specs.declared.Refusal.{Refusal};
+ghost use Rattle.build_image.specs.declared.Built.{Built};
+ghost use Rattle.build_table.specs.declared.IndexVerdict.{IndexVerdict};
+ghost use Rattle.build_table.specs.declared.LeafVerdict.{LeafVerdict};
+ghost use Rattle.build_table.specs.Index.{Held, indexVerdict, indexAnswer, indexArena, indexWeighed};
+ghost use Rattle.build_table.specs.Leaf.{leafVerdict, leafAnswer, leafArena, weighed};
+ghost use Rattle.build_sources.specs.Lists.{firstOf};
+ghost use Rattle.build_sweep.specs.Bounds.{Bounded};
+ghost use Rattle.frames.specs.Limits.{maxEntries, maxKey};
 ghost use Rattle.build_history.specs.Runs.{Sane};
 
 // What the judge of an index page finds: the count of its entries and its size.
@@ -142,6 +153,23 @@ pub fn apart(
 
 // ---- index pages
 
+// 8 and 9 of an index page of n entries whose records take so many bytes; x and y are the lengths of the boundaries.
+fn weigh_index(len: usize, next: usize, x: usize, y: usize, n: usize, sums: usize) -> IndexVerdict
+    requires { ⌜ (x ≤ maxKey) × (y ≤ maxKey) ⌝ }
+    requires { ⌜ (n ≤ maxEntries) × (sums ≤ 269283315) ⌝ }
+    requires { ⌜ next ≤ len ⌝ }
+    ensures { λ r. ⌜ r ≡ indexWeighed len next x y n sums ⌝ }
+{
+    let size = BaseHeader::HDR_LEN + 4 * n + x + y + sums;
+    if BaseHeader::MAX_SIZE < size {
+        return IndexVerdict::No(Refusal::TooBig);
+    }
+    if !spans::room(len, next, frames::frame_len(size as u32)) {
+        return IndexVerdict::No(Refusal::NoRoom);
+    }
+    IndexVerdict::Fits(n, size)
+}
+
 // Judges the entries of an index page: 6, 7, 10, 8, 9. It writes nothing.
 pub fn judge_index(
     list: &[u8],
@@ -169,18 +197,8 @@ pub fn judge_index(
     if BaseHeader::MAX_ENTRIES < n {
         return IndexVerdict::No(Refusal::TooBig);
     }
-    let size = BaseHeader::HDR_LEN
-        + 4 * n
-        + x.len
-        + y.len
-        + build_index::index_sums(list, ground, from, p);
-    if BaseHeader::MAX_SIZE < size {
-        return IndexVerdict::No(Refusal::TooBig);
-    }
-    if !spans::room(len, next, frames::frame_len(size as u32)) {
-        return IndexVerdict::No(Refusal::NoRoom);
-    }
-    IndexVerdict::Fits(n, size)
+    let sums = build_index::index_sums(list, ground, from, p);
+    weigh_index(len, next, x.len, y.len, n, sums)
 }
 
 // Builds an index page of the entries from a cursor on.
@@ -211,6 +229,34 @@ pub fn build_index(
 }
 
 // ---- leaves
+
+// 8 and 9, on what a leaf's entries sum up to; x and y are the lengths of the boundaries.
+fn weigh(len: usize, x: usize, y: usize, t: Tally, g: Pages) -> LeafVerdict
+    requires { ⌜ (x ≤ maxKey) × (y ≤ maxKey) ⌝ }
+    requires { ⌜ Bounded t maxEntries ⌝ }
+    requires { ⌜ (g .end ≤ 9223372049745510307) × (g .count ≤ maxEntries) ⌝ }
+    ensures { λ r. ⌜ r ≡ weighed len x y t g ⌝ }
+{
+    let size = BaseHeader::HDR_LEN + 4 * t.heads + x + y + t.sums;
+    let room = build_totals::room_of(g.count, t.counted);
+    if BaseHeader::MAX_SIZE < size + room {
+        return LeafVerdict::No(Refusal::TooBig);
+    }
+    let end = g.end + frames::frame_len((size + room) as u32) + t.remote;
+    if len < end {
+        return LeafVerdict::No(Refusal::NoRoom);
+    }
+    LeafVerdict::Fits(Totals {
+        heads: t.heads,
+        olds: t.olds,
+        pages: g.count,
+        remotes: t.remotes,
+        size: size,
+        room: room,
+        leaf: g.end,
+        end: end,
+    })
+}
 
 // Judges the entries of a leaf: 6, 7, 10, 8, 9. It writes nothing.
 pub fn judge_leaf(
@@ -243,27 +289,7 @@ pub fn judge_leaf(
     }
     let t = build_totals::tally_up(list, ground, from, p, m.limit);
     let g = build_totals::count_pages(list, ground, from, next, m.limit, m.budget);
-    let pages = g.count;
-    let leaf = g.end;
-    let size = BaseHeader::HDR_LEN + 4 * t.heads + x.len + y.len + t.sums;
-    let room = build_totals::room_of(pages, t.counted);
-    if BaseHeader::MAX_SIZE < size + room {
-        return LeafVerdict::No(Refusal::TooBig);
-    }
-    let end = leaf + frames::frame_len((size + room) as u32) + t.remote;
-    if len < end {
-        return LeafVerdict::No(Refusal::NoRoom);
-    }
-    LeafVerdict::Fits(Totals {
-        heads: t.heads,
-        olds: t.olds,
-        pages: pages,
-        remotes: t.remotes,
-        size: size,
-        room: room,
-        leaf: leaf,
-        end: end,
-    })
+    weigh(len, x.len, y.len, t, g)
 }
 
 // Builds a leaf of the entries from a cursor on.
@@ -291,6 +317,172 @@ pub fn build_leaf(
             let end = t.end;
             let leaf = build_leaf::write_leaf(a, next, list, from, next, m, t, lo, hi, e);
             Built::At(Addr(leaf as u64), end)
+        }
+    }
+}
+
+// ---- a record list
+
+// The lowest number of a record list, by the passes over any source.
+fn judge_slowly(
+    list: &[u8],
+    ground: &[u8],
+    from: Cursor,
+    len: usize,
+    next: usize,
+    m: Call,
+    lo: &[u8],
+    hi: &[u8],
+    e: Boundaries,
+) -> LeafVerdict
+    requires { ⌜ from ≡ firstOf 0 ⌝ }
+    requires { ⌜ Held (now lo) (now hi) (now ground) e ⌝ }
+    requires { ⌜ Sane m ⌝ }
+    requires { ⌜ (next ≤ len) × (len ≤ 9223372036854775807) ⌝ }
+    ensures { λ r. ⌜ r ≡ ofList (now (list .entry)) (now (ground .entry)) 0 (LeafVerdict.No Refusal.BadList) (leafVerdict len next m (boundsOf (now (lo .entry)) (now (hi .entry)) (now (ground .entry)) e)) ⌝ }
+{
+    if !build_sources::well(list, ground, from) {
+        return LeafVerdict::No(Refusal::BadList);
+    }
+    judge_leaf(list, ground, from, len, next, m, lo, hi, e)
+}
+
+// Judges a record list: 3, 6, 7, 10, 8, 9. It writes nothing. One sweep accepts it; what the sweep does not accept is judged slowly.
+pub fn judge_list(
+    list: &[u8],
+    ground: &[u8],
+    from: Cursor,
+    len: usize,
+    next: usize,
+    m: Call,
+    lo: &[u8],
+    hi: &[u8],
+    e: Boundaries,
+) -> LeafVerdict
+    requires { ⌜ from ≡ firstOf 0 ⌝ }
+    requires { ⌜ (e .lo ≡ boundaryOf (now lo)) × (e .hi ≡ boundaryOf (now hi)) ⌝ }
+    requires { ⌜ Held (now lo) (now hi) (now ground) e ⌝ }
+    requires { ⌜ Sane m ⌝ }
+    requires { ⌜ (next ≤ len) × (len ≤ 9223372036854775807) ⌝ }
+    ensures { λ r. ⌜ r ≡ ofList (now (list .entry)) (now (ground .entry)) 0 (LeafVerdict.No Refusal.BadList) (leafVerdict len next m (boundsOf (now (lo .entry)) (now (hi .entry)) (now (ground .entry)) e)) ⌝ }
+{
+    let s = build_sweep::sweep_list(list, e.prefix, next, m.limit, m.budget);
+    let Swept::Fits(t, g, kat, klen) = s else {
+        return judge_slowly(list, ground, from, len, next, m, lo, hi, e);
+    };
+    if build_sweep::spans_ends(list, t.heads + t.olds, kat, klen, lo, hi) {
+        return weigh(len, lo.len(), hi.len(), t, g);
+    }
+    judge_slowly(list, ground, from, len, next, m, lo, hi, e)
+}
+
+// Builds a leaf of a record list, whose boundaries are the lent slices.
+pub fn build_list(
+    a: &mut [u8],
+    next: usize,
+    list: &[u8],
+    from: Cursor,
+    m: Call,
+    lo: &[u8],
+    hi: &[u8],
+    e: Boundaries,
+) -> Built
+    requires { ⌜ from ≡ firstOf 0 ⌝ }
+    requires { ⌜ (e .lo ≡ boundaryOf (now lo)) × (e .hi ≡ boundaryOf (now hi)) ⌝ }
+    requires { ⌜ next ≤ length (now a) ⌝ }
+    requires { ⌜ Held (now lo) (now hi) (take next (now a)) e ⌝ }
+    requires { ⌜ Sane m ⌝ }
+    ensures { λ r. ⌜ r ≡ ofList (now (list .entry)) (take next (now (a .entry))) 0 (Built.Refused Refusal.BadList) (leafAnswer (now (a .entry)) next m (boundsOf (now (lo .entry)) (now (hi .entry)) (take next (now (a .entry))) e)) ⌝ }
+    ensures { λ _. ⌜ now (a .exit) ≡ ofList (now (list .entry)) (take next (now (a .entry))) 0 (now (a .entry)) (leafArena (now (a .entry)) next m (boundsOf (now (lo .entry)) (now (hi .entry)) (take next (now (a .entry))) e)) ⌝ }
+{
+    let len = a.len();
+    let v = judge_list(list, &a[..next], from, len, next, m, lo, hi, e);
+    match v {
+        LeafVerdict::No(r) => Built::Refused(r),
+        LeafVerdict::Fits(t) => {
+            let end = t.end;
+            let leaf = build_leaf::write_leaf(a, next, list, from, next, m, t, lo, hi, e);
+            Built::At(Addr(leaf as u64), end)
+        }
+    }
+}
+
+// ---- an index list
+
+// The lowest number of an index list, by the passes over any source.
+fn index_slowly(
+    list: &[u8],
+    ground: &[u8],
+    from: Cursor,
+    len: usize,
+    next: usize,
+    lo: &[u8],
+    hi: &[u8],
+    e: Boundaries,
+) -> IndexVerdict
+    requires { ⌜ from ≡ firstOf 1 ⌝ }
+    requires { ⌜ Held (now lo) (now hi) (now ground) e ⌝ }
+    requires { ⌜ next ≤ len ⌝ }
+    ensures { λ r. ⌜ r ≡ ofList (now (list .entry)) (now (ground .entry)) 1 (IndexVerdict.No Refusal.BadList) (indexVerdict len next (boundsOf (now (lo .entry)) (now (hi .entry)) (now (ground .entry)) e) e) ⌝ }
+{
+    if !build_sources::well(list, ground, from) {
+        return IndexVerdict::No(Refusal::BadList);
+    }
+    judge_index(list, ground, from, len, next, lo, hi, e)
+}
+
+// Judges an index list: 3, 6, 7, 10, 8, 9. It writes nothing. One sweep accepts it; what the sweep does not accept is judged slowly.
+pub fn judge_index_list(
+    list: &[u8],
+    ground: &[u8],
+    from: Cursor,
+    len: usize,
+    next: usize,
+    lo: &[u8],
+    hi: &[u8],
+    e: Boundaries,
+) -> IndexVerdict
+    requires { ⌜ from ≡ firstOf 1 ⌝ }
+    requires { ⌜ (e .lo ≡ boundaryOf (now lo)) × (e .hi ≡ boundaryOf (now hi)) ⌝ }
+    requires { ⌜ Held (now lo) (now hi) (now ground) e ⌝ }
+    requires { ⌜ next ≤ len ⌝ }
+    ensures { λ r. ⌜ r ≡ ofList (now (list .entry)) (now (ground .entry)) 1 (IndexVerdict.No Refusal.BadList) (indexVerdict len next (boundsOf (now (lo .entry)) (now (hi .entry)) (now (ground .entry)) e) e) ⌝ }
+{
+    let s = build_sweep::sweep_index(list, e.prefix);
+    let IndexSwept::Fits(n, sums, kat, klen) = s else {
+        return index_slowly(list, ground, from, len, next, lo, hi, e);
+    };
+    if build_sweep::spans_ends(list, n, kat, klen, lo, hi) {
+        return weigh_index(len, next, lo.len(), hi.len(), n, sums);
+    }
+    index_slowly(list, ground, from, len, next, lo, hi, e)
+}
+
+// Builds an index page of an index list, whose boundaries are the lent slices.
+pub fn build_index_list(
+    a: &mut [u8],
+    next: usize,
+    list: &[u8],
+    from: Cursor,
+    m: Call,
+    lo: &[u8],
+    hi: &[u8],
+    e: Boundaries,
+) -> Built
+    requires { ⌜ from ≡ firstOf 1 ⌝ }
+    requires { ⌜ (e .lo ≡ boundaryOf (now lo)) × (e .hi ≡ boundaryOf (now hi)) ⌝ }
+    requires { ⌜ next ≤ length (now a) ⌝ }
+    requires { ⌜ Held (now lo) (now hi) (take next (now a)) e ⌝ }
+    ensures { λ r. ⌜ r ≡ ofList (now (list .entry)) (take next (now (a .entry))) 1 (Built.Refused Refusal.BadList) (indexAnswer (now (a .entry)) next m (boundsOf (now (lo .entry)) (now (hi .entry)) (take next (now (a .entry))) e)) ⌝ }
+    ensures { λ _. ⌜ now (a .exit) ≡ ofList (now (list .entry)) (take next (now (a .entry))) 1 (now (a .entry)) (indexArena (now (a .entry)) next m (boundsOf (now (lo .entry)) (now (hi .entry)) (take next (now (a .entry))) e)) ⌝ }
+{
+    let len = a.len();
+    let v = judge_index_list(list, &a[..next], from, len, next, lo, hi, e);
+    match v {
+        IndexVerdict::No(r) => Built::Refused(r),
+        IndexVerdict::Fits(n, size) => {
+            build_index::write_index(a, next, list, from, next, m, n, size, lo, hi, e);
+            Built::At(Addr(next as u64), next + frames::frame_len(size as u32))
         }
     }
 }

@@ -1,19 +1,18 @@
 -- Every entry of a source keeps document 01's lengths: what the source's step says of each.
 -- Assumes nothing. Belongs in sources.
-use mathlib.Core.Path.{_≡_, refl, sym, ap, _∙_, subst}
+use mathlib.Core.Path.{_≡_, refl, sym, subst}
 use mathlib.Core.List.{List, [], _∷_}
 use mathlib.Core.Bool.{Bool, true, false, cond}
-use Prim.Native.Nat.{ℕ, zero, suc, _+_, _*_, _≤_, _<_}
+use Prim.Native.Nat.{ℕ, zero, suc, _*_, _≤_, _<_}
 use native.Mathlib.Omega.{arith}
-use lib.ListN.{length, take, drop}
+use lib.ListN.{length, take}
 use Rattle.frames.specs.Limits.{maxValue}
 use Rattle.build_sources.specs.declared.Cursor.{Cursor}
-use Rattle.build_sources.specs.declared.EntryAt.{EntryAt}
 use Rattle.build_sources.specs.declared.EntryRead.{EntryRead}
 use Rattle.build_sources.specs.declared.EntryRead.the-variants.{Got, End, Bad}
-use Rattle.build_sources.specs.Source.{Entry, nextOf, leftOf, entryOf, entries, only, wanted}
-use Rattle.build_sources.proofs.Sourced.{Found, found, ended, odd}
-use Rattle.build_image.specs.Sizes.{remoteLen, remotesLen}
+use Rattle.build_sources.specs.Source.{Entry, nextOf, leftOf, entries, only, wanted}
+use Rattle.build_sources.proofs.Sourced.{found, ended, odd}
+use Rattle.build_image.specs.Sizes.{remotesLen}
 use Rattle.build_image.proofs.Lengths.{remote-most}
 
 abbrev pub Fine : List Entry → Type 0

@@ -1,27 +1,26 @@
 -- Measuring the history pages one by one; and how many remotes the hints will list.
 -- Assumes nothing.
 use mathlib.Core.Path.{_≡_, refl, sym, ap, ap₂, _∙_}
-use mathlib.Core.List.{List, [], _∷_, _++_}
-use mathlib.Core.Bool.{Bool, true, false, cond}
+use mathlib.Core.List.{List, [], _∷_}
+use mathlib.Core.Bool.{true}
 use Prim.Native.Nat.{ℕ, zero, suc, _+_, _-_, _*_, _≤_, _<_}
 use native.Mathlib.Omega.{arith}
 use lib.ListN.{length, take, drop, length-append, length-drop, length-take}
 use Rattle.frames.specs.Layout.{frameLen}
 use Rattle.frames.specs.Limits.{maxBudget, maxEntries, maxLimit}
 use Rattle.build_paging.specs.Cuts.{cutsFrom, cuts, firstCut}
-use Rattle.build_paging.proofs.Cutting.{told, first-some, cuts-nil}
+use Rattle.build_paging.proofs.Cutting.{told, first-some}
 use Rattle.build_sources.specs.declared.Cursor.{Cursor}
 use Rattle.build_sources.specs.Source.{Entry, entries, only, Skipped}
-use Rattle.build_image.specs.Sizes.{cost, costsOf, remotesLen}
+use Rattle.build_image.specs.Sizes.{cost, costsOf}
 use Rattle.build_image.specs.Image.{histSize, pageEnd, historyEnd, remoteAddrs, histAddrs}
 use Rattle.build_image.proofs.Lengths.{frame-most, costs-drop}
 use Rattle.build_image.proofs.Leaf.{remotes, length-addrs, remotes-cut}
 use Rattle.build_history.specs.declared.PageAhead.{PageAhead}
 use Rattle.build_history.specs.Runs.{runOf}
 use Rattle.build_history.proofs.Ahead.{Tells, tells-of}
-use Rattle.build_totals.specs.declared.Pages.{Pages}
-use Rattle.build_totals.specs.Pages.{pagesOf}
-use Rattle.build_totals.proofs.Fine.{Fine, fine, fine-only, fine-take, remotes-most}
+use Rattle.build_sweep.specs.Pages.{pagesOf}
+use Rattle.build_totals.proofs.Fine.{fine, fine-only, fine-take, remotes-most}
 
 abbrev pub cutsAt : ℕ → ℕ → List Entry → List ℕ
 cutsAt limit budget os = cuts budget (costsOf limit os)

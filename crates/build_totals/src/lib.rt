@@ -2,21 +2,18 @@
 use build_sources::Cursor;
 use build_sources::EntryAt;
 use build_sources::EntryRead;
-use frames::Addr;
-use values::Val;
+use build_sweep::Pages;
+use build_sweep::Tally;
 ghost use mathlib.Core.Path.{_≡_};
-ghost use mathlib.Core.Bool.{true, cond};
+ghost use mathlib.Core.Bool.{true};
 ghost use Prim.Native.Nat.{_+_, _≤_};
 ghost use lib.ListN.{length};
-ghost use lib.Dec.{ltb, eqb};
 ghost use Rattle.frames.specs.Limits.{maxBudget, maxEntries, maxKey, maxLimit, maxValue};
-ghost use Rattle.values.specs.Vals.{sizeOf};
 ghost use Rattle.build_sources.specs.Source.{entries, only};
 ghost use Rattle.build_image.specs.Sizes.{roomOf};
-ghost use Rattle.build_heads.specs.Steps.{Long};
-ghost use Rattle.build_totals.specs.Tally.{nothing, withOld, withHead, withOne, tallyOf};
-ghost use Rattle.build_totals.specs.Pages.{pagesOf};
-ghost use Rattle.build_totals.specs.Bounds.{Bounded};
+ghost use Rattle.build_sweep.specs.Tally.{nothing, withOne, tallyOf};
+ghost use Rattle.build_sweep.specs.Pages.{pagesOf};
+ghost use Rattle.build_sweep.specs.Bounds.{Bounded};
 
 // What a leaf build writes: heads, old versions, history pages, remotes, the page's size and its hints' room, its address, and the
 // new next free address.
@@ -31,104 +28,25 @@ pub struct Totals {
     pub end: usize,
 }
 
-// The same under way, entry by entry; `after` says that the entry before is a head.
-pub struct Tally {
-    pub heads: usize,
-    pub olds: usize,
-    pub sums: usize,
-    pub counted: usize,
-    pub remotes: usize,
-    pub remote: usize,
-    pub after: bool,
-}
-
-// History pages: how many, and where they end.
-pub struct Pages {
-    pub count: usize,
-    pub end: usize,
-}
-
 // ---- one entry
-
-fn remote_one(limit: usize, n: usize) -> usize
-    ensures { λ r. ⌜ r ≡ cond (ltb n limit) 0 1 ⌝ }
-{
-    if n < limit { 0 } else { 1 }
-}
-
-fn counted_one(limit: usize, n: usize, kept: Addr) -> usize
-    ensures { λ r. ⌜ r ≡ cond (ltb n limit) (cond (eqb (kept .0) 0) 0 1) 1 ⌝ }
-{
-    if n < limit {
-        if kept.0 == 0 {
-            return 0;
-        }
-        return 1;
-    }
-    1
-}
-
-fn second(after: bool, limit: usize, n: usize) -> usize
-    requires { ⌜ n ≤ maxValue ⌝ }
-    ensures { λ r. ⌜ r ≡ cond after (sizeOf true limit n) 0 ⌝ }
-{
-    if after {
-        return Val::calc_size(true, limit, n as u32);
-    }
-    0
-}
-
-fn with_old(limit: usize, t: Tally, n: usize, kept: Addr) -> Tally
-    requires { ⌜ n ≤ maxValue ⌝ }
-    requires { ⌜ Bounded t maxEntries ⌝ }
-    ensures { λ r. ⌜ r ≡ withOld limit t n (kept .0) ⌝ }
-{
-    Tally {
-        heads: t.heads,
-        olds: t.olds + 1,
-        sums: t.sums + second(t.after, limit, n),
-        counted: t.counted + counted_one(limit, n, kept),
-        remotes: t.remotes + remote_one(limit, n),
-        remote: t.remote,
-        after: false,
-    }
-}
-
-fn with_head(limit: usize, p: usize, t: Tally, k: usize, n: usize, kept: Addr) -> Tally
-    requires { ⌜ n ≤ maxValue ⌝ }
-    requires { ⌜ (k ≤ maxKey) × (p ≤ k) ⌝ }
-    requires { ⌜ Bounded t maxEntries ⌝ }
-    ensures { λ r. ⌜ r ≡ withHead limit p t k n (kept .0) ⌝ }
-{
-    Tally {
-        heads: t.heads + 1,
-        olds: t.olds,
-        sums: t.sums + (build_heads::key_len(p, k) + Val::calc_size(false, limit, n as u32)),
-        counted: t.counted + counted_one(limit, n, kept),
-        remotes: t.remotes + remote_one(limit, n),
-        remote: t.remote + build_image::remote_len(limit, n, kept),
-        after: true,
-    }
-}
 
 fn with_one(limit: usize, p: usize, t: Tally, i: EntryAt) -> Tally
     requires { ⌜ i .vlen ≤ maxValue ⌝ }
-    requires { ⌜ (i .key .plen + i .key .klen ≤ maxKey) × (p ≤ i .key .plen + i .key .klen) ⌝ }
+    requires { ⌜ i .key .plen + i .key .klen ≤ maxKey ⌝ }
     requires { ⌜ Bounded t maxEntries ⌝ }
     ensures { λ r. ⌜ r ≡ withOne limit p t (i .old) (i .key .plen + i .key .klen) (i .vlen) (i .kept .0) ⌝ }
 {
     let k = i.key;
     let kept = i.kept;
     if i.old {
-        return with_old(limit, t, i.vlen, kept);
+        return build_sweep::with_old(limit, t, i.vlen, kept);
     }
-    with_head(limit, p, t, k.plen + k.klen, i.vlen, kept)
+    build_sweep::with_head(limit, p, t, k.plen + k.klen, i.vlen, kept)
 }
 
 // ---- all entries
 
 pub fn tally_up(list: &[u8], ground: &[u8], from: Cursor, p: usize, limit: usize) -> Tally
-    requires { ⌜ Long p (entries (now list) (now ground) from) ⌝ }
     requires { ⌜ length (entries (now list) (now ground) from) ≤ maxEntries ⌝ }
     ensures { λ r. ⌜ r ≡ tallyOf limit p nothing (entries (now (list .entry)) (now (ground .entry)) from) ⌝ }
     ensures { λ r. ⌜ Bounded r maxEntries ⌝ }

@@ -1,23 +1,14 @@
-use mathlib.Core.Path.{refl, sym, _∙_}
+-- `base::new_leaf` meets its contract. Assumes nothing.
+use mathlib.Core.Path.{refl}
 use borrow.Author.Tests.{not-true, not-false}
 use denote.Ref.{now}
-use lib.Seq.{length-take-le}
+use mathlib.Core.List.{[]}
 use Rattle.build_image.specs.Call.{callOf}
 use Rattle.base.specs.Calls.{boundsFrom}
-use Rattle.base.proofs.Calls.{next-ground, held, bounds-are, list-bad, at-first, list-is, bounds-ok, sane, new-one, new-two, new-three, new-on}
+use Rattle.base.proofs.Calls.{next-ground, held, bounds-are, list-bad, at-first, list-opens, bounds-ok, sane, new-one, new-two, new-three, new-list}
 use borrow.Author.Needs.{needs}
 use Rattle.base.proofs.new_leaf.Statement.{statement}
 use Rattle.base.proofs.new_leaf.Tie as tie
-use Rattle.base.proofs.new_leaf.Reads as reads
-use Rattle.base.proofs.new_leaf.Lts as lts
-use Rattle.base.proofs.calc_prefix.Reads as calc-prefix-reads
-use Rattle.build_image.proofs.call_of.Reads as call-of-reads
-use Rattle.build_table.proofs.build_leaf.Reads as build-leaf-reads
-use Rattle.build_table.proofs.limits_ok.Reads as limits-ok-reads
-use Rattle.build_image.proofs.next_ok.Reads as next-ok-reads
-use Rattle.build_bounds.proofs.boundary_of.Reads as boundary-of-reads
-use Rattle.build_sources.proofs.open_records.Reads as open-records-reads
-use Rattle.build_sources.proofs.well.Reads as well-reads
 
 limits-ok-requires : tie.Need-limits-ok-requires
 limits-ok-requires c κs = search needs
@@ -43,21 +34,6 @@ enum-told c = search needs
 returns-3 : tie.Need-returns-3
 returns-3 c = new-three _ _ _ (callOf (c .before .before .before .before .before .before .before .before .before .before .before .args .limit) (c .before .before .before .before .before .before .before .before .before .before .before .args .budget) (c .before .before .before .before .before .before .before .before .before .before .before .args .group) (c .before .before .before .before .before .before .before .before .before .before .before .args .txid) (c .before .before .before .before .before .before .before .before .before .before .before .args .lsn) (c .before .before .before .before .before .before .before .before .before .before .before .args .checkpoint)) (boundsFrom (now (c .before .before .before .before .before .before .before .before .before .before .before .args .lo)) (now (c .before .before .before .before .before .before .before .before .before .before .before .args .hi)) (c .before .before .before .before .before .before .before .before .before .before .before .args .sibling .0)) _ (c .before .before .before .before .before .before .limits-ok .ensures) (not-false _ (c .before .before .before .before .before .if1 .left)) _ (c .before .before .before .before .next-ok .ensures) (not-false _ (c .before .before .before .if2 .left)) (list-bad _ _ _ _ (c .before .before .open-records .ensures) (c .enum-told .given .1))
 
-slice-reshare-prefix-well : tie.Need-slice-reshare-prefix-well
-slice-reshare-prefix-well c = next-ground _ _ _ (c .before .before .before .before .before .next-ok .ensures) (not-false _ (c .before .before .before .before .if2 .left))
-
-slice-aggregate-well : tie.Need-slice-aggregate-well
-slice-aggregate-well c = sym (length-take-le _ _ (next-ground _ _ _ (c .before .before .before .before .before .before .next-ok .ensures) (not-false _ (c .before .before .before .before .before .if2 .left))))
-
-well-requires : tie.Need-well-requires
-well-requires c κs = search needs
-
-same-length : tie.Need-same-length
-same-length c = search needs
-
-returns-4 : tie.Need-returns-4
-returns-4 c = new-three _ _ _ (callOf (c .before .before .before .before .before .before .before .before .before .before .before .before .before .before .before .args .limit) (c .before .before .before .before .before .before .before .before .before .before .before .before .before .before .before .args .budget) (c .before .before .before .before .before .before .before .before .before .before .before .before .before .before .before .args .group) (c .before .before .before .before .before .before .before .before .before .before .before .before .before .before .before .args .txid) (c .before .before .before .before .before .before .before .before .before .before .before .before .before .before .before .args .lsn) (c .before .before .before .before .before .before .before .before .before .before .before .before .before .before .before .args .checkpoint)) (boundsFrom (now (c .before .before .before .before .before .before .before .before .before .before .before .before .before .before .before .args .lo)) (now (c .before .before .before .before .before .before .before .before .before .before .before .before .before .before .before .args .hi)) (c .before .before .before .before .before .before .before .before .before .before .before .before .before .before .before .args .sibling .0)) _ (c .before .before .before .before .before .before .before .before .before .before .limits-ok .ensures) (not-false _ (c .before .before .before .before .before .before .before .before .before .if1 .left)) _ (c .before .before .before .before .before .before .before .before .next-ok .ensures) (not-false _ (c .before .before .before .before .before .before .before .if2 .left)) (list-is _ _ _ _ (c .before .before .before .before .before .before .open-records .ensures) _ (c .before .before .before .before .b .given .1) _ (c .before .well .ensures) ∙ not-true _ (c .if3 .taken))
-
 call-of-requires : tie.Need-call-of-requires
 call-of-requires c κs = search needs
 
@@ -70,14 +46,14 @@ boundary-of-requires-2 c κs = search needs
 calc-prefix-requires : tie.Need-calc-prefix-requires
 calc-prefix-requires c κs = search needs
 
-build-leaf-requires : tie.Need-build-leaf-requires
-build-leaf-requires c κs = (next-ground _ _ _ (c .before .before .before .before .before .before .before .before .before .before .before .before .before .next-ok .ensures) (not-false _ (c .before .before .before .before .before .before .before .before .before .before .before .before .if2 .left)), (held (now (c .before .before .before .before .before .before .before .before .before .before .before .before .before .before .before .before .before .before .before .before .args .lo)) (now (c .before .before .before .before .before .before .before .before .before .before .before .before .before .before .before .before .before .before .before .before .args .hi)) _ _ _ _ _ (c .before .before .before .boundary-of .ensures) (c .before .before .boundary-of2 .ensures) (c .before .calc-prefix .ensures) _ (bounds-ok (c .before .before .before .before .before .before .before .before .before .before .before .before .before .before .before .before .before .before .before .before .args .limit) (c .before .before .before .before .before .before .before .before .before .before .before .before .before .before .before .before .before .before .before .before .args .budget) (now (c .before .before .before .before .before .before .before .before .before .before .before .before .before .before .before .before .before .before .before .before .args .lo)) (now (c .before .before .before .before .before .before .before .before .before .before .before .before .before .before .before .before .before .before .before .before .args .hi)) _ (c .before .before .before .before .before .before .before .before .before .before .before .before .before .before .before .limits-ok .ensures) (not-false _ (c .before .before .before .before .before .before .before .before .before .before .before .before .before .before .if1 .left))) refl, rw (c .before .before .before .before .call-of .ensures) (sane (c .before .before .before .before .before .before .before .before .before .before .before .before .before .before .before .before .before .before .before .before .args .limit) (c .before .before .before .before .before .before .before .before .before .before .before .before .before .before .before .before .before .before .before .before .args .budget) (now (c .before .before .before .before .before .before .before .before .before .before .before .before .before .before .before .before .before .before .before .before .args .lo)) (now (c .before .before .before .before .before .before .before .before .before .before .before .before .before .before .before .before .before .before .before .before .args .hi)) _ (c .before .before .before .before .before .before .before .before .before .before .before .before .before .before .before .limits-ok .ensures) (not-false _ (c .before .before .before .before .before .before .before .before .before .before .before .before .before .before .if1 .left)) _ _ _)))
+build-list-requires : tie.Need-build-list-requires
+build-list-requires c κs = (at-first _ [] _ _ (c .before .before .before .before .before .before .before .before .open-records .ensures) _ (c .before .before .before .before .before .before .b .given .1), ((c .before .before .before .boundary-of .ensures, c .before .before .boundary-of2 .ensures), (next-ground _ _ _ (c .before .before .before .before .before .before .before .before .before .before .next-ok .ensures) (not-false _ (c .before .before .before .before .before .before .before .before .before .if2 .left)), (held (now (c .before .before .before .before .before .before .before .before .before .before .before .before .before .before .before .before .before .args .lo)) (now (c .before .before .before .before .before .before .before .before .before .before .before .before .before .before .before .before .before .args .hi)) _ _ _ _ _ (c .before .before .before .boundary-of .ensures) (c .before .before .boundary-of2 .ensures) (c .before .calc-prefix .ensures) _ (bounds-ok (c .before .before .before .before .before .before .before .before .before .before .before .before .before .before .before .before .before .args .limit) (c .before .before .before .before .before .before .before .before .before .before .before .before .before .before .before .before .before .args .budget) (now (c .before .before .before .before .before .before .before .before .before .before .before .before .before .before .before .before .before .args .lo)) (now (c .before .before .before .before .before .before .before .before .before .before .before .before .before .before .before .before .before .args .hi)) _ (c .before .before .before .before .before .before .before .before .before .before .before .before .limits-ok .ensures) (not-false _ (c .before .before .before .before .before .before .before .before .before .before .before .if1 .left))) refl, rw (c .before .before .before .before .call-of .ensures) (sane (c .before .before .before .before .before .before .before .before .before .before .before .before .before .before .before .before .before .args .limit) (c .before .before .before .before .before .before .before .before .before .before .before .before .before .before .before .before .before .args .budget) (now (c .before .before .before .before .before .before .before .before .before .before .before .before .before .before .before .before .before .args .lo)) (now (c .before .before .before .before .before .before .before .before .before .before .before .before .before .before .before .before .before .args .hi)) _ (c .before .before .before .before .before .before .before .before .before .before .before .before .limits-ok .ensures) (not-false _ (c .before .before .before .before .before .before .before .before .before .before .before .if1 .left)) _ _ _)))))
 
-same-length-2 : tie.Need-same-length-2
-same-length-2 c = search needs
+same-length : tie.Need-same-length
+same-length c = search needs
 
-returns-5 : tie.Need-returns-5
-returns-5 c = new-on _ _ _ (callOf (c .before .before .before .before .before .before .before .before .before .before .before .before .before .before .before .before .before .before .before .before .before .before .before .args .limit) (c .before .before .before .before .before .before .before .before .before .before .before .before .before .before .before .before .before .before .before .before .before .before .before .args .budget) (c .before .before .before .before .before .before .before .before .before .before .before .before .before .before .before .before .before .before .before .before .before .before .before .args .group) (c .before .before .before .before .before .before .before .before .before .before .before .before .before .before .before .before .before .before .before .before .before .before .before .args .txid) (c .before .before .before .before .before .before .before .before .before .before .before .before .before .before .before .before .before .before .before .before .before .before .before .args .lsn) (c .before .before .before .before .before .before .before .before .before .before .before .before .before .before .before .before .before .before .before .before .before .before .before .args .checkpoint)) (boundsFrom (now (c .before .before .before .before .before .before .before .before .before .before .before .before .before .before .before .before .before .before .before .before .before .before .before .args .lo)) (now (c .before .before .before .before .before .before .before .before .before .before .before .before .before .before .before .before .before .before .before .before .before .before .before .args .hi)) (c .before .before .before .before .before .before .before .before .before .before .before .before .before .before .before .before .before .before .before .before .before .before .before .args .sibling .0)) _ (c .before .before .before .before .before .before .before .before .before .before .before .before .before .before .before .before .before .before .limits-ok .ensures) (not-false _ (c .before .before .before .before .before .before .before .before .before .before .before .before .before .before .before .before .before .if1 .left)) _ (c .before .before .before .before .before .before .before .before .before .before .before .before .before .before .before .before .next-ok .ensures) (not-false _ (c .before .before .before .before .before .before .before .before .before .before .before .before .before .before .before .if2 .left)) (list-is _ _ _ _ (c .before .before .before .before .before .before .before .before .before .before .before .before .before .before .open-records .ensures) _ (c .before .before .before .before .before .before .before .before .before .before .before .before .b .given .1) _ (c .before .before .before .before .before .before .before .before .before .well .ensures) ∙ not-false _ (c .before .before .before .before .before .before .before .before .if3 .left)) _ _ _ _ _ (c .before .before .before .before .before .before .before .call-of .ensures) (bounds-are (now (c .before .before .before .before .before .before .before .before .before .before .before .before .before .before .before .before .before .before .before .before .before .before .before .args .lo)) (now (c .before .before .before .before .before .before .before .before .before .before .before .before .before .before .before .before .before .before .before .before .before .before .before .args .hi)) _ _ _ _ _ (c .before .before .before .before .before .before .boundary-of .ensures) (c .before .before .before .before .before .boundary-of2 .ensures) (c .before .before .before .before .calc-prefix .ensures)) (at-first _ (now (c .before .before .before .before .before .before .before .before .before .before .before .before .before .before .before .before .before .before .before .before .before .before .before .args .list)) _ _ (c .before .before .before .before .before .before .before .before .before .before .before .before .before .before .open-records .ensures) _ (c .before .before .before .before .before .before .before .before .before .before .before .before .b .given .1)) (c .before .before .build-leaf .ensures .0) (c .before .before .build-leaf .ensures .1)
+returns-4 : tie.Need-returns-4
+returns-4 c = new-list _ _ _ (callOf (c .before .before .before .before .before .before .before .before .before .before .before .before .before .before .before .before .before .before .before .before .args .limit) (c .before .before .before .before .before .before .before .before .before .before .before .before .before .before .before .before .before .before .before .before .args .budget) (c .before .before .before .before .before .before .before .before .before .before .before .before .before .before .before .before .before .before .before .before .args .group) (c .before .before .before .before .before .before .before .before .before .before .before .before .before .before .before .before .before .before .before .before .args .txid) (c .before .before .before .before .before .before .before .before .before .before .before .before .before .before .before .before .before .before .before .before .args .lsn) (c .before .before .before .before .before .before .before .before .before .before .before .before .before .before .before .before .before .before .before .before .args .checkpoint)) (boundsFrom (now (c .before .before .before .before .before .before .before .before .before .before .before .before .before .before .before .before .before .before .before .before .args .lo)) (now (c .before .before .before .before .before .before .before .before .before .before .before .before .before .before .before .before .before .before .before .before .args .hi)) (c .before .before .before .before .before .before .before .before .before .before .before .before .before .before .before .before .before .before .before .before .args .sibling .0)) _ (c .before .before .before .before .before .before .before .before .before .before .before .before .before .before .before .limits-ok .ensures) (not-false _ (c .before .before .before .before .before .before .before .before .before .before .before .before .before .before .if1 .left)) _ (c .before .before .before .before .before .before .before .before .before .before .before .before .before .next-ok .ensures) (not-false _ (c .before .before .before .before .before .before .before .before .before .before .before .before .if2 .left)) (list-opens (now (c .before .before .before .before .before .before .before .before .before .before .before .before .before .before .before .before .before .before .before .before .args .list)) _ _ _ (c .before .before .before .before .before .before .before .before .before .before .before .open-records .ensures) _ (c .before .before .before .before .before .before .before .before .before .b .given .1)) _ _ _ _ (c .before .before .before .before .before .before .before .call-of .ensures) (bounds-are (now (c .before .before .before .before .before .before .before .before .before .before .before .before .before .before .before .before .before .before .before .before .args .lo)) (now (c .before .before .before .before .before .before .before .before .before .before .before .before .before .before .before .before .before .before .before .before .args .hi)) _ _ _ _ _ (c .before .before .before .before .before .before .boundary-of .ensures) (c .before .before .before .before .before .boundary-of2 .ensures) (c .before .before .before .before .calc-prefix .ensures)) (c .before .before .build-list .ensures .0) (c .before .before .build-list .ensures .1)
 
 pub new-leaf-spec : {M : Type 1} → statement M
 new-leaf-spec =
@@ -91,15 +67,10 @@ new-leaf-spec =
     enum-known-b
     enum-told
     returns-3
-    slice-reshare-prefix-well
-    slice-aggregate-well
-    well-requires
-    same-length
-    returns-4
     call-of-requires
     boundary-of-requires
     boundary-of-requires-2
     calc-prefix-requires
-    build-leaf-requires
-    same-length-2
-    returns-5)
+    build-list-requires
+    same-length
+    returns-4)

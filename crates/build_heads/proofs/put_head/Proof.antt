@@ -2,7 +2,7 @@ use native.Mathlib.Omega.{arith}
 use mathlib.Core.Path.{_≡_, refl, sym, ap, _∙_}
 use Prim.Native.Nat.{_+_}
 use lib.Dec.{ltb}
-use Rattle.build_heads.proofs.Slots.{key-most, size-most}
+use Rattle.build_image.proofs.Lengths.{key-most, size-most}
 use Rattle.build_heads.proofs.HeadPass.{rec-none, rec-room, rec-one, rec-long, some-any, old-of}
 use borrow.Author.Needs.{needs}
 use Rattle.build_heads.proofs.put_head.Statement.{statement}

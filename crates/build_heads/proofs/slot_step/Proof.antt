@@ -1,7 +1,8 @@
 use native.Mathlib.Omega.{arith}
 use mathlib.Core.Path.{_≡_, refl, sym}
 use Prim.Native.Nat.{_+_}
-use Rattle.build_heads.proofs.Slots.{step-old, step-head, key-most, size-most}
+use Rattle.build_heads.proofs.Slots.{step-old, step-head}
+use Rattle.build_image.proofs.Lengths.{key-most, size-most}
 use borrow.Author.Needs.{needs}
 use Rattle.build_heads.proofs.slot_step.Statement.{statement}
 use Rattle.build_heads.proofs.slot_step.Tie as tie

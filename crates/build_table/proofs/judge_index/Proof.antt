@@ -6,7 +6,7 @@ use denote.Ref.{now}
 use Rattle.build_sources.specs.Source.{entries}
 use Rattle.build_table.specs.declared.IndexVerdict.the-variants.{No}
 use Rattle.build_sources.proofs.Judging.{risen-up, risen-not}
-use Rattle.build_table.proofs.Judging.{held-shared, held-long, held-prefixed, index-six, index-outside, index-many, index-large, index-full, index-fits}
+use Rattle.build_table.proofs.Judging.{held-shared, held-long, held-prefixed, index-six, index-outside, index-many, index-weighed}
 use borrow.Author.Needs.{needs}
 use Rattle.build_table.proofs.judge_index.Statement.{statement}
 use Rattle.build_table.proofs.judge_index.Tie as tie
@@ -32,41 +32,14 @@ returns-2 c = ap No (c .outside .ensures) ∙ index-outside _ _ _ (now (c .befor
 returns-3 : tie.Need-returns-3
 returns-3 c = index-many _ _ _ (now (c .before .before .before .before .before .before .before .before .before .before .before .before .args .hi)) _ (c .before .before .before .before .before .before .before .before .before .before .before .before .args .e) (c .before .before .before .before .before .before .before .before .before .before .before .before .pre .0) _ (risen-up _ _ _ _ _ (sym (c .before .before .before .n .given .1) ∙ c .before .before .before .before .before .rises .ensures) .up) (sym ((risen-up _ _ _ _ _ (sym (c .before .before .before .n .given .1) ∙ c .before .before .before .before .before .rises .ensures) .inside)) ∙ not-false _ (c .before .if1 .left)) _ (risen-up _ _ _ _ _ (sym (c .before .before .before .n .given .1) ∙ c .before .before .before .before .before .rises .ensures) .count) (c .if2 .taken)
 
-mul-size : tie.Need-mul-size
-mul-size c = search needs
-
-add-size : tie.Need-add-size
-add-size c = search needs
-
-add-size-2 : tie.Need-add-size-2
-add-size-2 c = search needs
-
-add-size-3 : tie.Need-add-size-3
-add-size-3 c = search needs
-
 index-sums-requires : tie.Need-index-sums-requires
-index-sums-requires c κs = (held-long _ _ _ _ (c .before .before .before .before .before .before .before .before .before .before .before .before .before .before .pre .0) _ (held-prefixed _ _ _ _ (c .before .before .before .before .before .before .before .before .before .before .before .before .before .before .pre .0) (entries (now (c .before .before .before .before .before .before .before .before .before .before .before .before .before .before .args .list)) (now (c .before .before .before .before .before .before .before .before .before .before .before .before .before .before .args .ground)) (c .before .before .before .before .before .before .before .before .before .before .before .before .before .before .args .from)) (sym ((risen-up _ _ _ _ _ (sym (c .before .before .before .before .before .n .given .1) ∙ c .before .before .before .before .before .before .before .rises .ensures) .inside)) ∙ not-false _ (c .before .before .before .if1 .left))), omega (arith, risen-up _ _ _ _ _ (sym (c .before .before .before .before .before .n .given .1) ∙ c .before .before .before .before .before .before .before .rises .ensures) .count, c .before .before .if2 .left))
+index-sums-requires c κs = (held-long _ _ _ _ (c .before .before .before .before .before .before .before .before .before .before .before .before .pre .0) _ (held-prefixed _ _ _ _ (c .before .before .before .before .before .before .before .before .before .before .before .before .pre .0) (entries (now (c .before .before .before .before .before .before .before .before .before .before .before .before .args .list)) (now (c .before .before .before .before .before .before .before .before .before .before .before .before .args .ground)) (c .before .before .before .before .before .before .before .before .before .before .before .before .args .from)) (sym ((risen-up _ _ _ _ _ (sym (c .before .before .before .n .given .1) ∙ c .before .before .before .before .before .rises .ensures) .inside)) ∙ not-false _ (c .before .if1 .left))), omega (arith, risen-up _ _ _ _ _ (sym (c .before .before .before .n .given .1) ∙ c .before .before .before .before .before .rises .ensures) .count, c .if2 .left))
 
-add-size-4 : tie.Need-add-size-4
-add-size-4 c = omega (arith, c .index-sums .ensures .1, c .before .before .before .before .before .before .before .before .before .before .before .before .before .before .before .pre .0 .ground, c .before .before .before .before .before .before .before .before .before .before .before .before .before .before .before .pre .0 .high, c .before .before .before .if2 .left)
+weigh-index-requires : tie.Need-weigh-index-requires
+weigh-index-requires c κs = ((c .before .before .before .before .before .before .before .before .before .before .before .before .before .pre .0 .ground, c .before .before .before .before .before .before .before .before .before .before .before .before .before .pre .0 .high), ((omega (arith, c .before .if2 .left), c .index-sums .ensures .1), c .before .before .before .before .before .before .before .before .before .before .before .before .before .pre .1))
 
 returns-4 : tie.Need-returns-4
-returns-4 c = index-large _ _ _ (now (c .before .before .before .before .before .before .before .before .before .before .before .before .before .before .before .before .args .hi)) _ (c .before .before .before .before .before .before .before .before .before .before .before .before .before .before .before .before .args .e) (c .before .before .before .before .before .before .before .before .before .before .before .before .before .before .before .before .pre .0) _ (risen-up _ _ _ _ _ (sym (c .before .before .before .before .before .before .before .n .given .1) ∙ c .before .before .before .before .before .before .before .before .before .rises .ensures) .up) (sym ((risen-up _ _ _ _ _ (sym (c .before .before .before .before .before .before .before .n .given .1) ∙ c .before .before .before .before .before .before .before .before .before .rises .ensures) .inside)) ∙ not-false _ (c .before .before .before .before .before .if1 .left)) _ (risen-up _ _ _ _ _ (sym (c .before .before .before .before .before .before .before .n .given .1) ∙ c .before .before .before .before .before .before .before .before .before .rises .ensures) .count) (c .before .before .before .before .if2 .left) _ (c .before .index-sums .ensures .0) (c .if3 .taken)
-
-cast-frame-len : tie.Need-cast-frame-len
-cast-frame-len c = search needs
-
-frame-len-requires : tie.Need-frame-len-requires
-frame-len-requires c κs = search needs
-
-room-requires : tie.Need-room-requires
-room-requires c κs = search needs
-
-returns-5 : tie.Need-returns-5
-returns-5 c = index-full _ _ _ (now (c .before .before .before .before .before .before .before .before .before .before .before .before .before .before .before .before .before .before .before .args .hi)) _ (c .before .before .before .before .before .before .before .before .before .before .before .before .before .before .before .before .before .before .before .args .e) (c .before .before .before .before .before .before .before .before .before .before .before .before .before .before .before .before .before .before .before .pre .0) _ (risen-up _ _ _ _ _ (sym (c .before .before .before .before .before .before .before .before .before .before .n .given .1) ∙ c .before .before .before .before .before .before .before .before .before .before .before .before .rises .ensures) .up) (sym ((risen-up _ _ _ _ _ (sym (c .before .before .before .before .before .before .before .before .before .before .n .given .1) ∙ c .before .before .before .before .before .before .before .before .before .before .before .before .rises .ensures) .inside)) ∙ not-false _ (c .before .before .before .before .before .before .before .before .if1 .left)) _ (risen-up _ _ _ _ _ (sym (c .before .before .before .before .before .before .before .before .before .before .n .given .1) ∙ c .before .before .before .before .before .before .before .before .before .before .before .before .rises .ensures) .count) (c .before .before .before .before .before .before .before .if2 .left) _ (c .before .before .before .before .index-sums .ensures .0) (c .before .before .before .if3 .left) _ (c .before .before .frame-len .ensures) _ (c .before .room .ensures) (not-true _ (c .if4 .taken))
-
-returns-6 : tie.Need-returns-6
-returns-6 c = index-fits _ _ _ (now (c .before .before .before .before .before .before .before .before .before .before .before .before .before .before .before .before .before .before .before .args .hi)) _ (c .before .before .before .before .before .before .before .before .before .before .before .before .before .before .before .before .before .before .before .args .e) (c .before .before .before .before .before .before .before .before .before .before .before .before .before .before .before .before .before .before .before .pre .0) _ (risen-up _ _ _ _ _ (sym (c .before .before .before .before .before .before .before .before .before .before .n .given .1) ∙ c .before .before .before .before .before .before .before .before .before .before .before .before .rises .ensures) .up) (sym ((risen-up _ _ _ _ _ (sym (c .before .before .before .before .before .before .before .before .before .before .n .given .1) ∙ c .before .before .before .before .before .before .before .before .before .before .before .before .rises .ensures) .inside)) ∙ not-false _ (c .before .before .before .before .before .before .before .before .if1 .left)) _ (risen-up _ _ _ _ _ (sym (c .before .before .before .before .before .before .before .before .before .before .n .given .1) ∙ c .before .before .before .before .before .before .before .before .before .before .before .before .rises .ensures) .count) (c .before .before .before .before .before .before .before .if2 .left) _ (c .before .before .before .before .index-sums .ensures .0) (c .before .before .before .if3 .left) _ (c .before .before .frame-len .ensures) _ (c .before .room .ensures) (not-false _ (c .if4 .left))
+returns-4 c = c .weigh-index .ensures ∙ index-weighed _ _ _ (now (c .before .before .before .before .before .before .before .before .before .before .before .before .before .before .args .hi)) _ (c .before .before .before .before .before .before .before .before .before .before .before .before .before .before .args .e) (c .before .before .before .before .before .before .before .before .before .before .before .before .before .before .pre .0) _ (risen-up _ _ _ _ _ (sym (c .before .before .before .before .before .n .given .1) ∙ c .before .before .before .before .before .before .before .rises .ensures) .up) (sym ((risen-up _ _ _ _ _ (sym (c .before .before .before .before .before .n .given .1) ∙ c .before .before .before .before .before .before .before .rises .ensures) .inside)) ∙ not-false _ (c .before .before .before .if1 .left)) _ (risen-up _ _ _ _ _ (sym (c .before .before .before .before .before .n .given .1) ∙ c .before .before .before .before .before .before .before .rises .ensures) .count) (c .before .before .if2 .left) _ (c .before .index-sums .ensures .0)
 
 pub judge-index-spec : {M : Type 1} → statement M
 judge-index-spec =
@@ -79,15 +52,6 @@ judge-index-spec =
     outside-requires
     returns-2
     returns-3
-    mul-size
-    add-size
-    add-size-2
-    add-size-3
     index-sums-requires
-    add-size-4
-    returns-4
-    cast-frame-len
-    frame-len-requires
-    room-requires
-    returns-5
-    returns-6)
+    weigh-index-requires
+    returns-4)

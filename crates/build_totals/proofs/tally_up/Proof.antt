@@ -1,19 +1,11 @@
-use borrow.Author.Needs.{needs}
-use native.Mathlib.Omega.{arith}
-use mathlib.Core.Path.{_≡_, refl, sym, ap, _∙_}
-use Prim.Native.Nat.{ℕ, _+_}
-use lib.Dec.{ltb, eqb}
-use borrow.Author.Tests.{lt-ltb, le-ltb, eq-eqb, ne-eqb, not-true, not-false}
+-- `build_totals::tally_up` meets its contract. Assumes nothing.
+use mathlib.Core.Path.{refl}
 use Rattle.build_sources.specs.Source.{leftOf}
 use Rattle.build_sources.proofs.Sourced.{got, at-end, at-bad}
 use Rattle.build_totals.proofs.Tallying.{Tallying, tally-begin, tally-end, tally-asks, tally-turn}
 use borrow.Author.Needs.{needs}
 use Rattle.build_totals.proofs.tally_up.Statement.{statement}
 use Rattle.build_totals.proofs.tally_up.Tie as tie
-use Rattle.build_totals.proofs.tally_up.Reads as reads
-use Rattle.build_totals.proofs.tally_up.Lts as lts
-use Rattle.build_sources.proofs.next.Reads as next-reads
-use Rattle.build_totals.proofs.with_one.Reads as with-one-reads
 
 abbrev Inv-loop : tie.InvT-loop
 Inv-loop list ground p limit c₀ t₀ c t = Tallying list ground limit p c₀ c t
@@ -22,7 +14,7 @@ abbrev μ-loop : tie.MeasureT-loop
 μ-loop list ground p limit c₀ t₀ c t = leftOf list ground c
 
 loop-holds : tie.Need-loop-holds Inv-loop μ-loop
-loop-holds c = tally-begin _ _ _ _ _ (c .before .before .pre .0) (c .before .before .pre .1)
+loop-holds c = tally-begin _ _ _ _ _ (c .before .before .pre)
 
 next-requires : tie.Need-next-requires Inv-loop μ-loop
 next-requires c κs = search needs

@@ -1,16 +1,9 @@
-use native.Mathlib.Omega.{arith}
-use mathlib.Core.Path.{_≡_, refl, sym, ap, _∙_}
-use Prim.Native.Nat.{ℕ, _+_}
-use lib.Dec.{ltb, eqb}
-use borrow.Author.Tests.{lt-ltb, le-ltb, eq-eqb, ne-eqb, not-true, not-false}
-use Rattle.build_totals.proofs.Tallying.{with-old, with-head}
+-- `build_totals::with_one` meets its contract. Assumes nothing.
+use mathlib.Core.Path.{_∙_}
+use Rattle.build_sweep.proofs.Tallying.{with-old, with-head}
 use borrow.Author.Needs.{needs}
 use Rattle.build_totals.proofs.with_one.Statement.{statement}
 use Rattle.build_totals.proofs.with_one.Tie as tie
-use Rattle.build_totals.proofs.with_one.Reads as reads
-use Rattle.build_totals.proofs.with_one.Lts as lts
-use Rattle.build_totals.proofs.with_head.Reads as with-head-reads
-use Rattle.build_totals.proofs.with_old.Reads as with-old-reads
 
 with-old-requires : tie.Need-with-old-requires
 with-old-requires c κs = (c .before .before .before .pre .0, c .before .before .before .pre .1 .1)

@@ -1,7 +1,7 @@
 -- How large a tally can be: k bounds the count of its entries.
 -- Assumes nothing.
 use Prim.Native.Nat.{ℕ, _*_, _≤_}
-use Rattle.build_totals.specs.declared.Tally.{Tally}
+use Rattle.build_sweep.specs.declared.Tally.{Tally}
 
 pub record Bounded (t : Tally) (k : ℕ) : Type 0 where
   pub heads : t .heads ≤ k

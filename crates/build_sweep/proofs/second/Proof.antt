@@ -1,14 +1,9 @@
+-- `build_sweep::second` meets its contract. Assumes nothing.
 use native.Mathlib.Omega.{arith}
-use mathlib.Core.Path.{_≡_, refl, sym, ap, _∙_}
-use Prim.Native.Nat.{ℕ, _+_}
-use lib.Dec.{ltb, eqb}
-use borrow.Author.Tests.{lt-ltb, le-ltb, eq-eqb, ne-eqb, not-true, not-false}
+use mathlib.Core.Path.{refl}
 use borrow.Author.Needs.{needs}
-use Rattle.build_totals.proofs.second.Statement.{statement}
-use Rattle.build_totals.proofs.second.Tie as tie
-use Rattle.build_totals.proofs.second.Reads as reads
-use Rattle.build_totals.proofs.second.Lts as lts
-use Rattle.values.proofs.Val.calc_size.Reads as calc-size-reads
+use Rattle.build_sweep.proofs.second.Statement.{statement}
+use Rattle.build_sweep.proofs.second.Tie as tie
 
 cast-calc-size : tie.Need-cast-calc-size
 cast-calc-size c = omega (arith, c .before .pre)

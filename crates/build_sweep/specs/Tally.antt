@@ -8,7 +8,7 @@ use lib.Dec.{ltb, eqb}
 use Rattle.values.specs.Vals.{sizeOf}
 use Rattle.build_sources.specs.Source.{Entry}
 use Rattle.build_image.specs.Sizes.{remoteLen, keyLen}
-use Rattle.build_totals.specs.declared.Tally.{Tally}
+use Rattle.build_sweep.specs.declared.Tally.{Tally}
 
 abbrev pub nothing : Tally
 nothing = record { heads = 0; olds = 0; sums = 0; counted = 0; remotes = 0; remote = 0; after = false }

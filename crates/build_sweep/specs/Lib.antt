@@ -1,0 +1,7 @@
+-- The crate's definitions.
+pub mod Tally
+pub mod Pages
+pub mod Bounds
+pub mod Cuts
+pub mod Ents
+pub mod Swept
