@@ -30,8 +30,8 @@ use Rattle.walks.proofs.Lying.{body-is, body-reads}
 use Rattle.c_words.specs.Words.{written, walkIn, walkWords, agedTo, headTo, itemWords, branchWords, endWords, stepWords, movedWords}
 use Rattle.c_words.proofs.Laws.{written-none, written-length, walk-kept}
 use Rattle.c_words.proofs.Changed.{none-changed, written-over}
 use Rattle.c_steps.specs.Turns.{Ahead}
-use Rattle.c_steps.specs.OneStep.{Stepped, Takes, Within, Enters}
+use Rattle.c_step.specs.OneStep.{Stepped, Takes, Within, Enters}
 
 other : true ≡ false → ⊥
 other e = let z : _≡_ {A = ℕ} 0 1 = cc in omega arith

@@ -1,10 +1,10 @@
--- `c_steps::step` meets its contract. Assumes nothing.
+-- `c_step::step` meets its contract. Assumes nothing.
 use native.Mathlib.Omega.{arith}
 use denote.Ref.{now}
-use Rattle.c_steps.proofs.One.{stepped-from}
+use Rattle.c_step.proofs.One.{stepped-from}
 use borrow.Author.Needs.{needs}
-use Rattle.c_steps.proofs.step.Statement.{statement}
-use Rattle.c_steps.proofs.step.Tie as tie
+use Rattle.c_step.proofs.step.Statement.{statement}
+use Rattle.c_step.proofs.step.Tie as tie
 
 step-any-requires : tie.Need-step-any-requires
 step-any-requires c κs = search needs

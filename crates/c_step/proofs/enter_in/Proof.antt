@@ -1,10 +1,10 @@
--- `c_steps::enter_in` meets its contract. Assumes nothing.
+-- `c_step::enter_in` meets its contract. Assumes nothing.
 use mathlib.Core.Path.{sym, _∙_}
 use denote.Ref.{now}
-use Rattle.c_steps.proofs.One.{enters-not, enters-none, enters-is}
+use Rattle.c_step.proofs.One.{enters-not, enters-none, enters-is}
 use borrow.Author.Needs.{needs}
-use Rattle.c_steps.proofs.enter_in.Statement.{statement}
-use Rattle.c_steps.proofs.enter_in.Tie as tie
+use Rattle.c_step.proofs.enter_in.Statement.{statement}
+use Rattle.c_step.proofs.enter_in.Tie as tie
 
 returns : tie.Need-returns
 returns c = enters-none (now (c .before .before .before .before .args .s)) (now (c .before .before .before .before .args .walk)) (c .before .before .before .before .args .h) (c .before .before .before .before .pre .1) (c .if1 .taken)

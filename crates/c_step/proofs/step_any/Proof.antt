@@ -1,12 +1,12 @@
--- `c_steps::step_any` meets its contract. Assumes nothing.
+-- `c_step::step_any` meets its contract. Assumes nothing.
 use mathlib.Core.Path.{sym, ap, _∙_}
 use denote.Ref.{now}
 use Rattle.walks.specs.declared.Walk.{Walk}
 use Rattle.walks.specs.Walk.{stepAt}
-use Rattle.c_steps.proofs.One.{stepped-found, stepped-leads, stepped-end, stepped-refused}
+use Rattle.c_step.proofs.One.{stepped-found, stepped-leads, stepped-end, stepped-refused}
 use borrow.Author.Needs.{needs}
-use Rattle.c_steps.proofs.step_any.Statement.{statement}
-use Rattle.c_steps.proofs.step_any.Tie as tie
+use Rattle.c_step.proofs.step_any.Statement.{statement}
+use Rattle.c_step.proofs.step_any.Tie as tie
 
 walk-in-requires : tie.Need-walk-in-requires
 walk-in-requires c κs = search needs

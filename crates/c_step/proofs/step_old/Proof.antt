@@ -1,4 +1,4 @@
--- `c_steps::step_old` meets its contract. Assumes nothing.
+-- `c_step::step_old` meets its contract. Assumes nothing.
 use native.Mathlib.Omega.{arith}
 use mathlib.Core.Path.{sym, ap, _∙_}
 use denote.Ref.{now}
@@ -7,11 +7,11 @@ use Rattle.records.specs.declared.RecRead.{RecRead}
 use Rattle.records.proofs.Quick.{quick-is}
 use Rattle.records.proofs.Inside.{at-slot, ver-inside}
 use Rattle.walks.proofs.Lying.{body-is, body-inside}
 use Rattle.c_steps.proofs.Ways.{rec-none}
-use Rattle.c_steps.proofs.One.{takes-not, took-old}
+use Rattle.c_step.proofs.One.{takes-not, took-old}
 use borrow.Author.Needs.{needs}
-use Rattle.c_steps.proofs.step_old.Statement.{statement}
-use Rattle.c_steps.proofs.step_old.Tie as tie
+use Rattle.c_step.proofs.step_old.Statement.{statement}
+use Rattle.c_step.proofs.step_old.Tie as tie
 
 body-of-requires : tie.Need-body-of-requires
 body-of-requires c κs = search needs

@@ -1,13 +1,13 @@
--- `c_steps::step_head` meets its contract. Assumes nothing.
+-- `c_step::step_head` meets its contract. Assumes nothing.
 use native.Mathlib.Omega.{arith}
 use mathlib.Core.Path.{ap}
 use denote.Ref.{now}
 use Rattle.walks.specs.declared.Walk.{Walk}
 use Rattle.walks.specs.Walk.{movedOf}
-use Rattle.c_steps.proofs.One.{takes-not, takes-left, took-head, within-long}
+use Rattle.c_step.proofs.One.{takes-not, takes-left, took-head, within-long}
 use borrow.Author.Needs.{needs}
-use Rattle.c_steps.proofs.step_head.Statement.{statement}
-use Rattle.c_steps.proofs.step_head.Tie as tie
+use Rattle.c_step.proofs.step_head.Statement.{statement}
+use Rattle.c_step.proofs.step_head.Tie as tie
 
 head-read-requires : tie.Need-head-read-requires
 head-read-requires c κs = search needs

@@ -1,14 +1,14 @@
--- `c_steps::head_read` meets its contract. Assumes nothing.
+-- `c_step::head_read` meets its contract. Assumes nothing.
 use native.Mathlib.Omega.{arith}
 use mathlib.Core.Path.{sym, _∙_}
 use denote.Ref.{now}
 use Rattle.records.proofs.Inside.{val-no, slot-inside}
 use Rattle.records.proofs.Quick.{quick-is, short-head, slot-rec}
 use Rattle.c_steps.proofs.Ways.{rec-none}
 use Rattle.c_steps.proofs.Heading.{leaf-kind, leaf-inside, head-ahead}
 use borrow.Author.Needs.{needs}
-use Rattle.c_steps.proofs.head_read.Statement.{statement}
-use Rattle.c_steps.proofs.head_read.Tie as tie
+use Rattle.c_step.proofs.head_read.Statement.{statement}
+use Rattle.c_step.proofs.head_read.Tie as tie
 
 returns : tie.Need-returns
 returns c = λ r e. absurd (rec-none r e)
