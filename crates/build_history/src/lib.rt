@@ -351,7 +351,7 @@ pub fn remote_frames(
 }
 
 // The headers of a history page.
-fn hist_head(a: &mut [u8], at: usize, m: Call, link: usize, n: usize, size: usize)
+pub fn hist_head(a: &mut [u8], at: usize, m: Call, link: usize, n: usize, size: usize)
     requires { ⌜ at + slotsAt ≤ length (now a) ⌝ }
     requires { ⌜ n ≤ maxEntries ⌝ }
     requires { ⌜ size ≤ 4294967295 ⌝ }

@@ -39,7 +39,7 @@ pub one-some : (n : ℕ) → (n ≡ 0 → ⊥) → 1 ≡ oneIf n
 one-some zero e = absurd (e refl)
 one-some (suc n) e = refl
 
-length-leaf-head : (m : Call) (t : Totals) (e : Boundaries) → length (leafHead m t e) ≡ slotsAt
+pub length-leaf-head : (m : Call) (t : Totals) (e : Boundaries) → length (leafHead m t e) ≡ slotsAt
 unfolding leafHead
 length-leaf-head m t e =
     length-heads (pageBox m (t .size + t .room) nodeLeaf 0 0) (baseOf (t .size) (t .heads) (e .sibling .0) (e .lo .len) (e .hi .len) (e .prefix) 0 (oneIf (t .olds)))

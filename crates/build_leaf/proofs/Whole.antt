@@ -33,21 +33,21 @@ use Rattle.build_leaf.proofs.Frame.{steps-long, front-long}
 
 -- ---- the totals
 
-record Measured (m : Call) (b : Borders) (first : ℕ) (es : List Entry) (t : Totals) : Type 0 where
-  count : t .heads ≡ length (heads es)
-  olds : t .olds ≡ length (only true es)
-  pages : t .pages ≡ length (cutsOf m es)
-  remotes : t .remotes ≡ length (histAddrs (m .limit) first (cutsOf m es) (only true es) ++ remoteAddrs (m .limit) (historyEnd (m .limit) first (cutsOf m es) (only true es) + frameLen (t .size + t .room)) (heads es))
-  size : t .size ≡ leafSize m b es
-  room : t .room ≡ leafRoom m es
-  leaf : t .leaf ≡ historyEnd (m .limit) first (cutsOf m es) (only true es)
-  end : t .end ≡ t .leaf + frameLen (t .size + t .room) + remotesLen (m .limit) (heads es)
+pub record Measured (m : Call) (b : Borders) (first : ℕ) (es : List Entry) (t : Totals) : Type 0 where
+  pub count : t .heads ≡ length (heads es)
+  pub olds : t .olds ≡ length (only true es)
+  pub pages : t .pages ≡ length (cutsOf m es)
+  pub remotes : t .remotes ≡ length (histAddrs (m .limit) first (cutsOf m es) (only true es) ++ remoteAddrs (m .limit) (historyEnd (m .limit) first (cutsOf m es) (only true es) + frameLen (t .size + t .room)) (heads es))
+  pub size : t .size ≡ leafSize m b es
+  pub room : t .room ≡ leafRoom m es
+  pub leaf : t .leaf ≡ historyEnd (m .limit) first (cutsOf m es) (only true es)
+  pub end : t .end ≡ t .leaf + frameLen (t .size + t .room) + remotesLen (m .limit) (heads es)
 
-measured : (m : Call) (b : Borders) (first : ℕ) (es : List Entry) (t : Totals) → t ≡ totalsOf m b first es → Measured m b first es t
+pub measured : (m : Call) (b : Borders) (first : ℕ) (es : List Entry) (t : Totals) → t ≡ totalsOf m b first es → Measured m b first es t
 unfolding totalsOf remotesOf remoteAt leafAt
 measured m b first es t e = rw e (record { count = refl; olds = refl; pages = refl; remotes = refl; size = refl; room = refl; leaf = refl; end = refl })
 
-few-heads : (es : List Entry) → length (heads es) ≤ length es
+pub few-heads : (es : List Entry) → length (heads es) ≤ length es
 unfolding only
 few-heads [] = omega arith
 few-heads (e ∷ es) = go (e .old) (few-heads es)

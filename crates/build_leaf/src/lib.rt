@@ -1,7 +1,10 @@
 // The whole leaf: history pages, the leaf's frame with its hints, the heads' remote frames; each pass stores exactly its part of the
 // image, upward from one address, and reads its entries through the source alone.
 use build_bounds::Boundaries;
+use build_heads::Loc;
 use build_image::Call;
+use build_pen::Nib;
+use build_pen::Pen;
 use build_sources::Cursor;
 use build_sources::EntryAt;
 use build_sources::Pick;
@@ -11,11 +14,11 @@ use frames::BoxHeader;
 use frames::NULL_ADDR;
 ghost use mathlib.Core.Path.{_≡_};
 ghost use mathlib.Core.Bool.{true};
-ghost use Prim.Native.Nat.{_+_, _-_, _≤_};
+ghost use Prim.Native.Nat.{_+_, _-_, _*_, _≤_};
 ghost use lib.ListN.{length, take};
 ghost use Rattle.spans.specs.Span.{put};
 ghost use Rattle.frames.specs.Layout.{frameLen, boxLen, slotsAt};
-ghost use Rattle.frames.specs.Limits.{maxEntries};
+ghost use Rattle.frames.specs.Limits.{maxEntries, maxSize};
 ghost use Rattle.build_sources.specs.Source.{entries, only, olds, heads};
 ghost use Rattle.build_image.specs.Sizes.{remotesLen};
 ghost use Rattle.build_image.specs.Image.{oneIf, remoteAddrs, les, leafFrame, leafImage};
@@ -23,6 +26,8 @@ ghost use Rattle.build_history.specs.Runs.{Sane, these, historyEndAt};
 ghost use Rattle.build_heads.specs.Steps.{Long, steps};
 ghost use Rattle.build_bounds.specs.Boundaries.{boundaryBytes, boundsOf, BothWithin};
 ghost use Rattle.build_totals.specs.Totals.{totalsOf};
+ghost use Rattle.build_pen.specs.Places.{listFrom, Well};
+ghost use Rattle.build_leaf.specs.Listed.{hintPlaces, hintsSet, fixedOn, Fixes};
 ghost use Rattle.build_leaf.specs.Leaf.{Small, leafHead, recsAt, leafFront, leafBack, hintIf, hintBytes, remoteHints, Hinted, pageHint, hintsAt, Turned, Reach};
 
 // ---- hints
@@ -405,5 +410,146 @@ pub fn write_leaf(
         m,
         t.end - remote,
     );
+    leaf
+}
+
+// ---- a record list's leaf
+
+// Where the hints of history pages, of old versions' remotes and of heads' stand.
+pub struct HintPlaces {
+    pub pages: usize,
+    pub olds: usize,
+    pub heads: usize,
+}
+
+// The hints' counts, and zeros in what is left of their room; where the hints stand. aged of the remotes are old versions'.
+fn hint_counts(a: &mut [u8], at: usize, t: Totals, aged: usize) -> HintPlaces
+    requires { ⌜ at + t .room ≤ length (now a) ⌝ }
+    requires { ⌜ t .room ≤ maxSize ⌝ }
+    requires { ⌜ ((t .room ≡ 0 → ⊥) → 8 + 8 * t .pages + 8 * t .remotes ≤ t .room) ⌝ }
+    requires { ⌜ aged ≤ t .remotes ⌝ }
+    ensures { λ r. ⌜ r ≡ hintPlaces (t .room) at (t .pages) aged ⌝ }
+    ensures { λ _. ⌜ now (a .exit) ≡ hintsSet (t .room) at (t .pages) (t .remotes) (now (a .entry)) ⌝ }
+{
+    let room = t.room;
+    if room == 0 {
+        return HintPlaces {
+            pages: at,
+            olds: at,
+            heads: at,
+        };
+    }
+    let p = at + 4;
+    let c = p + 8 * t.pages;
+    let o = c + 4;
+    let z = o + 8 * t.remotes;
+    numbers::put_u32(a, at, t.pages as u32);
+    numbers::put_u32(a, c, t.remotes as u32);
+    spans::zeros(a, z, at + room - z);
+    HintPlaces {
+        pages: p,
+        olds: o,
+        heads: o + 8 * aged,
+    }
+}
+
+// All of a leaf's frame that no entry tells; where its hints stand.
+fn leaf_fixed(
+    a: &mut [u8],
+    ground: usize,
+    m: Call,
+    t: Totals,
+    aged: usize,
+    remote: usize,
+    lo: &[u8],
+    hi: &[u8],
+    e: Boundaries,
+) -> HintPlaces
+    requires { ⌜ Fixes (length (now a)) ground t e aged remote ⌝ }
+    requires { ⌜ BothWithin (now lo) (now hi) (take ground (now a)) e ⌝ }
+    ensures { λ r. ⌜ r ≡ hintPlaces (t .room) (t .leaf + (boxLen + t .size)) (t .pages) aged ⌝ }
+    ensures { λ _. ⌜ now (a .exit) ≡ fixedOn m t e remote (boundaryBytes (now (lo .entry)) (take ground (now (a .entry))) (e .lo)) (boundaryBytes (now (hi .entry)) (take ground (now (a .entry))) (e .hi)) (now (a .entry)) ⌝ }
+{
+    let leaf = t.leaf;
+    let l = e.lo;
+    let h = e.hi;
+    leaf_head(a, leaf, m, t, e);
+    let x = leaf + BaseHeader::SLOTS_AT + 4 * t.heads;
+    build_bounds::put_boundary(a, ground, lo, l, x);
+    let y = x + l.len;
+    build_bounds::put_boundary(a, ground, hi, h, y);
+    let q = leaf + (BoxHeader::HDR_LEN + t.size);
+    let w = q + t.room;
+    spans::zeros(a, w, remote - w);
+    hint_counts(a, q, t, aged)
+}
+
+// How many old versions of a list have a remote, where all its entries have so many.
+fn aged_of(list: &[u8], remotes: usize, limit: usize) -> usize
+    requires { ⌜ Well (now list) 5 ⌝ }
+    requires { ⌜ (remotes ≡ 0 → 0 ≡ length (remoteAddrs limit 0 (olds (listFrom (now list) 5)))) ⌝ }
+    ensures { λ r. ⌜ r ≡ length (remoteAddrs limit 0 (olds (listFrom (now (list .entry)) 5))) ⌝ }
+{
+    if remotes == 0 {
+        return 0;
+    }
+    build_pen::remote_olds(list, limit)
+}
+
+// The whole leaf of a record list from this address on, its entries by the pen; the leaf's own address.
+pub fn write_list(
+    a: &mut [u8],
+    ground: usize,
+    list: &[u8],
+    at: usize,
+    m: Call,
+    t: Totals,
+    lo: &[u8],
+    hi: &[u8],
+    e: Boundaries,
+) -> usize
+    requires { ⌜ ground ≤ at ⌝ }
+    requires { ⌜ Sane m ⌝ }
+    requires { ⌜ Small t e ⌝ }
+    requires { ⌜ BothWithin (now lo) (now hi) (take ground (now a)) e ⌝ }
+    requires { ⌜ Well (now list) 5 ⌝ }
+    requires { ⌜ Long (e .prefix) (listFrom (now list) 5) ⌝ }
+    requires { ⌜ length (listFrom (now list) 5) ≤ maxEntries ⌝ }
+    requires { ⌜ t ≡ totalsOf m (boundsOf (now lo) (now hi) (take ground (now a)) e) at (listFrom (now list) 5) ⌝ }
+    requires { ⌜ t .end ≤ length (now a) ⌝ }
+    ensures { λ r. ⌜ r ≡ t .leaf ⌝ }
+    ensures { λ _. ⌜ now (a .exit) ≡ put (now (a .entry)) at (leafImage m (boundsOf (now (lo .entry)) (now (hi .entry)) (take ground (now (a .entry))) e) at (listFrom (now (list .entry)) 5)) ⌝ }
+{
+    let leaf = t.leaf;
+    let l = e.lo;
+    let h = e.hi;
+    let remote = leaf + frames::frame_len((t.size + t.room) as u32);
+    let aged = aged_of(list, t.remotes, m.limit);
+    let k = leaf_fixed(a, ground, m, t, aged, remote, lo, hi, e);
+    let start = Pen {
+        loc: Loc {
+            page: 0,
+            slot: 0,
+            left: 0,
+            next: at,
+        },
+        nib: Nib {
+            slot: at,
+            rec: at,
+            remote: at,
+        },
+        pages: k.pages,
+        hint: k.olds,
+    };
+    let s = leaf + BaseHeader::SLOTS_AT;
+    let first = Nib {
+        slot: s,
+        rec: s + 4 * t.heads + l.len + h.len,
+        remote: remote,
+    };
+    let base = leaf + BoxHeader::HDR_LEN;
+    let z = build_pen::pen_all(a, list, 5, start, first, k.heads, base, m, e.prefix);
+    let q = leaf + (BoxHeader::HDR_LEN + t.size);
+    spans::zeros(a, z, q - z);
     leaf
 }

@@ -1,13 +1,16 @@
 -- Lists: what one sweep accepted is what the table says; and what a verdict on a list says of answer and arena.
 -- Assumes nothing.
-use mathlib.Core.Path.{_≡_, refl, sym, ap, ap₂, _∙_}
-use mathlib.Core.List.{List}
+use mathlib.Core.Path.{_≡_, refl, sym, ap, ap₂, subst, _∙_}
+use mathlib.Core.List.{List, []}
 use mathlib.Core.Bool.{Bool, true, false, cond}
 use Prim.Native.Nat.{ℕ, _+_, _≤_, _<_}
 use native.Mathlib.Omega.{arith}
 use lib.ListN.{length, take}
+use Rattle.spans.specs.Span.{put}
 use Rattle.frames.specs.declared.Refusal.{Refusal}
 use Rattle.frames.specs.declared.Refusal.the-variants.{BadList}
+use Rattle.frames.specs.Layout.{addr}
+use Rattle.frames.specs.Limits.{maxEntries}
 use Rattle.build_sources.specs.declared.Cursor.{Cursor}
 use Rattle.build_sources.specs.Lists.{firstOf}
 use Rattle.build_sources.specs.Source.{Entry, entries, wellFormed, only}
@@ -15,8 +18,8 @@ use Rattle.build_sources.specs.Judged.{rising, enclosed}
 use Rattle.build_sources.proofs.Alone.{list-alone, well-alone}
 use Rattle.build_image.specs.declared.Call.{Call}
 use Rattle.build_image.specs.declared.Built.{Built}
-use Rattle.build_image.specs.declared.Built.the-variants.{Refused}
-use Rattle.build_image.specs.Image.{Borders, indexSums}
+use Rattle.build_image.specs.declared.Built.the-variants.{At, Refused}
+use Rattle.build_image.specs.Image.{Borders, indexSums, leafImage}
 use Rattle.build_bounds.specs.declared.Boundary.{Boundary}
 use Rattle.build_bounds.specs.declared.Boundaries.{Boundaries}
 use Rattle.build_bounds.specs.Boundaries.{boundaryBytes, boundaryOf, boundsOf}
@@ -29,7 +32,10 @@ use Rattle.build_sweep.specs.Tally.{nothing, tallyOf}
 use Rattle.build_sweep.specs.Pages.{pagesOf}
 use Rattle.build_sweep.specs.Swept.{listed, Ended, Accepted, SweptBy, IndexAccepted, IndexSweptBy, spansEnds}
 use Rattle.build_sweep.proofs.Ending.{First, first-record, first-index, ends-long, ends-enclose}
+use Rattle.build_heads.specs.Steps.{Long}
+use Rattle.build_leaf.specs.Leaf.{Small}
 use Rattle.build_totals.specs.declared.Totals.{Totals}
+use Rattle.build_totals.specs.Totals.{totalsOf}
 use Rattle.build_table.specs.declared.LeafVerdict.{LeafVerdict}
 use Rattle.build_table.specs.declared.LeafVerdict.the-variants.{No}
 use Rattle.build_table.specs.declared.IndexVerdict.{IndexVerdict}
@@ -37,7 +43,7 @@ use Rattle.build_table.specs.Table.{ofList}
 use Rattle.build_table.specs.Index.{Held, indexVerdict, indexWeighed, indexAnswer, indexArena}
 use Rattle.build_table.specs.Leaf.{leafVerdict, weighed, leafAnswer, leafArena}
 use Rattle.build_table.proofs.Judging.{index-weighed, index-refused}
-use Rattle.build_table.proofs.Leafing.{leaf-weighed, leaf-refused}
+use Rattle.build_table.proofs.Leafing.{leaf-weighed, leaf-refused, leaf-totals, leaf-few, leaf-small, leaf-long, leaf-room, leaf-built}
 
 -- ---- 3, or what the entries come to
 
@@ -78,17 +84,17 @@ module _ {Y : Type 0} (no′ : Refusal → Y) (one : (r q : Refusal) → no′ r
     well-by true u = refl
     well-by false u = absurd (fits (ev ∙ of-by l (take next a) source (no′ BadList) verdict false u))
 
-    well : wellFormed l (take next a) (firstOf source) ≡ true
-    well = well-by (wellFormed l (take next a) (firstOf source)) refl
+    pub list-well : wellFormed l (take next a) (firstOf source) ≡ true
+    list-well = well-by (wellFormed l (take next a) (firstOf source)) refl
 
     pub list-verdict : v ≡ verdict (entries l (take next a) c)
-    list-verdict = ev ∙ of-by l (take next a) source (no′ BadList) verdict true well ∙ ap (λ (x : Cursor). verdict (entries l (take next a) x)) (sym ec)
+    list-verdict = ev ∙ of-by l (take next a) source (no′ BadList) verdict true list-well ∙ ap (λ (x : Cursor). verdict (entries l (take next a) x)) (sym ec)
 
     pub list-built : (r : Built) (a₁ : List ℕ) → (r ≡ answer (entries l (take next a) c)) × (a₁ ≡ arena (entries l (take next a) c))
         → (r ≡ ofList l (take next a) source (Refused BadList) answer) × (a₁ ≡ ofList l (take next a) source a arena)
     list-built r a₁ k = (
-      k .0 ∙ ap (λ (x : Cursor). answer (entries l (take next a) x)) ec ∙ sym (of-by l (take next a) source (Refused BadList) answer true well),
-      k .1 ∙ ap (λ (x : Cursor). arena (entries l (take next a) x)) ec ∙ sym (of-by l (take next a) source a arena true well),
+      k .0 ∙ ap (λ (x : Cursor). answer (entries l (take next a) x)) ec ∙ sym (of-by l (take next a) source (Refused BadList) answer true list-well),
+      k .1 ∙ ap (λ (x : Cursor). arena (entries l (take next a) x)) ec ∙ sym (of-by l (take next a) source a arena true list-well),
     )
 
 -- ---- what a sweep accepted
@@ -177,15 +183,41 @@ module _ (a l : List ℕ) (next : ℕ) (m : Call) (lo hi : List ℕ) (e : Bounda
         list-refused No one-leaf a l next 0 (leafVerdict (length a) next m bs) (leafAnswer a next m bs) (leafArena a next m bs) v ev
         (λ r q k. leaf-refused a l next (firstOf 0) m lo hi e h v q r k)
 
-    module _ (t : Totals) (q : v ≡ LeafVerdict.Fits t) (c : Cursor) (ec : c ≡ firstOf 0) where
+    -- what fits, in the words of the writer of lists
+    module _ (t : Totals) (q : v ≡ LeafVerdict.Fits t) where
       fits : v ≡ No BadList → ⊥
       fits z = absurd (let y : _≡_ {A = ℕ} 0 1 = cc in omega arith)
 
-      pub leaf-list-verdict : v ≡ leafVerdict (length a) next m (boundsOf lo hi (take next a) e) (entries l (take next a) c)
-      leaf-list-verdict = list-verdict No one-leaf a l next 0 (leafVerdict (length a) next m bs) (leafAnswer a next m bs) (leafArena a next m bs) v ev fits c ec
+      at-hand : v ≡ leafVerdict (length a) next m bs (entries l (take next a) (firstOf 0))
+      at-hand = list-verdict No one-leaf a l next 0 (leafVerdict (length a) next m bs) (leafAnswer a next m bs) (leafArena a next m bs) v ev fits (firstOf 0) refl
 
-      pub leaf-list-built : (r : Built) (a₁ : List ℕ) → (r ≡ leafAnswer a next m bs (entries l (take next a) c)) × (a₁ ≡ leafArena a next m bs (entries l (take next a) c)) → Leaves r a₁
-      leaf-list-built = list-built No one-leaf a l next 0 (leafVerdict (length a) next m bs) (leafAnswer a next m bs) (leafArena a next m bs) v ev fits c ec
+      alone-in : entries l (take next a) (firstOf 0) ≡ listed l 0
+      alone-in = list-alone l (take next a) (firstOf 0) not-two
+
+      pub fit-well : wellFormed l [] (firstOf 0) ≡ true
+      fit-well =
+          sym (well-alone l (take next a) (firstOf 0) not-two)
+          ∙ list-well No one-leaf a l next 0 (leafVerdict (length a) next m bs) (leafAnswer a next m bs) (leafArena a next m bs) v ev fits (firstOf 0) refl
+
+      pub fit-small : Small t e
+      fit-small = leaf-small a l next (firstOf 0) m lo hi e h v at-hand t q
+
+      pub fit-long : Long (e .prefix) (listed l 0)
+      fit-long = subst (λ (es : List Entry). Long (e .prefix) es) alone-in (leaf-long a l next (firstOf 0) m lo hi e h v at-hand t q)
+
+      pub fit-few : length (listed l 0) ≤ maxEntries
+      fit-few = subst (λ (es : List Entry). length es ≤ maxEntries) alone-in (leaf-few a l next (firstOf 0) m lo hi e h v at-hand t q)
+
+      pub fit-totals : t ≡ totalsOf m (boundsOf lo hi (take next a) e) next (listed l 0)
+      fit-totals = leaf-totals a l next (firstOf 0) m lo hi e h v at-hand t q ∙ ap (totalsOf m bs next) alone-in
+
+      pub fit-room : t .end ≤ length a
+      fit-room = leaf-room a l next (firstOf 0) m lo hi e h v at-hand t q
+
+      pub fit-built : (a₁ : List ℕ) (x : ℕ) → x ≡ t .leaf → a₁ ≡ put a next (leafImage m (boundsOf lo hi (take next a) e) next (listed l 0)) → Leaves (At (addr x) (t .end)) a₁
+      fit-built a₁ x ex p =
+          list-built No one-leaf a l next 0 (leafVerdict (length a) next m bs) (leafAnswer a next m bs) (leafArena a next m bs) v ev fits (firstOf 0) refl (At (addr x) (t .end)) a₁
+          (leaf-built a l next (firstOf 0) m lo hi e h v at-hand t q a₁ x ex (p ∙ ap (λ (es : List Entry). put a next (leafImage m bs next es)) (sym alone-in)))
 
   module _ (le : next ≤ length a) (h : Held lo hi (take next a) e) (v : IndexVerdict) (ev : v ≡ ofList l (take next a) 1 (IndexVerdict.No BadList) (indexVerdict (length a) next bs e)) where
     pub index-list-refused : (r : Refusal) → v ≡ IndexVerdict.No r → Indexes (Refused r) a

@@ -401,7 +401,7 @@ pub fn build_list(
         LeafVerdict::No(r) => Built::Refused(r),
         LeafVerdict::Fits(t) => {
             let end = t.end;
-            let leaf = build_leaf::write_leaf(a, next, list, from, next, m, t, lo, hi, e);
+            let leaf = build_leaf::write_list(a, next, list, next, m, t, lo, hi, e);
             Built::At(Addr(leaf as u64), end)
         }
     }

@@ -1,0 +1,48 @@
+use native.Mathlib.Omega.{arith}
+use mathlib.Core.Path.{_≡_, refl, sym, ap, _∙_}
+use Rattle.build_pen.proofs.Writing.{old-fits, old-room, old-done}
+use borrow.Author.Needs.{needs}
+use Rattle.build_pen.proofs.put_old.Statement.{statement}
+use Rattle.build_pen.proofs.put_old.Tie as tie
+use Rattle.build_pen.proofs.put_old.Reads as reads
+use Rattle.build_pen.proofs.put_old.Lts as lts
+use Rattle.build_pen.proofs.put_value.Reads as put-value-reads
+use Rattle.build_pen.proofs.ver_in.Reads as ver-in-reads
+use Rattle.values.proofs.write_ver.Reads as write-ver-reads
+
+add-ver-in : tie.Need-add-ver-in
+add-ver-in c = search needs
+
+ver-in-requires : tie.Need-ver-in-requires
+ver-in-requires c κs = search needs
+
+write-ver-requires : tie.Need-write-ver-requires
+write-ver-requires c κs = search needs
+
+add-put-value : tie.Need-add-put-value
+add-put-value c = omega (arith, old-fits _ _ (c .before .before .before .before .before .before .before .before .before .pre .0) _ _ _ _ (c .before .before .before .before .before .before .before .before .before .pre .1) _ (c .before .before .before .before .before .ver-in .ensures) _ _ (c .before .before .before .write-ver .ensures), c .before .before .before .before .before .before .before .before .before .good .0)
+
+put-value-requires : tie.Need-put-value-requires
+put-value-requires c κs = (c .before .before .before .before .before .before .before .before .before .pre .0, old-room _ _ (c .before .before .before .before .before .before .before .before .before .pre .0) _ _ _ _ (c .before .before .before .before .before .before .before .before .before .pre .1) _ (c .before .before .before .before .before .ver-in .ensures) _ _ (c .before .before .before .write-ver .ensures))
+
+add-result : tie.Need-add-result
+add-result c = let z = old-done _ _ (c .before .before .before .before .before .before .before .before .before .before .before .before .pre .0) _ _ _ _ (c .before .before .before .before .before .before .before .before .before .before .before .before .pre .1) _ (c .before .before .before .before .before .before .before .before .ver-in .ensures) _ _ (c .before .before .before .before .before .before .write-ver .ensures) _ _ (c .before .before .put-value .ensures .0) (c .before .before .put-value .ensures .1) .0 in omega (arith, z, c .before .before .before .before .before .before .before .before .before .before .before .before .pre .1, c .before .before .before .before .before .before .before .before .before .before .before .before .good .0)
+
+same-length : tie.Need-same-length
+same-length c = search needs
+
+returns : tie.Need-returns
+returns c = old-done _ _ (c .before .before .before .before .before .before .before .before .before .before .before .before .pre .0) _ _ _ _ (c .before .before .before .before .before .before .before .before .before .before .before .before .pre .1) _ (c .before .before .before .before .before .before .before .before .ver-in .ensures) _ _ (c .before .before .before .before .before .before .write-ver .ensures) _ _ (c .before .before .put-value .ensures .0) (c .before .before .put-value .ensures .1)
+
+pub put-old-spec : {M : Type 1} → statement M
+put-old-spec =
+    tie.close
+    (tie.spec
+    add-ver-in
+    ver-in-requires
+    write-ver-requires
+    add-put-value
+    put-value-requires
+    add-result
+    same-length
+    returns)
