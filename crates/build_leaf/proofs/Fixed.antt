@@ -1,8 +1,7 @@
 -- What is stored of a list's leaf beside its entries: the hints' counts, the headers, the boundaries and the rounding, one behind the other.
 -- Assumes nothing.
-use mathlib.Core.Path.{_≡_, refl, sym, ap, _∙_}
+use mathlib.Core.Path.{_≡_, refl, ap, _∙_}
 use mathlib.Core.List.{List}
-use mathlib.Core.Bool.{true, false}
 use Prim.Native.Nat.{ℕ, _+_, _-_, _*_, _≤_}
 use native.Mathlib.Omega.{arith}
 use borrow.Author.Tests.{eq-eqb, ne-eqb}
@@ -16,7 +15,6 @@ use Rattle.build_image.specs.declared.Call.{Call}
 use Rattle.build_bounds.specs.declared.Boundaries.{Boundaries}
 use Rattle.build_bounds.specs.Boundaries.{Within, BothWithin, boundaryBytes}
 use Rattle.build_totals.specs.declared.Totals.{Totals}
-use Rattle.build_leaf.specs.declared.HintPlaces.{HintPlaces}
 use Rattle.build_leaf.specs.Leaf.{Small, leafHead}
 use Rattle.build_leaf.specs.Listed.{hintPlaces, hintsSet, fixedOn, Fixes}
 

@@ -3,23 +3,21 @@
 use mathlib.Core.Path.{_≡_, refl, sym, ap, _∙_, subst}
 use mathlib.Core.List.{List, [], _∷_, _++_}
 use mathlib.Core.Bool.{Bool, true, false, cond}
-use Prim.Native.Nat.{ℕ, _+_, _-_, _*_, _≤_, _<_}
+use Prim.Native.Nat.{ℕ, _+_, _-_, _*_, _≤_}
 use native.Mathlib.Omega.{arith}
 use borrow.Author.Tests.{ne-eqb, eqb-true}
 use lib.Dec.{eqb}
 use lib.ListN.{length, take, replicate, length-append, length-replicate}
 use Rattle.spans.specs.Span.{put}
 use Rattle.spans.proofs.Put.{put-nil}
-use Rattle.frames.specs.Layout.{boxLen, slotsAt, nodeLeaf, frameLen}
-use Rattle.frames.specs.Limits.{maxEntries, maxSize}
-use Rattle.frames.specs.Stored.{pageBytes, baseOf}
-use Rattle.build_paging.specs.Cuts.{cutsFrom}
-use Rattle.build_sources.specs.Source.{Entry, only, olds, heads}
+use Rattle.frames.specs.Layout.{boxLen, slotsAt, frameLen}
+use Rattle.frames.specs.Limits.{maxEntries}
+use Rattle.build_sources.specs.Source.{Entry, olds, heads}
 use Rattle.build_image.specs.declared.Call.{Call}
-use Rattle.build_image.specs.Sizes.{pad, remotesLen, oldRun, costsOf, counted, roomOf}
-use Rattle.build_image.specs.Image.{pageBox, remoteFrames, starts, histAddrs, remoteAddrs, les, historyEnd, places, headSlots, headRecs, hints, Borders, firstOf, leafSize, leafRoom, cutsOf, oneIf, leafFrame, leafImage}
-use Rattle.build_image.proofs.Lengths.{frame-least, length-remotes}
-use Rattle.build_image.proofs.Leaf.{length-history, length-head-slots, length-addrs, remotes, hist-addrs-few, remotes-kinds, remotes-counted, leaf-hints-fit, leaf-tail-fits, length-starts, length-hints, length-leaf-frame, length-leaf-image}
+use Rattle.build_image.specs.Sizes.{pad, counted, roomOf}
+use Rattle.build_image.specs.Image.{remoteFrames, starts, histAddrs, remoteAddrs, les, places, headSlots, headRecs, hints, Borders, leafSize, leafRoom, cutsOf, leafFrame, leafImage}
+use Rattle.build_image.proofs.Lengths.{frame-least}
+use Rattle.build_image.proofs.Leaf.{length-history, length-head-slots, length-addrs, hist-addrs-few, remotes-kinds, remotes-counted, leaf-hints-fit, leaf-tail-fits, length-starts, length-hints, length-leaf-frame, length-leaf-image}
 use Rattle.build_history.specs.Runs.{Sane, historyAt}
 use Rattle.build_heads.specs.Steps.{Long}
 use Rattle.build_heads.specs.Located.{placesAt}
@@ -34,13 +32,13 @@ use Rattle.build_pen.specs.declared.Nib.{Nib}
 use Rattle.build_pen.specs.declared.Pen.{Pen}
 use Rattle.build_pen.specs.Stretches.{Stretch, stretch, draws, Rising, Drawing}
 use Rattle.build_pen.specs.Places.{listFrom, Well}
-use Rattle.build_pen.specs.Pens.{startsAt, addrsAt, Steady, allLeft, AllLaid}
+use Rattle.build_pen.specs.Pens.{allLeft, AllLaid}
 use Rattle.build_pen.proofs.Cutting.{draw-begin}
 use Rattle.build_pen.proofs.Later.{later}
 use Rattle.build_pen.proofs.Olding.{none}
 use Rattle.build_leaf.specs.declared.HintPlaces.{HintPlaces}
 use Rattle.build_leaf.specs.Leaf.{Small, leafHead, recsAt}
-use Rattle.build_leaf.specs.Listed.{hintPlaces, hintsSet, fixedOn, Fixes}
+use Rattle.build_leaf.specs.Listed.{hintPlaces, fixedOn, Fixes}
 use Rattle.build_leaf.proofs.Frame.{length-leaf-head}
 use Rattle.build_leaf.proofs.Whole.{Measured, measured, few-heads}
 use Rattle.build_leaf.proofs.Pieces.{pieces, hint-left}

@@ -4,7 +4,7 @@ use mathlib.Core.Path.{_≡_, refl, sym, ap, _∙_, subst}
 use mathlib.Core.List.{List, [], _∷_, _++_, append-assoc}
 use Prim.Native.Nat.{ℕ, _+_, _≤_}
 use native.Mathlib.Omega.{arith}
-use lib.ListN.{length, take, length-append}
+use lib.ListN.{length, length-append}
 use Rattle.spans.specs.Span.{put}
 use Rattle.spans.proofs.Put.{put-append, put-nil}
 use Rattle.build_pen.specs.Stretches.{Stretch, stretch, draws, Rising, Drawing}

@@ -5,9 +5,9 @@ use mathlib.Core.List.{List, [], _∷_, _++_}
 use Prim.Native.Nat.{ℕ, zero, suc, _+_, _≤_, _<_}
 use native.Mathlib.Nat.{le-of-suc-le-suc, not-suc-le-zero}
 use native.Mathlib.Omega.{arith}
-use lib.ListN.{length, take, set, length-append}
+use lib.ListN.{length, set, length-append}
 use Rattle.spans.specs.Span.{put}
-use Rattle.spans.proofs.Put.{length-put, put-append, take-put, put-nil}
+use Rattle.spans.proofs.Put.{length-put, put-append, take-put}
 use Rattle.build_pen.specs.Stretches.{Stretch, stretch, draws, Rising, Drawing}
 
 -- ---- stores at different places change places

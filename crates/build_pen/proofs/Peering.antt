@@ -2,25 +2,24 @@
 -- Assumes nothing.
 use mathlib.Core.Path.{_≡_, refl, sym, ap, _∙_, subst}
 use mathlib.Core.List.{List, [], _∷_}
-use mathlib.Core.Bool.{Bool, true, false}
+use mathlib.Core.Bool.{true, false}
 use Prim.Native.Nat.{ℕ, _+_, _-_, _≤_, _<_}
 use native.Mathlib.Omega.{arith}
 use lib.ListN.{length}
-use Rattle.frames.specs.Layout.{baseLen, nullAddr}
+use Rattle.frames.specs.Layout.{baseLen}
 use Rattle.frames.specs.Limits.{maxBudget, maxLimit, maxValue}
 use Rattle.values.specs.Vals.{sizeOf}
 use Rattle.build_paging.specs.Cuts.{fits}
 use Rattle.build_sources.specs.declared.Cursor.{Cursor}
 use Rattle.build_sources.specs.declared.EntryAt.{EntryAt}
-use Rattle.build_sources.specs.Lists.{recordItem, sameKey, listKey}
-use Rattle.build_sources.specs.Source.{Entry, entries, only, olds, Chosen}
+use Rattle.build_sources.specs.Lists.{recordItem}
+use Rattle.build_sources.specs.Source.{Entry, only, olds, Chosen}
 use Rattle.build_sources.proofs.Sourced.{chosen}
 use Rattle.build_image.specs.Sizes.{remoteLen}
-use Rattle.build_history.specs.declared.PageAhead.{PageAhead}
 use Rattle.build_history.specs.Runs.{runOf}
 use Rattle.build_history.proofs.Ahead.{run, runFrom, Looking, look-begin, look-end, look-fits, look-full, look-remote, look-turn}
 use Rattle.build_pen.specs.declared.RecordAt.{RecordAt}
-use Rattle.build_pen.specs.Places.{here, listFrom, listBehind, Well, Reads, pastOf, Inside, entryIn, alike}
+use Rattle.build_pen.specs.Places.{here, listBehind, Well, Reads, pastOf, Inside, entryIn, alike}
 use Rattle.build_pen.proofs.Places.{fd, past-is, item-old, end-behind, inside, step-new, step-head, well-past}
 
 pub record Peering (l : List ℕ) (limit budget from bat blen at kat klen n t f : ℕ) : Type 0 where

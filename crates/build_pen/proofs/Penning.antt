@@ -9,7 +9,7 @@ use native.Mathlib.Omega.{arith}
 use borrow.Author.Tests.{eqb-true}
 use lib.Dec.{eqb}
 use lib.ListN.{length, take, drop, length-append}
-use Rattle.spans.specs.Span.{part, partOr, put}
+use Rattle.spans.specs.Span.{partOr, put}
 use Rattle.spans.proofs.Part.{length-part, partOr-in}
 use Rattle.numbers.specs.Number.{le}
 use Rattle.frames.specs.Layout.{boxLen}
@@ -34,7 +34,7 @@ use Rattle.build_pen.specs.declared.Ran.{Ran}
 use Rattle.build_pen.specs.Stretches.{Stretch, stretch, draws, Rising, Drawing}
 use Rattle.build_pen.specs.Places.{listFrom, listBehind, Well, Reads, pastOf, Inside, entryIn}
 use Rattle.build_pen.specs.Nibs.{Asks, drawn, nibPast, hintOf, oldsLeft}
-use Rattle.build_pen.specs.Pens.{startsAt, addrsAt, pensLeft, Steady, refFrom, Passed, RanTo, headsMid, headsTail, allLeft, AllLaid}
+use Rattle.build_pen.specs.Pens.{startsAt, addrsAt, pensLeft, Steady, refFrom, RanTo, headsMid, headsTail, allLeft, AllLaid}
 use Rattle.build_pen.proofs.Drawn.{drew, drew-room}
 use Rattle.build_pen.proofs.Cutting.{gone, thinned, rising-up}
 use Rattle.build_pen.proofs.Nibbing.{nib-asks, nib-turn}

@@ -12,7 +12,6 @@ use Rattle.spans.specs.Span.{part, partOr}
 use Rattle.numbers.specs.Number.{beAt}
 use Rattle.order.specs.Order.{isEqual}
 use Rattle.frames.specs.Limits.{maxKey, maxValue}
-use Rattle.build_sources.specs.declared.Cursor.{Cursor}
 use Rattle.build_sources.specs.Lists.{recordItem, sameKey, listKey}
 use Rattle.build_sources.specs.Source.{Entry, entryOf, entries, wellFormed}
 use Rattle.build_sources.proofs.Sourced.{Found, found, ended, odd}

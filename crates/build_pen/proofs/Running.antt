@@ -6,36 +6,32 @@ use mathlib.Core.Bool.{Bool, true, false, cond}
 use Prim.Native.Nat.{ℕ, zero, suc, _+_, _-_, _≤_, _<_}
 use native.Mathlib.Numerals.{sub-one}
 use native.Mathlib.Omega.{arith}
-use borrow.Author.Tests.{eqb-true, ne-eqb, lt-ltb, le-ltb}
+use borrow.Author.Tests.{eqb-true, ne-eqb}
 use lib.Dec.{eqb, ltb}
 use lib.ListN.{length, take, drop}
-use Rattle.spans.specs.Span.{part, put}
+use Rattle.spans.specs.Span.{put}
 use Rattle.spans.proofs.Part.{length-part}
 use Rattle.numbers.specs.Number.{le}
 use Rattle.frames.specs.Layout.{boxLen}
 use Rattle.frames.specs.Limits.{maxEntries}
-use Rattle.build_paging.specs.Cuts.{total}
-use Rattle.values.specs.declared.HistRef.{HistRef}
 use Rattle.values.specs.Vals.{histOf}
 use Rattle.build_sources.specs.Source.{Entry, only, olds, heads}
 use Rattle.build_image.specs.declared.Call.{Call}
-use Rattle.build_image.specs.Sizes.{remoteLen, costsOf, oldRun}
+use Rattle.build_image.specs.Sizes.{remoteLen, oldRun}
 use Rattle.build_image.specs.Image.{PageSlot, refOf, remoteAddr, remoteAddrs, remoteFrameOf, les, headSlots, headRecs, oldRec}
 use Rattle.build_image.proofs.Lengths.{length-remote-of}
-use Rattle.build_history.specs.Runs.{Sane, historyAt}
+use Rattle.build_history.specs.Runs.{historyAt}
 use Rattle.build_history.proofs.Passes.{take-cons}
 use Rattle.build_heads.specs.declared.Loc.{Loc}
-use Rattle.build_heads.specs.Steps.{Long}
 use Rattle.build_heads.specs.Located.{placesAt, Settled, onwardOf}
 use Rattle.build_heads.proofs.Locating.{at-hand, some-left}
 use Rattle.build_pen.specs.declared.RecordAt.{RecordAt}
 use Rattle.build_pen.specs.declared.Nib.{Nib}
 use Rattle.build_pen.specs.declared.Pen.{Pen}
-use Rattle.build_pen.specs.declared.Ran.{Ran}
 use Rattle.build_pen.specs.Stretches.{Stretch, stretch, draws, Rising, Drawing}
 use Rattle.build_pen.specs.Places.{listFrom, listBehind, Well, Reads, pastOf, Inside, entryIn, alike}
 use Rattle.build_pen.specs.Nibs.{Asks, drawn, nibPast, hintOf, oldsLeft}
-use Rattle.build_pen.specs.Pens.{Drew, startsAt, addrsAt, hintsLeft, pensLeft, Steady, Turned, refFrom, Passed, RanTo}
+use Rattle.build_pen.specs.Pens.{Drew, startsAt, addrsAt, pensLeft, Steady, Turned, refFrom, Passed, RanTo}
 use Rattle.build_pen.proofs.Drawn.{drew, drew-room}
 use Rattle.build_pen.proofs.Olding.{Olding, olds-asks, olds-turn}
 use Rattle.build_pen.proofs.Turning.{drew-none}

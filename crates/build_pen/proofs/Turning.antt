@@ -2,32 +2,29 @@
 -- Assumes nothing.
 use mathlib.Core.Path.{_≡_, refl, sym, ap, _∙_, subst}
 use mathlib.Core.List.{List, [], _∷_, _++_}
-use mathlib.Core.Bool.{Bool, true, false, cond}
+use mathlib.Core.Bool.{true, cond}
 use Prim.Native.Nat.{ℕ, zero, suc, _+_, _-_, _*_, _≤_, _<_}
 use native.Mathlib.Omega.{arith}
-use lib.ListN.{length, take, drop, replicate, length-append}
+use lib.ListN.{length, take, drop, replicate}
 use Rattle.spans.specs.Span.{put}
 use Rattle.spans.proofs.Put.{length-put}
 use Rattle.numbers.specs.Number.{le}
 use Rattle.numbers.proofs.Numbers.{length-le}
 use Rattle.frames.specs.Layout.{boxLen, slotsAt, frameLen}
 use Rattle.frames.specs.Limits.{maxBudget, maxEntries}
-use Rattle.build_paging.specs.Cuts.{total, cuts}
 use Rattle.build_sources.specs.Source.{Entry}
 use Rattle.build_image.specs.declared.Call.{Call}
-use Rattle.build_image.specs.Sizes.{costsOf}
-use Rattle.build_image.specs.Image.{histHead, histSize, pageEnd, history, starts, histAddrs, remoteAddrs, les}
+use Rattle.build_image.specs.Image.{histHead, pageEnd, history, starts, histAddrs, remoteAddrs, les}
 use Rattle.build_image.proofs.Lengths.{frame-least, length-page}
 use Rattle.build_history.specs.declared.PageAhead.{PageAhead}
 use Rattle.build_history.specs.Runs.{Sane, runOf, runPage, historyAt}
 use Rattle.build_history.proofs.Ahead.{Tells, tells-of}
-use Rattle.build_heads.specs.Located.{Settled}
 use Rattle.build_heads.proofs.Locating.{stays, settled-end, turned}
 use Rattle.build_pen.specs.declared.Nib.{Nib}
 use Rattle.build_pen.specs.declared.Pen.{Pen}
 use Rattle.build_pen.specs.Stretches.{Stretch, stretch, draws, Rising, Drawing}
 use Rattle.build_pen.specs.Nibs.{oldsLeft}
-use Rattle.build_pen.specs.Pens.{Drew, startsAt, addrsAt, hintsLeft, pensLeft, Steady, Turned}
+use Rattle.build_pen.specs.Pens.{Drew, startsAt, addrsAt, pensLeft, Steady, Turned}
 use Rattle.build_pen.proofs.Drawn.{drew, drew-room}
 use Rattle.build_pen.proofs.Cutting.{gone}
 use Rattle.build_pen.proofs.Olding.{Olding, none}

@@ -1,12 +1,12 @@
 -- One entry of a list written: two keys told apart, a value, a record in two pieces, a remote frame, a hint.
 -- Assumes nothing.
 use mathlib.Core.Path.{_≡_, refl, sym, ap, _∙_}
-use mathlib.Core.List.{List, [], _∷_, _++_}
-use mathlib.Core.Bool.{Bool, true, false, cond}
+use mathlib.Core.List.{List, [], _++_}
+use mathlib.Core.Bool.{Bool, true, false}
 use Prim.Native.Nat.{ℕ, _+_, _-_, _≤_, _<_}
 use native.Mathlib.Omega.{arith}
-use borrow.Author.Tests.{lt-ltb, le-ltb, le-leb, ltb-true, ltb-false}
-use lib.Dec.{ltb, leb}
+use borrow.Author.Tests.{lt-ltb, le-ltb, le-leb}
+use lib.Dec.{leb}
 use lib.ListN.{length, drop, length-append}
 use lib.Seq.{drop-append-seam}
 use Rattle.spans.specs.Span.{part, partOr, put, Stored}
@@ -29,7 +29,7 @@ use Rattle.build_image.specs.Image.{remoteAddr, valBytes, remoteFrame, remoteFr
 use Rattle.build_image.proofs.Lengths.{length-remote-frame}
 use Rattle.build_sweep.specs.Ents.{verIn}
 use Rattle.build_pen.specs.declared.RecordAt.{RecordAt}
-use Rattle.build_pen.specs.Places.{pastOf, Inside, entryIn, alike}
+use Rattle.build_pen.specs.Places.{Inside, entryIn, alike}
 use Rattle.build_pen.specs.Nibs.{hintOf}
 
 -- ---- keys

@@ -1,16 +1,15 @@
 -- What the pen does to an arena for one entry: three stores, and a hint.
 -- Assumes nothing.
 use Prim.Native.Nat.{ℕ, _+_, _-_, _≤_}
-use mathlib.Core.Path.{_≡_}
-use mathlib.Core.List.{List, [], _∷_, _++_}
+use mathlib.Core.List.{List, [], _∷_}
 use mathlib.Core.Bool.{cond}
 use lib.ListN.{length}
 use lib.Dec.{ltb}
 use Rattle.spans.specs.Span.{put}
 use Rattle.numbers.specs.Number.{le}
-use Rattle.build_sources.specs.Source.{Entry, heads}
+use Rattle.build_sources.specs.Source.{Entry}
 use Rattle.build_image.specs.declared.Call.{Call}
-use Rattle.build_image.specs.Image.{PageSlot, remoteFrameOf, remoteFrames, oldSlots, oldRecs, headSlots, headRecs}
+use Rattle.build_image.specs.Image.{remoteFrameOf, remoteFrames, oldSlots, oldRecs}
 use Rattle.build_pen.specs.declared.Nib.{Nib}
 use Rattle.build_pen.specs.Stretches.{Stretch, stretch}
 

@@ -4,7 +4,7 @@
 use Prim.Native.Nat.{ℕ, _+_, _-_, _≤_, _<_}
 use mathlib.Core.Path.{_≡_}
 use mathlib.Core.List.{List, [], _∷_, _++_}
-use mathlib.Core.Bool.{Bool, true, cond}
+use mathlib.Core.Bool.{true, cond}
 use lib.Dec.{eqb}
 use lib.ListN.{length, take, drop}
 use Rattle.frames.specs.Layout.{boxLen}
@@ -24,7 +24,7 @@ use Rattle.build_pen.specs.declared.Nib.{Nib}
 use Rattle.build_pen.specs.declared.Pen.{Pen}
 use Rattle.build_pen.specs.declared.Ran.{Ran}
 use Rattle.build_pen.specs.Stretches.{Stretch, stretch, draws, Rising, Drawing}
-use Rattle.build_pen.specs.Places.{listBehind, listFrom, Well}
+use Rattle.build_pen.specs.Places.{listFrom, Well}
 use Rattle.build_pen.specs.Nibs.{oldsLeft}
 
 -- what a function that stores at some stretches leaves, other stretches (mid and tail) between and behind them: finishing from there is finishing

@@ -17,7 +17,6 @@ ghost use Prim.Native.Nat.{_+_, _-_, _≤_, _<_};
 ghost use lib.ListN.{length};
 ghost use lib.Dec.{ltb, eqb};
 ghost use Rattle.spans.specs.Span.{part, put};
-ghost use Rattle.order.specs.Order.{cmpBytes, isEqual};
 ghost use Rattle.frames.specs.Limits.{maxBudget, maxEntries, maxLimit};
 ghost use Rattle.build_sources.specs.Source.{olds};
 ghost use Rattle.build_image.specs.Image.{valBytes, oldRec, headRec, headRecs, remoteAddrs, remoteFrameOf};

@@ -212,7 +212,7 @@ fn key_of(s: &[u8], at: usize, n: usize) -> &[u8]
     &s[at..e]
 }
 
-// The key before, if there is one, against this one. Not by `order_pair::pair_of`: a second caller would leave it out of the loop of a search.
+// The key before, if there is one, against this one.
 fn order_at(s: &[u8], seen: bool, bat: usize, blen: usize, kat: usize, klen: usize) -> Order
     requires { ⌜ (bat + blen ≤ length (now s)) × (kat + klen ≤ length (now s)) ⌝ }
     ensures { λ r. ⌜ r ≡ orderAt (now (s .entry)) seen bat blen kat klen ⌝ }

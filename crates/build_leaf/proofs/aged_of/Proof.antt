@@ -1,4 +1,4 @@
-use borrow.Author.Needs.{needs}
+-- `build_leaf::aged_of` meets its contract. Assumes nothing.
 use Rattle.build_leaf.proofs.aged_of.Statement.{statement}
 use Rattle.build_leaf.proofs.aged_of.Tie as tie
 

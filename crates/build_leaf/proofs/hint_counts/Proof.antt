@@ -1,13 +1,9 @@
+-- `build_leaf::hint_counts` meets its contract. Assumes nothing.
 use native.Mathlib.Omega.{arith}
-use mathlib.Core.Path.{_≡_, refl, sym, ap, _∙_}
 use Rattle.build_leaf.proofs.Fixed.{counts-none, counts-some}
 use borrow.Author.Needs.{needs}
 use Rattle.build_leaf.proofs.hint_counts.Statement.{statement}
 use Rattle.build_leaf.proofs.hint_counts.Tie as tie
-use Rattle.build_leaf.proofs.hint_counts.Reads as reads
-use Rattle.build_leaf.proofs.hint_counts.Lts as lts
-use Rattle.numbers.proofs.put_u32.Reads as put-u32-reads
-use Rattle.spans.proofs.zeros.Reads as zeros-reads
 
 returns : tie.Need-returns
 returns c = counts-none _ _ _ _ _ _ (c .if1 .taken)

@@ -1,6 +1,6 @@
+-- `build_leaf::leaf_fixed` meets its contract. Assumes nothing.
 use native.Mathlib.Omega.{arith}
 use Rattle.build_leaf.proofs.Fixed.{head-asks, fixed-fits, lo-asks, hi-asks, pad-asks, counts-asks, fixed-done}
-use borrow.Author.Needs.{needs}
 use Rattle.build_leaf.proofs.leaf_fixed.Statement.{statement}
 use Rattle.build_leaf.proofs.leaf_fixed.Tie as tie
 

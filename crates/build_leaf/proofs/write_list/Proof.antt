@@ -1,3 +1,4 @@
+-- `build_leaf::write_list` meets its contract. Assumes nothing.
 use native.Mathlib.Omega.{arith}
 use Rattle.build_leaf.proofs.Listed.{sizes-small, remote-fits, aged-none, fixes, pen-asks, tail-fits, list-done}
 use borrow.Author.Needs.{needs}

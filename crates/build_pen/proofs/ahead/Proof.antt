@@ -1,20 +1,13 @@
+-- `build_pen::ahead` meets its contract. Assumes nothing.
 use native.Mathlib.Omega.{arith}
 use borrow.Author.Tests.{not-true, not-false}
-use mathlib.Core.Path.{_≡_, refl, sym, ap, _∙_}
-use Prim.Native.Nat.{_+_, _-_, _≤_, _<_}
+use mathlib.Core.Path.{sym, _∙_}
+use Prim.Native.Nat.{_-_}
 use lib.ListN.{length}
 use Rattle.build_pen.proofs.Peering.{Peering, peer-begin, peer-end, peer-past, peer-key, peer-val, peer-less, peer-skip, peer-fits, peer-full, peer-remote, peer-turn}
 use borrow.Author.Needs.{needs}
 use Rattle.build_pen.proofs.ahead.Statement.{statement}
 use Rattle.build_pen.proofs.ahead.Tie as tie
-use Rattle.build_pen.proofs.ahead.Reads as reads
-use Rattle.build_pen.proofs.ahead.Lts as lts
-use Rattle.build_image.proofs.remote_len.Reads as remote-len-reads
-use Rattle.build_paging.proofs.takes.Reads as takes-reads
-use Rattle.build_pen.proofs.past.Reads as past-reads
-use Rattle.build_pen.proofs.record_at.Reads as record-at-reads
-use Rattle.build_pen.proofs.same_key.Reads as same-key-reads
-use Rattle.values.proofs.Val.calc_size.Reads as calc-size-reads
 
 abbrev Inv-loop : tie.InvT-loop
 Inv-loop list from bat blen limit budget at₀ kat₀ klen₀ n₀ t₀ f₀ at kat klen n t f = Peering list limit budget from bat blen at kat klen n t f

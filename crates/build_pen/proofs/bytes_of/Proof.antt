@@ -1,10 +1,9 @@
+-- `build_pen::bytes_of` meets its contract. Assumes nothing.
 use native.Mathlib.Nat.{add-sub-cancel-left}
 use Rattle.spans.specs.Span.{part}
 use borrow.Author.Needs.{needs}
 use Rattle.build_pen.proofs.bytes_of.Statement.{statement}
 use Rattle.build_pen.proofs.bytes_of.Tie as tie
-use Rattle.build_pen.proofs.bytes_of.Reads as reads
-use Rattle.build_pen.proofs.bytes_of.Lts as lts
 
 add-e : tie.Need-add-e
 add-e c = search needs

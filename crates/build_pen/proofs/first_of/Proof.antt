@@ -1,8 +1,7 @@
+-- `build_pen::first_of` meets its contract. Assumes nothing.
 use borrow.Author.Tests.{ne-eqb}
 use Rattle.build_pen.proofs.first_of.Statement.{statement}
 use Rattle.build_pen.proofs.first_of.Tie as tie
-use Rattle.build_pen.proofs.first_of.Reads as reads
-use Rattle.build_pen.proofs.first_of.Lts as lts
 
 returns : tie.Need-returns
 returns c = simp (c .if1 .taken)

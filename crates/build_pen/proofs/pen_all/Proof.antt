@@ -1,6 +1,6 @@
+-- `build_pen::pen_all` meets its contract. Assumes nothing.
 use native.Mathlib.Omega.{arith}
-use mathlib.Core.Path.{_≡_, refl, sym, ap, _∙_}
-use Prim.Native.Nat.{_+_, _-_, _≤_, _<_}
+use Prim.Native.Nat.{_+_, _-_}
 use lib.ListN.{length}
 use Rattle.build_sources.specs.Source.{olds}
 use Rattle.build_image.specs.Image.{headRecs}
@@ -9,16 +9,8 @@ use Rattle.build_pen.specs.Stretches.{draws}
 use Rattle.build_pen.specs.Places.{listFrom}
 use Rattle.build_pen.specs.Pens.{allLeft}
 use Rattle.build_pen.proofs.Penning.{Penning, all-begin, all-end, head-inside, head-past, head-key, run-asked, ran-place, ran-less, head-hint, head-asks, all-turn}
-use borrow.Author.Needs.{needs}
 use Rattle.build_pen.proofs.pen_all.Statement.{statement}
 use Rattle.build_pen.proofs.pen_all.Tie as tie
-use Rattle.build_pen.proofs.pen_all.Reads as reads
-use Rattle.build_pen.proofs.pen_all.Lts as lts
-use Rattle.build_pen.proofs.past.Reads as past-reads
-use Rattle.build_pen.proofs.pen_head.Reads as pen-head-reads
-use Rattle.build_pen.proofs.pen_run.Reads as pen-run-reads
-use Rattle.build_pen.proofs.put_hint.Reads as put-hint-reads
-use Rattle.build_pen.proofs.record_at.Reads as record-at-reads
 
 abbrev Inv-loop : tie.InvT-loop
 Inv-loop a₀ list from hints base m p at₀ q₀ n₀ hint₀ a at q n hint = Penning a₀ list (draws a₀ (allLeft m q₀ n₀ hints base p (listFrom list from))) m base p (length a₀) (n₀ .rec + length (headRecs (m .limit) p (n₀ .remote) (placesAt (m .limit) (m .budget) (q₀ .loc) (olds (listFrom list from))) (listFrom list from))) a at q n hint

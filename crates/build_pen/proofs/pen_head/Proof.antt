@@ -1,20 +1,10 @@
-use mathlib.Core.Path.{_≡_, refl, sym, ap, _∙_}
-use mathlib.Core.Bool.{true, false}
-use Prim.Native.Nat.{_+_, _≤_}
-use lib.ListN.{length}
-use Rattle.spans.specs.Span.{put}
-use Rattle.build_image.specs.Image.{headRec, remoteFrameOf}
-use Rattle.build_pen.specs.Places.{entryIn}
+-- `build_pen::pen_head` meets its contract. Assumes nothing.
+use Rattle.build_image.specs.Image.{headRec}
 use Rattle.build_pen.proofs.Writing.{frame-either}
 use Rattle.build_pen.proofs.Nibbing.{rec-asks, remote-asks, nib-is, all-drawn}
 use borrow.Author.Needs.{needs}
 use Rattle.build_pen.proofs.pen_head.Statement.{statement}
 use Rattle.build_pen.proofs.pen_head.Tie as tie
-use Rattle.build_pen.proofs.pen_head.Reads as reads
-use Rattle.build_pen.proofs.pen_head.Lts as lts
-use Rattle.build_pen.proofs.put_head.Reads as put-head-reads
-use Rattle.build_pen.proofs.put_remote.Reads as put-remote-reads
-use Rattle.numbers.proofs.put_u32.Reads as put-u32-reads
 
 sub-put-u32 : tie.Need-sub-put-u32
 sub-put-u32 c = search needs

@@ -1,15 +1,9 @@
+-- `build_pen::pen_old` meets its contract. Assumes nothing.
 use Rattle.build_image.specs.Image.{oldRec}
-use Rattle.build_pen.specs.Places.{entryIn}
 use Rattle.build_pen.proofs.Nibbing.{rec-asks, remote-asks, nib-is, all-drawn}
-use mathlib.Core.Bool.{true}
 use borrow.Author.Needs.{needs}
 use Rattle.build_pen.proofs.pen_old.Statement.{statement}
 use Rattle.build_pen.proofs.pen_old.Tie as tie
-use Rattle.build_pen.proofs.pen_old.Reads as reads
-use Rattle.build_pen.proofs.pen_old.Lts as lts
-use Rattle.build_pen.proofs.put_old.Reads as put-old-reads
-use Rattle.build_pen.proofs.put_remote.Reads as put-remote-reads
-use Rattle.numbers.proofs.put_u32.Reads as put-u32-reads
 
 sub-put-u32 : tie.Need-sub-put-u32
 sub-put-u32 c = search needs

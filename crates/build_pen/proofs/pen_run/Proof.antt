@@ -1,22 +1,14 @@
+-- `build_pen::pen_run` meets its contract. Assumes nothing.
 use native.Mathlib.Omega.{arith}
 use borrow.Author.Tests.{not-true, not-false}
-use mathlib.Core.Path.{_≡_, refl, sym, ap, _∙_}
-use Prim.Native.Nat.{_+_, _-_, _≤_, _<_}
+use mathlib.Core.Path.{sym, _∙_}
+use Prim.Native.Nat.{_-_}
 use lib.ListN.{length}
 use Rattle.build_pen.specs.Places.{listBehind}
 use Rattle.build_pen.proofs.Running.{Running, run-begin, run-long, turn-asks, run-end, run-stop, run-inside, run-past, run-keys, run-less, run-left, run-slot, run-count, run-hint, run-asks, run-page, run-turn}
 use borrow.Author.Needs.{needs}
 use Rattle.build_pen.proofs.pen_run.Statement.{statement}
 use Rattle.build_pen.proofs.pen_run.Tie as tie
-use Rattle.build_pen.proofs.pen_run.Reads as reads
-use Rattle.build_pen.proofs.pen_run.Lts as lts
-use Rattle.build_pen.proofs.first_of.Reads as first-of-reads
-use Rattle.build_pen.proofs.past.Reads as past-reads
-use Rattle.build_pen.proofs.pen_old.Reads as pen-old-reads
-use Rattle.build_pen.proofs.put_hint.Reads as put-hint-reads
-use Rattle.build_pen.proofs.record_at.Reads as record-at-reads
-use Rattle.build_pen.proofs.same_key.Reads as same-key-reads
-use Rattle.build_pen.proofs.turn.Reads as turn-reads
 
 abbrev Inv-loop : tie.InvT-loop
 Inv-loop a₀ list from bat blen m at₀ kat₀ klen₀ q₀ run₀ page₀ slot₀ a at kat klen q run page slot = Running m list a₀ (listBehind list from bat blen) from q₀ a at kat klen q run page slot

@@ -1,15 +1,9 @@
+-- `build_pen::put_head` meets its contract. Assumes nothing.
 use native.Mathlib.Omega.{arith}
-use mathlib.Core.Path.{_≡_, refl, sym, ap, _∙_}
 use Rattle.build_pen.proofs.Writing.{head-fits, head-room, head-done}
 use borrow.Author.Needs.{needs}
 use Rattle.build_pen.proofs.put_head.Statement.{statement}
 use Rattle.build_pen.proofs.put_head.Tie as tie
-use Rattle.build_pen.proofs.put_head.Reads as reads
-use Rattle.build_pen.proofs.put_head.Lts as lts
-use Rattle.build_pen.proofs.bytes_of.Reads as bytes-of-reads
-use Rattle.build_pen.proofs.put_value.Reads as put-value-reads
-use Rattle.build_pen.proofs.ver_in.Reads as ver-in-reads
-use Rattle.values.proofs.write_leaf_key.Reads as write-leaf-key-reads
 
 add-ver-in : tie.Need-add-ver-in
 add-ver-in c = search needs

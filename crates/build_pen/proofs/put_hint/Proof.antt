@@ -1,10 +1,8 @@
+-- `build_pen::put_hint` meets its contract. Assumes nothing.
 use Rattle.build_pen.proofs.Writing.{unhinted, hint-room, hinted}
 use borrow.Author.Needs.{needs}
 use Rattle.build_pen.proofs.put_hint.Statement.{statement}
 use Rattle.build_pen.proofs.put_hint.Tie as tie
-use Rattle.build_pen.proofs.put_hint.Reads as reads
-use Rattle.build_pen.proofs.put_hint.Lts as lts
-use Rattle.numbers.proofs.put_u64.Reads as put-u64-reads
 
 returns : tie.Need-returns
 returns c = unhinted _ _ _ _ _ (c .if1 .taken)

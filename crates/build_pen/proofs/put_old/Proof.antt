@@ -1,14 +1,9 @@
+-- `build_pen::put_old` meets its contract. Assumes nothing.
 use native.Mathlib.Omega.{arith}
-use mathlib.Core.Path.{_≡_, refl, sym, ap, _∙_}
 use Rattle.build_pen.proofs.Writing.{old-fits, old-room, old-done}
 use borrow.Author.Needs.{needs}
 use Rattle.build_pen.proofs.put_old.Statement.{statement}
 use Rattle.build_pen.proofs.put_old.Tie as tie
-use Rattle.build_pen.proofs.put_old.Reads as reads
-use Rattle.build_pen.proofs.put_old.Lts as lts
-use Rattle.build_pen.proofs.put_value.Reads as put-value-reads
-use Rattle.build_pen.proofs.ver_in.Reads as ver-in-reads
-use Rattle.values.proofs.write_ver.Reads as write-ver-reads
 
 add-ver-in : tie.Need-add-ver-in
 add-ver-in c = search needs

@@ -1,12 +1,9 @@
+-- `build_pen::put_remote` meets its contract. Assumes nothing.
 use native.Mathlib.Omega.{arith}
 use Rattle.build_pen.proofs.Writing.{none-done, frame-room, frame-end, frame-done}
 use borrow.Author.Needs.{needs}
 use Rattle.build_pen.proofs.put_remote.Statement.{statement}
 use Rattle.build_pen.proofs.put_remote.Tie as tie
-use Rattle.build_pen.proofs.put_remote.Reads as reads
-use Rattle.build_pen.proofs.put_remote.Lts as lts
-use Rattle.build_history.proofs.remote_frame.Reads as remote-frame-reads
-use Rattle.frames.proofs.frame_len.Reads as frame-len-reads
 
 returns : tie.Need-returns
 returns c = none-done _ _ (c .before .before .before .before .pre .0) _ _ _ (c .if1 .taken)

@@ -1,12 +1,8 @@
+-- `build_pen::put_value` meets its contract. Assumes nothing.
 use Rattle.build_pen.proofs.Writing.{near-done, away-done}
 use borrow.Author.Needs.{needs}
 use Rattle.build_pen.proofs.put_value.Statement.{statement}
 use Rattle.build_pen.proofs.put_value.Tie as tie
-use Rattle.build_pen.proofs.put_value.Reads as reads
-use Rattle.build_pen.proofs.put_value.Lts as lts
-use Rattle.build_pen.proofs.bytes_of.Reads as bytes-of-reads
-use Rattle.values.proofs.Val.encode_inline.Reads as encode-inline-reads
-use Rattle.values.proofs.Val.encode_remote.Reads as encode-remote-reads
 
 add-bytes-of : tie.Need-add-bytes-of
 add-bytes-of c = search needs

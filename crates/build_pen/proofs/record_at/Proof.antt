@@ -1,12 +1,9 @@
+-- `build_pen::record_at` meets its contract. Assumes nothing.
 use native.Mathlib.Omega.{arith}
 use Rattle.build_pen.proofs.Places.{first-fits, front-fits, read-is}
 use borrow.Author.Needs.{needs}
 use Rattle.build_pen.proofs.record_at.Statement.{statement}
 use Rattle.build_pen.proofs.record_at.Tie as tie
-use Rattle.build_pen.proofs.record_at.Reads as reads
-use Rattle.build_pen.proofs.record_at.Lts as lts
-use Rattle.numbers.proofs.read_u16_be.Reads as read-u16-be-reads
-use Rattle.numbers.proofs.read_u32_be.Reads as read-u32-be-reads
 
 read-u16-be-requires : tie.Need-read-u16-be-requires
 read-u16-be-requires c κs = first-fits _ _ (c .before .pre .1) (c .before .pre .0)

@@ -1,5 +1,6 @@
+-- `build_pen::remote_olds` meets its contract. Assumes nothing.
 use native.Mathlib.Omega.{arith}
-use mathlib.Core.Path.{_≡_, refl, sym, ap, _∙_}
+use mathlib.Core.Path.{sym, _∙_}
 use Prim.Native.Nat.{_-_}
 use lib.ListN.{length}
 use Rattle.build_pen.proofs.Places.{inside}
@@ -7,12 +8,6 @@ use Rattle.build_pen.proofs.Counting.{Counting, count-none, count-begin
 use borrow.Author.Needs.{needs}
 use Rattle.build_pen.proofs.remote_olds.Statement.{statement}
 use Rattle.build_pen.proofs.remote_olds.Tie as tie
-use Rattle.build_pen.proofs.remote_olds.Reads as reads
-use Rattle.build_pen.proofs.remote_olds.Lts as lts
-use Rattle.build_pen.proofs.past.Reads as past-reads
-use Rattle.build_pen.proofs.record_at.Reads as record-at-reads
-use Rattle.build_pen.proofs.remote_one.Reads as remote-one-reads
-use Rattle.build_pen.proofs.same_key.Reads as same-key-reads
 
 abbrev Inv-loop : tie.InvT-loop
 Inv-loop list limit at₀ kat₀ klen₀ n₀ at kat klen n = Counting list limit at kat klen n

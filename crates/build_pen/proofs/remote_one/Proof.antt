@@ -1,9 +1,8 @@
+-- `build_pen::remote_one` meets its contract. Assumes nothing.
 use borrow.Author.Tests.{lt-ltb, le-ltb}
 use mathlib.Core.Path.{refl}
 use Rattle.build_pen.proofs.remote_one.Statement.{statement}
 use Rattle.build_pen.proofs.remote_one.Tie as tie
-use Rattle.build_pen.proofs.remote_one.Reads as reads
-use Rattle.build_pen.proofs.remote_one.Lts as lts
 
 returns : tie.Need-returns
 returns c = rw (lt-ltb (c .before .args .n) (c .before .args .limit) (c .if1 .taken)) refl

@@ -1,19 +1,10 @@
+-- `build_pen::turn` meets its contract. Assumes nothing.
 use native.Mathlib.Omega.{arith}
-use mathlib.Core.Path.{_≡_, refl, sym, ap, _∙_}
-use Prim.Native.Nat.{_+_, _≤_}
 use Rattle.build_image.proofs.Lengths.{frame-least}
 use Rattle.build_pen.proofs.Turning.{turn-stays, turn-none, turn-small, turn-fits, turn-many, turn-least, turn-zeros, turn-room, turn-hint, turn-new}
 use borrow.Author.Needs.{needs}
 use Rattle.build_pen.proofs.turn.Statement.{statement}
 use Rattle.build_pen.proofs.turn.Tie as tie
-use Rattle.build_pen.proofs.turn.Reads as reads
-use Rattle.build_pen.proofs.turn.Lts as lts
-use Rattle.build_history.proofs.hist_head.Reads as hist-head-reads
-use Rattle.build_pen.proofs.ahead.Reads as ahead-reads
-use Rattle.build_pen.proofs.link_of.Reads as link-of-reads
-use Rattle.frames.proofs.frame_len.Reads as frame-len-reads
-use Rattle.numbers.proofs.put_u64.Reads as put-u64-reads
-use Rattle.spans.proofs.zeros.Reads as zeros-reads
 
 returns : tie.Need-returns
 returns c = turn-stays _ _ _ _ (c .before .before .before .pre .1 .1 .1 .0) (c .if1 .taken)

@@ -1,12 +1,8 @@
-use mathlib.Core.Path.{_≡_, refl, sym, _∙_}
+-- `build_pen::ver_in` meets its contract. Assumes nothing.
+use mathlib.Core.Path.{refl}
 use borrow.Author.Needs.{needs}
 use Rattle.build_pen.proofs.ver_in.Statement.{statement}
 use Rattle.build_pen.proofs.ver_in.Tie as tie
-use Rattle.build_pen.proofs.ver_in.Reads as reads
-use Rattle.build_pen.proofs.ver_in.Lts as lts
-use Rattle.numbers.proofs.read_u32_be.Reads as read-u32-be-reads
-use Rattle.numbers.proofs.read_u64_be.Reads as read-u64-be-reads
-use Rattle.order.proofs.Ver.new.Reads as new-reads
 
 read-u64-be-requires : tie.Need-read-u64-be-requires
 read-u64-be-requires c κs = search needs
