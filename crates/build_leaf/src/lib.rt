@@ -1,5 +1,6 @@
 // The whole leaf: history pages, the leaf's frame with its hints, the heads' remote frames; each pass stores exactly its part of the
-// image, upward from one address, and reads its entries through the source alone.
+// image, upward from one address, and reads its entries through the source alone. A record list's entries are written by the pen
+// (`write_list`).
 use build_bounds::Boundaries;
 use build_heads::Loc;
 use build_image::Call;

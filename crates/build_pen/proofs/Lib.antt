@@ -1,3 +1,4 @@
+-- The crate's laws.
 pub mod Drawn
 pub mod Cutting
 pub mod Places
