@@ -71,7 +71,8 @@ uint32_t ct_new_intl(uint8_t *arena, size_t arena_len, uint64_t next, const uint
                      uint64_t checkpoint, uint64_t *out, size_t out_len);
 
 /* merge: the left page's records, then the right's, as one new page; lo of the left, hi and sibling of the right. The two are neighbours: the
- * left has a hi, and it is the right's lo. Refused with 1, 2, 4, 5, 6, 7, 10, 8, 9.
+ * left has a hi, and it is the right's lo. Refused with 1, 2, 4, 5, 6, 7, 10, 8, 9. It begins with the check of both, and
+ * reads each old version behind each head: its time is by the sums that ct_check's is by.
  * out: [0] the page's address, [1] the new next free address */
 uint32_t ct_merge(uint8_t *arena, size_t arena_len, uint64_t next, uint64_t left, uint64_t right, uint64_t limit, uint64_t budget,
                   uint8_t group, uint64_t txid, uint64_t lsn, uint64_t checkpoint, uint64_t *out, size_t out_len);
@@ -90,7 +91,10 @@ uint32_t ct_delta_index(uint8_t *arena, size_t arena_len, uint64_t next, uint8_t
 /* ---- reading a page ---- */
 
 /* Whether the leaf or index page at an address is sound: 0, or 4. A page with a key outside its boundaries, or with a lo that is not below its
- * hi, is not sound; no other call that reads asks for this. */
+ * hi, is not sound; no other call that reads asks for this.
+ * Time: by the page's bytes, by the sum of its heads' counts of old versions, and by all records of a history page each time that a head or a
+ * link leads to another history page than the last. On a page that this library built the last two are its old versions, twice. On a page made by
+ * hand they can be far more than its bytes: n heads that share one chain of n old versions take n * n (docs/BENCH.md, "slow to check"). */
 uint32_t ct_check(const uint8_t *arena, size_t arena_len, uint64_t addr);
 
 /* The page's kind, boundaries and neighbour. An empty hi is none.
