@@ -1,5 +1,5 @@
-// Building: a leaf or index page from a source of entries, judged on its whole input and then written strictly upward from the next free
-// address.
+// Building: a leaf or index page from a list of entries, judged on its whole input and then written from the next free address on, as one
+// store.
 use build_bounds::Boundaries;
 use build_image::Built;
 use build_sources::Started;

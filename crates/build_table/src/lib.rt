@@ -1,5 +1,6 @@
-// Building from any source: the whole input is judged without writing, then written strictly upward from the next free address. The
-// numbers 6 to 10 are judged on the entries, whatever holds them; 1 to 3 are the calls' own (crate base).
+// Building from any source: the whole input is judged without writing, then written from the next free address on, as one store. The
+// numbers 6 to 10 are judged on the entries, whatever holds them, and of a list whether it ends well (3); 1, 2 and a list's first five bytes
+// are the calls' own (crate base).
 use build_bounds::Boundaries;
 use build_bounds::Boundary;
 use build_image::Built;
