@@ -36,7 +36,7 @@ abbrev pub runFrom : ℕ → ℕ → ℕ → ℕ → ℕ → List Entry → Page
 runFrom limit budget n t f es = runWith limit (taken budget n t (costsOf limit es)) n t f es
 
 module _ (limit budget : ℕ) where
-  from-first : (os : List Entry) → runFrom limit budget 0 baseLen 0 os ≡ runOf limit budget os
+  pub from-first : (os : List Entry) → runFrom limit budget 0 baseLen 0 os ≡ runOf limit budget os
   unfolding runOf histSize
   from-first os =
       let k = firstCut budget (costsOf limit os) in
@@ -51,14 +51,14 @@ module _ (limit budget : ℕ) where
     unfolding costsOf taken
     taken-none es e = rw e refl
 
-    from-nil : (es : List Entry) → es ≡ [] → run n t f false ≡ runFrom limit budget n t f es
+    pub from-nil : (es : List Entry) → es ≡ [] → run n t f false ≡ runFrom limit budget n t f es
     from-nil es e = ap (run n t f) (sym (ap any e)) ∙ none-more (taken budget n t (costsOf limit es)) es (taken-none es e)
 
     stops : (e : Entry) (es : List Entry) → fits budget n t (cost limit e) ≡ false → taken budget n t (costsOf limit (e ∷ es)) ≡ 0
     unfolding costsOf
     stops e es h = taken-stop budget n t (cost limit e) (costsOf limit es) h
 
-    from-stop : (e : Entry) (es : List Entry) → fits budget n t (cost limit e) ≡ false → run n t f true ≡ runFrom limit budget n t f (e ∷ es)
+    pub from-stop : (e : Entry) (es : List Entry) → fits budget n t (cost limit e) ≡ false → run n t f true ≡ runFrom limit budget n t f (e ∷ es)
     from-stop e es h = none-more (taken budget n t (costsOf limit (e ∷ es))) (e ∷ es) (stops e es h)
 
     one-more : (k j : ℕ) (e : Entry) (es : List Entry) → k ≡ suc j
@@ -74,7 +74,7 @@ module _ (limit budget : ℕ) where
     unfolding costsOf
     goes-on e es h = taken-more budget n t (cost limit e) (costsOf limit es) h
 
-    from-go : (e : Entry) (es : List Entry) → fits budget n t (cost limit e) ≡ true
+    pub from-go : (e : Entry) (es : List Entry) → fits budget n t (cost limit e) ≡ true
         → runFrom limit budget n t f (e ∷ es) ≡ runFrom limit budget (n + 1) (t + cost limit e) (f + remoteLen limit (length (e .val)) (e .kept)) es
     from-go e es h = one-more (taken budget n t (costsOf limit (e ∷ es))) (taken budget (n + 1) (t + cost limit e) (costsOf limit es)) e es (goes-on e es h)
 

@@ -1,12 +1,12 @@
 -- An index page as one store: headers, slots, boundaries, records, zeros. One module a store.
 -- Assumes nothing.
 use mathlib.Core.Path.{_≡_, refl, sym, ap, _∙_}
-use mathlib.Core.List.{List, [], _∷_, _++_, append-nil}
+use mathlib.Core.List.{List, [], _++_, append-nil}
 use Prim.Native.Nat.{ℕ, _+_, _-_, _*_, _≤_}
 use native.Mathlib.Omega.{arith}
 use lib.ListN.{length, take, replicate, length-replicate}
 use Rattle.spans.specs.Span.{put}
-use Rattle.spans.proofs.Writing.{Writing, begin, wrote, finished, front}
+use Rattle.spans.proofs.Writing.{Writing, begin, wrote, front}
 use Rattle.frames.specs.declared.BaseHeader.{BaseHeader}
 use Rattle.frames.specs.Layout.{boxLen, baseLen, slotsAt, nodeIndex, frameLen}
 use Rattle.frames.specs.Stored.{pageBytes, baseOf}
@@ -32,7 +32,7 @@ pub heads-end : (a : List ℕ) (at : ℕ) (m : Call) (n size sibling lo hi prefi
 unfolding indexHead
 heads-end a at m n size sibling lo hi prefix b a₁ e₁ e₂ = e₂ ∙ ap (λ (h : BaseHeader). put a at (pageBytes (pageBox m size nodeIndex 0 0) h)) e₁
 
-length-head : (m : Call) (n size sibling lo hi prefix : ℕ) → length (indexHead m n size sibling lo hi prefix) ≡ slotsAt
+pub length-head : (m : Call) (n size sibling lo hi prefix : ℕ) → length (indexHead m n size sibling lo hi prefix) ≡ slotsAt
 unfolding indexHead
 length-head m n size sibling lo hi prefix = length-heads (pageBox m size nodeIndex 0 0) (baseOf size n sibling lo hi prefix 1 0)
 
@@ -43,11 +43,11 @@ page-parts : (m : Call) (b : Borders) (es : List Entry)
 unfolding indexImage indexHead
 page-parts m b es = refl
 
-page-open : (m : Call) (b : Borders) (es : List Entry) (n size lo hi first : ℕ) → n ≡ length es → size ≡ indexSize b es → lo ≡ length (b .lo) → hi ≡ length (b .hi) → first ≡ baseLen + 4 * n + lo + hi
+pub page-open : (m : Call) (b : Borders) (es : List Entry) (n size lo hi first : ℕ) → n ≡ length es → size ≡ indexSize b es → lo ≡ length (b .lo) → hi ≡ length (b .hi) → first ≡ baseLen + 4 * n + lo + hi
     → indexImage m b es ≡ indexHead m n size (b .sibling) lo hi (b .prefix) ++ (indexSlots (b .prefix) first es ++ (b .lo ++ (b .hi ++ (indexRecs (b .prefix) es ++ pad size))))
 page-open m b es n size lo hi first e₁ e₂ e₃ e₄ e₅ = rw (e₅, e₁, e₂, e₃, e₄) (page-parts m b es)
 
-size-open : (b : Borders) (es : List Entry) (size : ℕ) → size ≡ indexSize b es → size ≡ baseLen + 4 * length es + length (b .lo) + length (b .hi) + indexSums (b .prefix) es
+pub size-open : (b : Borders) (es : List Entry) (size : ℕ) → size ≡ indexSize b es → size ≡ baseLen + 4 * length es + length (b .lo) + length (b .hi) + indexSums (b .prefix) es
 unfolding indexSize
 size-open b es size e = e
 

@@ -31,7 +31,7 @@ pub key-most : (p n : ℕ) → indexKeyLen p n ≤ 5 + n
 unfolding indexKeyLen
 key-most p n = omega (arith, uleb-few (n - p))
 
-sums-nil : (p : ℕ) (es : List Entry) → es ≡ [] → indexSums p es ≡ 0
+pub sums-nil : (p : ℕ) (es : List Entry) → es ≡ [] → indexSums p es ≡ 0
 unfolding indexSums
 sums-nil p es e = rw e refl
 

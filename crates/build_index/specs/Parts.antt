@@ -16,9 +16,12 @@ use Rattle.build_heads.specs.Steps.{Long}
 use Rattle.build_bounds.specs.declared.Boundaries.{Boundaries}
 use Rattle.build_bounds.specs.Boundaries.{boundsOf, BothWithin}
 
--- one record
+-- one record: the rest of a key, and a page id
+abbrev pub recOf : List ℕ → ℕ → List ℕ
+recOf rest page = indexKey rest ++ le 8 page
+
 unfoldable pub indexRec : ℕ → Entry → List ℕ
-indexRec p e = indexKey (drop p (e .key)) ++ le 8 (e .page)
+indexRec p e = recOf (drop p (e .key)) (e .page)
 
 -- both headers
 unfoldable pub indexHead : Call → ℕ → ℕ → ℕ → ℕ → ℕ → ℕ → List ℕ

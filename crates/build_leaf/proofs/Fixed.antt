@@ -33,7 +33,7 @@ module _ (room at pages remotes aged : ℕ) (a : List ℕ) where
 
 -- ---- the rest
 
-module _ (a : List ℕ) (ground : ℕ) (m : Call) (t : Totals) (e : Boundaries) (aged remote : ℕ) (lo hi : List ℕ) (f : Fixes (length a) ground t e aged remote) (w : BothWithin lo hi (take ground a) e) where
+module _ (a : List ℕ) (ground : ℕ) (m : Call) (t : Totals) (e : Boundaries) (remote : ℕ) (lo hi : List ℕ) (f : Fixes (length a) ground t e remote) (w : BothWithin lo hi (take ground a) e) where
   abbrev leaf : ℕ
   leaf = t .leaf
 
@@ -86,7 +86,7 @@ module _ (a : List ℕ) (ground : ℕ) (m : Call) (t : Totals) (e : Boundaries) 
         pad-asks = omega (arith, long₃, f .inside, f .end)
 
         module _ (a₄ : List ℕ) (e₄ : a₄ ≡ put a₃ (q + t .room) (replicate (remote - (q + t .room)) 0)) where
-          pub counts-asks : (q + t .room ≤ length a₄) × ((t .room ≤ maxSize) × (((t .room ≡ 0 → ⊥) → 8 + 8 * t .pages + 8 * t .remotes ≤ t .room) × (aged ≤ t .remotes)))
+          pub counts-asks : (q + t .room ≤ length a₄) × ((t .room ≤ maxSize) × (((t .room ≡ 0 → ⊥) → 8 + 8 * t .pages + 8 * t .remotes ≤ t .room) × (t .aged ≤ t .remotes)))
           counts-asks = (omega (arith, ap length e₄, length-put a₃ (q + t .room) (replicate (remote - (q + t .room)) 0), long₃, f .inside, f .end), (omega (arith, f .small .size), (f .hints, f .few)))
 
           pub fixed-done : (a₅ : List ℕ) → a₅ ≡ hintsSet (t .room) q (t .pages) (t .remotes) a₄

@@ -18,7 +18,11 @@ use Rattle.build_pen.proofs.Drawn.{drew}
 use Rattle.build_pen.proofs.Cutting.{cut, gone}
 use Rattle.build_leaf.specs.declared.HintPlaces.{HintPlaces}
 use Rattle.build_leaf.specs.Listed.{hintPlaces, hintsSet}
-use Rattle.build_leaf.proofs.Hints.{les-append}
+
+les-append : (xs ys : List ℕ) → les 8 (xs ++ ys) ≡ les 8 xs ++ les 8 ys
+unfolding les
+les-append [] ys = refl
+les-append (x ∷ xs) ys = ap (λ (z : List ℕ). le 8 x ++ z) (les-append xs ys) ∙ sym (append-assoc (le 8 x) (les 8 xs) (les 8 ys))
 
 module _ (a₀ : List ℕ) (low : ℕ) (whole : List ℕ) (hist head slots lo hi recs tail hs over frames frame : List ℕ) (at leaf s x y rec z q w remote end : ℕ)
     (d : Drawing a₀ low whole a₀ (stretch at (hist ++ (frame ++ frames)) ∷ []) end) (ef : frame ≡ head ++ (slots ++ (lo ++ (hi ++ (recs ++ (tail ++ (hs ++ over)))))))

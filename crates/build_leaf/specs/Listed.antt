@@ -1,4 +1,4 @@
--- A leaf of a record list: what is stored of it beside its entries, and where its hints stand.
+-- A leaf that the pen writes: what is stored of it beside its entries, and where its entries and its hints stand.
 -- Assumes nothing.
 use Prim.Native.Nat.{ℕ, _+_, _-_, _*_, _≤_}
 use mathlib.Core.Path.{_≡_}
@@ -14,6 +14,7 @@ use Rattle.build_image.specs.declared.Call.{Call}
 use Rattle.build_bounds.specs.declared.Boundaries.{Boundaries}
 use Rattle.build_totals.specs.declared.Totals.{Totals}
 use Rattle.build_leaf.specs.declared.HintPlaces.{HintPlaces}
+use Rattle.build_leaf.specs.declared.Opened.{Opened}
 use Rattle.build_leaf.specs.Leaf.{Small, leafHead, recsAt}
 
 -- where the hints of pages, of old versions' remotes and of heads' stand; where there is no room, they are none
@@ -36,7 +37,7 @@ fixedOn m t e remote lo hi a =
     (t .leaf + (boxLen + t .size) + t .room) (replicate (remote - (t .leaf + (boxLen + t .size) + t .room)) 0))
 
 -- there is room for it in an arena of this length
-pub record Fixes (long ground : ℕ) (t : Totals) (e : Boundaries) (aged remote : ℕ) : Type 0 where
+pub record Fixes (long ground : ℕ) (t : Totals) (e : Boundaries) (remote : ℕ) : Type 0 where
   pub over : ground ≤ t .leaf
   pub small : Small t e
   pub count : t .heads ≤ maxEntries
@@ -44,4 +45,13 @@ pub record Fixes (long ground : ℕ) (t : Totals) (e : Boundaries) (aged remote 
   pub inside : t .leaf + (boxLen + (t .size + t .room)) ≤ remote
   pub end : remote ≤ long
   pub hints : (t .room ≡ 0 → ⊥) → 8 + 8 * t .pages + 8 * t .remotes ≤ t .room
-  pub few : aged ≤ t .remotes
+  pub few : t .aged ≤ t .remotes
+
+-- where the entries of a leaf stand whose history begins at an address and whose heads' remote frames at another
+abbrev pub openedAt : ℕ → Totals → Boundaries → ℕ → HintPlaces → Opened
+openedAt at t e remote k =
+    record {
+      pen = record { loc = record { page = 0; slot = 0; left = 0; next = at }; nib = record { slot = at; rec = at; remote = at }; pages = k .pages; hint = k .olds };
+      nib = record { slot = t .leaf + slotsAt; rec = t .leaf + slotsAt + 4 * t .heads + e .lo .len + e .hi .len; remote = remote };
+      hint = k .heads;
+    }

@@ -1,245 +1,34 @@
-// The whole leaf: history pages, the leaf's frame with its hints, the heads' remote frames; each pass stores exactly its part of the
-// image, upward from one address, and reads its entries through the source alone. A record list's entries are written by the pen
-// (`write_list`).
+// The whole leaf: history pages, the leaf's frame with its hints, the heads' remote frames. What no entry tells is stored first; the entries, of a record
+// list or of leaves, are written by the pen.
 use build_bounds::Boundaries;
 use build_heads::Loc;
 use build_image::Call;
+use build_page_pen::Penned;
 use build_pen::Nib;
 use build_pen::Pen;
-use build_sources::Cursor;
-use build_sources::EntryAt;
-use build_sources::Pick;
 use build_totals::Totals;
 use frames::BaseHeader;
+use frames::Body;
 use frames::BoxHeader;
 use frames::NULL_ADDR;
 ghost use mathlib.Core.Path.{_≡_};
+ghost use mathlib.Core.List.{_++_};
 ghost use mathlib.Core.Bool.{true};
 ghost use Prim.Native.Nat.{_+_, _-_, _*_, _≤_};
 ghost use lib.ListN.{length, take};
 ghost use Rattle.spans.specs.Span.{put};
 ghost use Rattle.frames.specs.Layout.{frameLen, boxLen, slotsAt};
 ghost use Rattle.frames.specs.Limits.{maxEntries, maxSize};
-ghost use Rattle.build_sources.specs.Source.{entries, only, olds, heads};
-ghost use Rattle.build_image.specs.Sizes.{remotesLen};
-ghost use Rattle.build_image.specs.Image.{oneIf, remoteAddrs, les, leafFrame, leafImage};
-ghost use Rattle.build_history.specs.Runs.{Sane, these, historyEndAt};
-ghost use Rattle.build_heads.specs.Steps.{Long, steps};
+ghost use Rattle.build_image.specs.Image.{oneIf, leafImage};
+ghost use Rattle.build_history.specs.Runs.{Sane};
+ghost use Rattle.build_heads.specs.Steps.{Long};
 ghost use Rattle.build_bounds.specs.Boundaries.{boundaryBytes, boundsOf, BothWithin};
 ghost use Rattle.build_totals.specs.Totals.{totalsOf};
+ghost use Rattle.law_rows.specs.Rows.{leafEntries};
+ghost use Rattle.build_rows.specs.Judged.{Judged};
 ghost use Rattle.build_pen.specs.Places.{listFrom, Well};
-ghost use Rattle.build_leaf.specs.Listed.{hintPlaces, hintsSet, fixedOn, Fixes};
-ghost use Rattle.build_leaf.specs.Leaf.{Small, leafHead, recsAt, leafFront, leafBack, hintIf, hintBytes, remoteHints, Hinted, pageHint, hintsAt, Turned, Reach};
-
-// ---- hints
-
-// A history page: how many old versions it holds, where its remote frames start and the next page, and the old versions behind it.
-pub struct Page {
-    pub count: usize,
-    pub remote: usize,
-    pub next: usize,
-    pub rest: Cursor,
-}
-
-// The history page that stands at this address.
-fn page_at(list: &[u8], ground: &[u8], c: Cursor, at: usize, m: Call) -> Page
-    requires { ⌜ Sane m ⌝ }
-    requires { ⌜ historyEndAt m at (only true (entries (now list) (now ground) c)) ≤ 18446744073709551615 ⌝ }
-    ensures { λ r. ⌜ Turned (now (list .entry)) (now (ground .entry)) m c at r ⌝ }
-{
-    let s = build_history::look_ahead(list, ground, c, m.limit, m.budget);
-    let r = s.run;
-    let n = r.count;
-    if n == 0 {
-        return Page {
-            count: 0,
-            remote: at,
-            next: at,
-            rest: c,
-        };
-    }
-    let remote = at + frames::frame_len(r.size as u32);
-    let next = remote + r.remote;
-    let rest = s.rest;
-    Page {
-        count: n,
-        remote: remote,
-        next: next,
-        rest: rest,
-    }
-}
-
-// The address of an entry's remote, if it has one; the address past it.
-fn put_hint(a: &mut [u8], at: usize, limit: usize, remote: usize, i: EntryAt) -> usize
-    requires { ⌜ at + length (hintIf limit remote (i .vlen) (i .kept .0)) ≤ length (now a) ⌝ }
-    ensures { λ r. ⌜ r ≡ at + length (hintIf limit remote (i .vlen) (i .kept .0)) ⌝ }
-    ensures { λ _. ⌜ now (a .exit) ≡ put (now (a .entry)) at (hintIf limit remote (i .vlen) (i .kept .0)) ⌝ }
-{
-    let n = i.vlen;
-    let kept = i.kept;
-    if n < limit {
-        return at;
-    }
-    let x = build_image::remote_addr(remote, kept);
-    numbers::put_u64(a, at, x);
-    at + 8
-}
-
-// The remotes' addresses of the next n old versions, or heads; the address past them.
-fn remote_addrs(
-    a: &mut [u8],
-    ground: usize,
-    list: &[u8],
-    want: bool,
-    from: Cursor,
-    n: usize,
-    at: usize,
-    limit: usize,
-    remote: usize,
-) -> usize
-    requires { ⌜ ground ≤ at ⌝ }
-    requires { ⌜ remote + remotesLen limit (these (now list) (now a) ground want from n) ≤ length (now a) ⌝ }
-    requires { ⌜ at + length (les 8 (remoteAddrs limit remote (these (now list) (now a) ground want from n))) ≤ length (now a) ⌝ }
-    ensures { λ r. ⌜ r ≡ at + length (les 8 (remoteAddrs limit remote (these (now (list .entry)) (now (a .entry)) ground want from n))) ⌝ }
-    ensures { λ _. ⌜ now (a .exit) ≡ put (now (a .entry)) at (les 8 (remoteAddrs limit remote (these (now (list .entry)) (now (a .entry)) ground want from n))) ⌝ }
-{
-    let mut c = from;
-    let mut to = at;
-    let mut next = remote;
-    let mut k = n;
-    while k > 0 {
-        let st = build_sources::next_of(list, &a[..ground], want, c);
-        let Pick::One(i, d) = st else {
-            return to;
-        };
-        let kept = i.kept;
-        let beyond = next + build_image::remote_len(limit, i.vlen, kept);
-        to = put_hint(a, to, limit, next, i);
-        next = beyond;
-        c = d;
-        k -= 1;
-    }
-    to
-}
-
-// A history page's hints: its remotes' addresses, or its own; the address past them.
-fn page_hint(
-    a: &mut [u8],
-    ground: usize,
-    list: &[u8],
-    b: bool,
-    c: Cursor,
-    to: usize,
-    limit: usize,
-    at: usize,
-    remote: usize,
-    n: usize,
-) -> usize
-    requires { ⌜ ground ≤ to ⌝ }
-    requires { ⌜ Reach (now list) (take ground (now a)) limit c at remote n (length (now a)) ⌝ }
-    requires { ⌜ to + length (pageHint b limit at (these (now list) (now a) ground true c n)) ≤ length (now a) ⌝ }
-    ensures { λ r. ⌜ r ≡ to + length (pageHint b limit at (these (now (list .entry)) (now (a .entry)) ground true c n)) ⌝ }
-    ensures { λ _. ⌜ now (a .exit) ≡ put (now (a .entry)) to (pageHint b limit at (these (now (list .entry)) (now (a .entry)) ground true c n)) ⌝ }
-{
-    if b {
-        return remote_addrs(a, ground, list, true, c, n, to, limit, remote);
-    }
-    numbers::put_u64(a, to, at as u64);
-    to + 8
-}
-
-// All history pages': their remotes' addresses, or their own; the address past them.
-fn page_hints(
-    a: &mut [u8],
-    ground: usize,
-    list: &[u8],
-    b: bool,
-    from: Cursor,
-    at: usize,
-    m: Call,
-    first: usize,
-) -> usize
-    requires { ⌜ ground ≤ at ⌝ }
-    requires { ⌜ Sane m ⌝ }
-    requires { ⌜ historyEndAt m first (only true (entries (now list) (take ground (now a)) from)) ≤ length (now a) ⌝ }
-    requires { ⌜ at + length (hintsAt b m first (only true (entries (now list) (take ground (now a)) from))) ≤ length (now a) ⌝ }
-    ensures { λ r. ⌜ r ≡ at + length (hintsAt b m first (only true (entries (now (list .entry)) (take ground (now (a .entry))) from))) ⌝ }
-    ensures { λ _. ⌜ now (a .exit) ≡ put (now (a .entry)) at (hintsAt b m first (only true (entries (now (list .entry)) (take ground (now (a .entry))) from))) ⌝ }
-{
-    let mut c = from;
-    let mut to = at;
-    let mut page = first;
-    loop {
-        let r = page_at(list, &a[..ground], c, page, m);
-        let n = r.count;
-        if n == 0 {
-            return to;
-        }
-        to = page_hint(a, ground, list, b, c, to, m.limit, page, r.remote, n);
-        page = r.next;
-        c = r.rest;
-    }
-}
-
-// The remotes' addresses, "history's first, then heads'", if there are any; the address past them.
-fn remote_hints(
-    a: &mut [u8],
-    ground: usize,
-    list: &[u8],
-    from: Cursor,
-    at: usize,
-    m: Call,
-    t: Totals,
-    first: usize,
-    remote: usize,
-) -> usize
-    requires { ⌜ ground ≤ at ⌝ }
-    requires { ⌜ Sane m ⌝ }
-    requires { ⌜ Hinted m t first remote (entries (now list) (take ground (now a)) from) ⌝ }
-    requires { ⌜ historyEndAt m first (olds (entries (now list) (take ground (now a)) from)) ≤ length (now a) ⌝ }
-    requires { ⌜ remote + remotesLen (m .limit) (heads (entries (now list) (take ground (now a)) from)) ≤ length (now a) ⌝ }
-    requires { ⌜ at + length (remoteHints m first remote (entries (now list) (take ground (now a)) from)) ≤ length (now a) ⌝ }
-    ensures { λ r. ⌜ r ≡ at + length (remoteHints m first remote (entries (now (list .entry)) (take ground (now (a .entry))) from)) ⌝ }
-    ensures { λ _. ⌜ now (a .exit) ≡ put (now (a .entry)) at (remoteHints m first remote (entries (now (list .entry)) (take ground (now (a .entry))) from)) ⌝ }
-{
-    if t.remotes == 0 {
-        return at;
-    }
-    let h = page_hints(a, ground, list, true, from, at, m, first);
-    remote_addrs(a, ground, list, false, from, t.heads, h, m.limit, remote)
-}
-
-// All hints of the leaf: history pages, then remotes; the rest of their room is zero.
-fn put_hints(
-    a: &mut [u8],
-    ground: usize,
-    list: &[u8],
-    from: Cursor,
-    at: usize,
-    m: Call,
-    t: Totals,
-    first: usize,
-    remote: usize,
-)
-    requires { ⌜ ground ≤ at ⌝ }
-    requires { ⌜ Sane m ⌝ }
-    requires { ⌜ Hinted m t first remote (entries (now list) (take ground (now a)) from) ⌝ }
-    requires { ⌜ historyEndAt m first (olds (entries (now list) (take ground (now a)) from)) ≤ length (now a) ⌝ }
-    requires { ⌜ remote + remotesLen (m .limit) (heads (entries (now list) (take ground (now a)) from)) ≤ length (now a) ⌝ }
-    requires { ⌜ at + t .room ≤ length (now a) ⌝ }
-    ensures { λ _. ⌜ now (a .exit) ≡ put (now (a .entry)) at (hintBytes m (t .room) first remote (entries (now (list .entry)) (take ground (now (a .entry))) from)) ⌝ }
-{
-    let room = t.room;
-    if room == 0 {
-        return;
-    }
-    let end = at + room;
-    numbers::put_u32(a, at, t.pages as u32);
-    let r = page_hints(a, ground, list, false, from, at + 4, m, first);
-    numbers::put_u32(a, r, t.remotes as u32);
-    let z = remote_hints(a, ground, list, from, r + 4, m, t, first, remote);
-    spans::zeros(a, z, end - z);
-}
+ghost use Rattle.build_leaf.specs.Listed.{hintPlaces, hintsSet, fixedOn, Fixes, openedAt};
+ghost use Rattle.build_leaf.specs.Leaf.{Small, leafHead};
 
 // ---- the frame
 
@@ -270,150 +59,6 @@ fn leaf_head(a: &mut [u8], at: usize, m: Call, t: Totals, e: Boundaries)
     build_image::page_head(a, at, m, payload, BoxHeader::LEAF, 0, NULL_ADDR, b);
 }
 
-// Headers, slots and boundaries; the address past them.
-fn leaf_front(
-    a: &mut [u8],
-    ground: usize,
-    list: &[u8],
-    from: Cursor,
-    at: usize,
-    m: Call,
-    t: Totals,
-    lo: &[u8],
-    hi: &[u8],
-    e: Boundaries,
-) -> usize
-    requires { ⌜ ground ≤ at ⌝ }
-    requires { ⌜ Small t e ⌝ }
-    requires { ⌜ BothWithin (now lo) (now hi) (take ground (now a)) e ⌝ }
-    requires { ⌜ Long (e .prefix) (entries (now list) (take ground (now a)) from) ⌝ }
-    requires { ⌜ t .heads ≡ length (heads (entries (now list) (take ground (now a)) from)) ⌝ }
-    requires { ⌜ t .heads ≤ maxEntries ⌝ }
-    requires { ⌜ recsAt t e + steps (m .limit) (e .prefix) (entries (now list) (take ground (now a)) from) ≤ 4294967295 ⌝ }
-    requires { ⌜ at + (boxLen + recsAt t e) ≤ length (now a) ⌝ }
-    ensures { λ r. ⌜ r ≡ at + (boxLen + recsAt t e) ⌝ }
-    ensures { λ _. ⌜ now (a .exit) ≡ put (now (a .entry)) at (leafFront m t e (boundaryBytes (now (lo .entry)) (take ground (now (a .entry))) (e .lo)) (boundaryBytes (now (hi .entry)) (take ground (now (a .entry))) (e .hi)) (entries (now (list .entry)) (take ground (now (a .entry))) from)) ⌝ }
-{
-    let n = t.heads;
-    let l = e.lo;
-    let h = e.hi;
-    let first = BaseHeader::HDR_LEN + 4 * n + l.len + h.len;
-    leaf_head(a, at, m, t, e);
-    let s = at + BaseHeader::SLOTS_AT;
-    build_heads::head_slots(a, ground, list, from, s, first, e.prefix, m.limit);
-    let x = s + 4 * n;
-    build_bounds::put_boundary(a, ground, lo, l, x);
-    let y = x + l.len;
-    build_bounds::put_boundary(a, ground, hi, h, y);
-    y + h.len
-}
-
-// Records, tail, hints and rounding.
-fn leaf_back(
-    a: &mut [u8],
-    ground: usize,
-    list: &[u8],
-    from: Cursor,
-    at: usize,
-    m: Call,
-    t: Totals,
-    p: usize,
-    first: usize,
-    remote: usize,
-    gap: usize,
-)
-    requires { ⌜ ground ≤ at ⌝ }
-    requires { ⌜ Sane m ⌝ }
-    requires { ⌜ Long p (entries (now list) (take ground (now a)) from) ⌝ }
-    requires { ⌜ length (entries (now list) (take ground (now a)) from) ≤ maxEntries ⌝ }
-    requires { ⌜ Hinted m t first remote (entries (now list) (take ground (now a)) from) ⌝ }
-    requires { ⌜ historyEndAt m first (olds (entries (now list) (take ground (now a)) from)) ≤ length (now a) ⌝ }
-    requires { ⌜ remote + remotesLen (m .limit) (heads (entries (now list) (take ground (now a)) from)) ≤ length (now a) ⌝ }
-    requires { ⌜ steps (m .limit) p (entries (now list) (take ground (now a)) from) ≤ gap ⌝ }
-    requires { ⌜ at + gap + t .room ≤ remote ⌝ }
-    ensures { λ _. ⌜ now (a .exit) ≡ put (now (a .entry)) at (leafBack m p (t .room) first remote gap (remote - (at + gap + t .room)) (entries (now (list .entry)) (take ground (now (a .entry))) from)) ⌝ }
-{
-    let q = at + gap;
-    let w = q + t.room;
-    let z = build_heads::head_recs(a, ground, list, from, at, p, m, first, remote);
-    spans::zeros(a, z, q - z);
-    put_hints(a, ground, list, from, q, m, t, first, remote);
-    spans::zeros(a, w, remote - w);
-}
-
-// The leaf's frame at this address; history stands from first on, the heads' remote frames from remote on.
-fn leaf_frame(
-    a: &mut [u8],
-    ground: usize,
-    list: &[u8],
-    from: Cursor,
-    first: usize,
-    at: usize,
-    remote: usize,
-    m: Call,
-    t: Totals,
-    lo: &[u8],
-    hi: &[u8],
-    e: Boundaries,
-)
-    requires { ⌜ ground ≤ at ⌝ }
-    requires { ⌜ Sane m ⌝ }
-    requires { ⌜ Small t e ⌝ }
-    requires { ⌜ BothWithin (now lo) (now hi) (take ground (now a)) e ⌝ }
-    requires { ⌜ Long (e .prefix) (entries (now list) (take ground (now a)) from) ⌝ }
-    requires { ⌜ length (entries (now list) (take ground (now a)) from) ≤ maxEntries ⌝ }
-    requires { ⌜ t ≡ totalsOf m (boundsOf (now lo) (now hi) (take ground (now a)) e) first (entries (now list) (take ground (now a)) from) ⌝ }
-    requires { ⌜ at ≡ t .leaf ⌝ }
-    requires { ⌜ remote ≡ at + frameLen (t .size + t .room) ⌝ }
-    requires { ⌜ t .end ≤ length (now a) ⌝ }
-    ensures { λ _. ⌜ now (a .exit) ≡ put (now (a .entry)) at (leafFrame m (boundsOf (now (lo .entry)) (now (hi .entry)) (take ground (now (a .entry))) e) first at (entries (now (list .entry)) (take ground (now (a .entry))) from)) ⌝ }
-{
-    let r = leaf_front(a, ground, list, from, at, m, t, lo, hi, e);
-    let gap = at + (BoxHeader::HDR_LEN + t.size) - r;
-    leaf_back(a, ground, list, from, r, m, t, e.prefix, first, remote, gap);
-}
-
-// The whole leaf from this address on; the leaf's own address.
-pub fn write_leaf(
-    a: &mut [u8],
-    ground: usize,
-    list: &[u8],
-    from: Cursor,
-    at: usize,
-    m: Call,
-    t: Totals,
-    lo: &[u8],
-    hi: &[u8],
-    e: Boundaries,
-) -> usize
-    requires { ⌜ ground ≤ at ⌝ }
-    requires { ⌜ Sane m ⌝ }
-    requires { ⌜ Small t e ⌝ }
-    requires { ⌜ BothWithin (now lo) (now hi) (take ground (now a)) e ⌝ }
-    requires { ⌜ Long (e .prefix) (entries (now list) (take ground (now a)) from) ⌝ }
-    requires { ⌜ length (entries (now list) (take ground (now a)) from) ≤ maxEntries ⌝ }
-    requires { ⌜ t ≡ totalsOf m (boundsOf (now lo) (now hi) (take ground (now a)) e) at (entries (now list) (take ground (now a)) from) ⌝ }
-    requires { ⌜ t .end ≤ length (now a) ⌝ }
-    ensures { λ r. ⌜ r ≡ t .leaf ⌝ }
-    ensures { λ _. ⌜ now (a .exit) ≡ put (now (a .entry)) at (leafImage m (boundsOf (now (lo .entry)) (now (hi .entry)) (take ground (now (a .entry))) e) at (entries (now (list .entry)) (take ground (now (a .entry))) from)) ⌝ }
-{
-    let leaf = build_history::save_hist_regions(a, ground, list, from, at, m);
-    let remote = leaf + frames::frame_len((t.size + t.room) as u32);
-    leaf_frame(a, ground, list, from, at, leaf, remote, m, t, lo, hi, e);
-    build_history::remote_frames(
-        a,
-        ground,
-        list,
-        false,
-        from,
-        t.heads,
-        remote,
-        m,
-        t.end - remote,
-    );
-    leaf
-}
-
 // ---- a record list's leaf
 
 // Where the hints of history pages, of old versions' remotes and of heads' stand.
@@ -423,13 +68,13 @@ pub struct HintPlaces {
     pub heads: usize,
 }
 
-// The hints' counts, and zeros in what is left of their room; where the hints stand. aged of the remotes are old versions'.
-fn hint_counts(a: &mut [u8], at: usize, t: Totals, aged: usize) -> HintPlaces
+// The hints' counts, and zeros in what is left of their room; where the hints stand.
+fn hint_counts(a: &mut [u8], at: usize, t: Totals) -> HintPlaces
     requires { ⌜ at + t .room ≤ length (now a) ⌝ }
     requires { ⌜ t .room ≤ maxSize ⌝ }
     requires { ⌜ ((t .room ≡ 0 → ⊥) → 8 + 8 * t .pages + 8 * t .remotes ≤ t .room) ⌝ }
-    requires { ⌜ aged ≤ t .remotes ⌝ }
-    ensures { λ r. ⌜ r ≡ hintPlaces (t .room) at (t .pages) aged ⌝ }
+    requires { ⌜ t .aged ≤ t .remotes ⌝ }
+    ensures { λ r. ⌜ r ≡ hintPlaces (t .room) at (t .pages) (t .aged) ⌝ }
     ensures { λ _. ⌜ now (a .exit) ≡ hintsSet (t .room) at (t .pages) (t .remotes) (now (a .entry)) ⌝ }
 {
     let room = t.room;
@@ -450,7 +95,7 @@ fn hint_counts(a: &mut [u8], at: usize, t: Totals, aged: usize) -> HintPlaces
     HintPlaces {
         pages: p,
         olds: o,
-        heads: o + 8 * aged,
+        heads: o + 8 * t.aged,
     }
 }
 
@@ -460,15 +105,14 @@ fn leaf_fixed(
     ground: usize,
     m: Call,
     t: Totals,
-    aged: usize,
     remote: usize,
     lo: &[u8],
     hi: &[u8],
     e: Boundaries,
 ) -> HintPlaces
-    requires { ⌜ Fixes (length (now a)) ground t e aged remote ⌝ }
+    requires { ⌜ Fixes (length (now a)) ground t e remote ⌝ }
     requires { ⌜ BothWithin (now lo) (now hi) (take ground (now a)) e ⌝ }
-    ensures { λ r. ⌜ r ≡ hintPlaces (t .room) (t .leaf + (boxLen + t .size)) (t .pages) aged ⌝ }
+    ensures { λ r. ⌜ r ≡ hintPlaces (t .room) (t .leaf + (boxLen + t .size)) (t .pages) (t .aged) ⌝ }
     ensures { λ _. ⌜ now (a .exit) ≡ fixedOn m t e remote (boundaryBytes (now (lo .entry)) (take ground (now (a .entry))) (e .lo)) (boundaryBytes (now (hi .entry)) (take ground (now (a .entry))) (e .hi)) (now (a .entry)) ⌝ }
 {
     let leaf = t.leaf;
@@ -482,19 +126,62 @@ fn leaf_fixed(
     let q = leaf + (BoxHeader::HDR_LEN + t.size);
     let w = q + t.room;
     spans::zeros(a, w, remote - w);
-    hint_counts(a, q, t, aged)
+    hint_counts(a, q, t)
 }
 
-// How many old versions of a list have a remote, where all its entries have so many.
-fn aged_of(list: &[u8], remotes: usize, limit: usize) -> usize
-    requires { ⌜ Well (now list) 5 ⌝ }
-    requires { ⌜ (remotes ≡ 0 → 0 ≡ length (remoteAddrs limit 0 (olds (listFrom (now list) 5)))) ⌝ }
-    ensures { λ r. ⌜ r ≡ length (remoteAddrs limit 0 (olds (listFrom (now (list .entry)) 5))) ⌝ }
+// Where the entries of a leaf are to be written: its old versions, its heads, and its heads' hints.
+pub struct Opened {
+    pub pen: Pen,
+    pub nib: Nib,
+    pub hint: usize,
+}
+
+// A leaf opened for the pen: all of its frame that no entry tells is stored, and its history stands from at on.
+fn leaf_open(
+    a: &mut [u8],
+    ground: usize,
+    at: usize,
+    m: Call,
+    t: Totals,
+    lo: &[u8],
+    hi: &[u8],
+    e: Boundaries,
+) -> Opened
+    requires { ⌜ Fixes (length (now a)) ground t e (t .leaf + frameLen (t .size + t .room)) ⌝ }
+    requires { ⌜ BothWithin (now lo) (now hi) (take ground (now a)) e ⌝ }
+    ensures { λ r. ⌜ r ≡ openedAt at t e (t .leaf + frameLen (t .size + t .room)) (hintPlaces (t .room) (t .leaf + (boxLen + t .size)) (t .pages) (t .aged)) ⌝ }
+    ensures { λ _. ⌜ now (a .exit) ≡ fixedOn m t e (t .leaf + frameLen (t .size + t .room)) (boundaryBytes (now (lo .entry)) (take ground (now (a .entry))) (e .lo)) (boundaryBytes (now (hi .entry)) (take ground (now (a .entry))) (e .hi)) (now (a .entry)) ⌝ }
 {
-    if remotes == 0 {
-        return 0;
+    let leaf = t.leaf;
+    let l = e.lo;
+    let h = e.hi;
+    let remote = leaf + frames::frame_len((t.size + t.room) as u32);
+    let k = leaf_fixed(a, ground, m, t, remote, lo, hi, e);
+    let pen = Pen {
+        loc: Loc {
+            page: 0,
+            slot: 0,
+            left: 0,
+            next: at,
+        },
+        nib: Nib {
+            slot: at,
+            rec: at,
+            remote: at,
+        },
+        pages: k.pages,
+        hint: k.olds,
+    };
+    let s = leaf + BaseHeader::SLOTS_AT;
+    Opened {
+        pen: pen,
+        nib: Nib {
+            slot: s,
+            rec: s + 4 * t.heads + l.len + h.len,
+            remote: remote,
+        },
+        hint: k.heads,
     }
-    build_pen::remote_olds(list, limit)
 }
 
 // The whole leaf of a record list from this address on, its entries by the pen; the leaf's own address.
@@ -522,34 +209,54 @@ pub fn write_list(
     ensures { λ _. ⌜ now (a .exit) ≡ put (now (a .entry)) at (leafImage m (boundsOf (now (lo .entry)) (now (hi .entry)) (take ground (now (a .entry))) e) at (listFrom (now (list .entry)) 5)) ⌝ }
 {
     let leaf = t.leaf;
-    let l = e.lo;
-    let h = e.hi;
-    let remote = leaf + frames::frame_len((t.size + t.room) as u32);
-    let aged = aged_of(list, t.remotes, m.limit);
-    let k = leaf_fixed(a, ground, m, t, aged, remote, lo, hi, e);
-    let start = Pen {
-        loc: Loc {
-            page: 0,
-            slot: 0,
-            left: 0,
-            next: at,
-        },
-        nib: Nib {
-            slot: at,
-            rec: at,
-            remote: at,
-        },
-        pages: k.pages,
-        hint: k.olds,
-    };
-    let s = leaf + BaseHeader::SLOTS_AT;
-    let first = Nib {
-        slot: s,
-        rec: s + 4 * t.heads + l.len + h.len,
-        remote: remote,
-    };
+    let o = leaf_open(a, ground, at, m, t, lo, hi, e);
     let base = leaf + BoxHeader::HDR_LEN;
-    let z = build_pen::pen_all(a, list, 5, start, first, k.heads, base, m, e.prefix);
+    let z = build_pen::pen_all(a, list, 5, o.pen, o.nib, o.hint, base, m, e.prefix);
+    let q = leaf + (BoxHeader::HDR_LEN + t.size);
+    spans::zeros(a, z, q - z);
+    leaf
+}
+
+// The whole leaf of heads from..end of one sound leaf and n heads of another, both below ground, from this address on; the leaf's own address.
+pub fn write_leaves(
+    a: &mut [u8],
+    ground: usize,
+    b: Body,
+    from: usize,
+    end: usize,
+    d: Body,
+    n: usize,
+    at: usize,
+    m: Call,
+    t: Totals,
+    none: &[u8],
+    e: Boundaries,
+) -> usize
+    requires { ⌜ ground ≤ at ⌝ }
+    requires { ⌜ Sane m ⌝ }
+    requires { ⌜ Small t e ⌝ }
+    requires { ⌜ BothWithin (now none) (now none) (take ground (now a)) e ⌝ }
+    requires { ⌜ Judged (take ground (now a)) b 0 × Judged (take ground (now a)) d 0 ⌝ }
+    requires { ⌜ (end ≤ b .elems) × (n ≤ d .elems) ⌝ }
+    requires { ⌜ Long (e .prefix) (leafEntries (take ground (now a)) b (end - from) from ++ leafEntries (take ground (now a)) d n 0) ⌝ }
+    requires { ⌜ length (leafEntries (take ground (now a)) b (end - from) from ++ leafEntries (take ground (now a)) d n 0) ≤ maxEntries ⌝ }
+    requires { ⌜ t ≡ totalsOf m (boundsOf (now none) (now none) (take ground (now a)) e) at (leafEntries (take ground (now a)) b (end - from) from ++ leafEntries (take ground (now a)) d n 0) ⌝ }
+    requires { ⌜ t .end ≤ length (now a) ⌝ }
+    ensures { λ r. ⌜ r ≡ t .leaf ⌝ }
+    ensures { λ _. ⌜ now (a .exit) ≡ put (now (a .entry)) at (leafImage m (boundsOf (now (none .entry)) (now (none .entry)) (take ground (now (a .entry))) e) at (leafEntries (take ground (now (a .entry))) b (end - from) from ++ leafEntries (take ground (now (a .entry))) d n 0)) ⌝ }
+{
+    let leaf = t.leaf;
+    let o = leaf_open(a, ground, at, m, t, none, none, e);
+    let base = leaf + BoxHeader::HDR_LEN;
+    let p = e.prefix;
+    let pen = o.pen;
+    let nib = o.nib;
+    let x = Penned {
+        pen: pen,
+        nib: nib,
+        hint: o.hint,
+    };
+    let z = build_page_pen::pen_leaves(a, ground, b, from, end, d, n, x, base, m, p);
     let q = leaf + (BoxHeader::HDR_LEN + t.size);
     spans::zeros(a, z, q - z);
     leaf

@@ -113,7 +113,7 @@ draws-append : (a : List ℕ) (p q : List Stretch) → draws a (p ++ q) ≡ draw
 draws-append a [] q = refl
 draws-append a (r ∷ p) q = draws-append (put a (r .at) (r .rest)) p q
 
-rising-after : (low : ℕ) (p : List Stretch) (s : Stretch) (q : List Stretch) (end : ℕ) → Rising low (p ++ s ∷ q) end → Rising (s .at + length (s .rest)) q end
+pub rising-after : (low : ℕ) (p : List Stretch) (s : Stretch) (q : List Stretch) (end : ℕ) → Rising low (p ++ s ∷ q) end → Rising (s .at + length (s .rest)) q end
 rising-after low [] s q end (h, k) = k
 rising-after low (r ∷ p) s q end (h, k) = rising-after (r .at + length (r .rest)) p s q end k
 

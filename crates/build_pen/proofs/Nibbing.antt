@@ -14,8 +14,9 @@ use Rattle.build_image.specs.declared.Call.{Call}
 use Rattle.build_image.specs.Image.{remoteFrameOf}
 use Rattle.build_pen.specs.declared.Nib.{Nib}
 use Rattle.build_pen.specs.Stretches.{Stretch, stretch, Drawing}
-use Rattle.build_pen.specs.Nibs.{Asks, drawn, nibPast}
-use Rattle.build_pen.proofs.Cutting.{three-room, drew-three}
+use Rattle.build_pen.specs.Nibs.{Asks, Above, drawn, nibPast}
+use Rattle.build_pen.proofs.Drawn.{rising-le, rising-before}
+use Rattle.build_pen.proofs.Cutting.{rising-after, three-room, drew-three}
 
 module _ (a : List ℕ) (q : Nib) (base : ℕ) (m : Call) (rec : Entry → List ℕ) (e : Entry) (h : Asks (length a) q base m rec e)
     (a₁ : List ℕ) (e₁ : a₁ ≡ put a (q .slot) (le 4 (q .rec - base))) where
@@ -41,6 +42,14 @@ module _ (a₀ : List ℕ) (low : ℕ) (whole a : List ℕ) (pre mid tail : List
   nib-asks above small =
       let r = three-room a₀ low whole a pre (q .slot) _ (le 4 (q .rec - base)) ys (q .rec) _ (rec e) yr mid (q .remote) _ (remoteFrameOf m e) yf tail end h refl refl refl in
       record { slot-room = omega (arith, r .0, length-le 4 (q .rec - base)); rec-room = r .1 .0; remote-room = r .1 .1; above = above; small = small }
+
+  -- what is stored lies above the mark
+  pub nib-above : Above low q
+  nib-above =
+      let x : low ≤ q .slot = rising-le low pre (q .slot) (rising-before low pre (stretch (q .slot) (le 4 (q .rec - base) ++ ys)) _ end (h .order)) in
+      let y = rising-after low pre (stretch (q .slot) (le 4 (q .rec - base) ++ ys)) _ end (h .order) in
+      let z = rising-le (q .rec + length (rec e ++ yr)) mid (q .remote) (rising-before (q .rec + length (rec e ++ yr)) mid (stretch (q .remote) (remoteFrameOf m e ++ yf)) tail end (y .1)) in
+      record { slot = x; rec = omega (arith, x, y .0); remote = omega (arith, x, y .0, z) }
 
   pub nib-turn : (a′ : List ℕ) → a′ ≡ drawn m q base rec e a
       → Drawing a₀ low whole a′ (pre ++ stretch (q .slot + 4) ys ∷ stretch (q .rec + length (rec e)) yr ∷ (mid ++ stretch (q .remote + length (remoteFrameOf m e)) yf ∷ tail)) end

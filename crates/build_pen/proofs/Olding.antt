@@ -14,8 +14,8 @@ use Rattle.build_image.specs.Image.{remoteFrameOf, remoteFrames, oldRec, oldRec
 use Rattle.build_image.proofs.Lengths.{length-old, length-remote-of}
 use Rattle.build_pen.specs.declared.Nib.{Nib}
 use Rattle.build_pen.specs.Stretches.{Stretch, stretch, Drawing}
-use Rattle.build_pen.specs.Nibs.{Asks, drawn, nibPast, oldsLeft}
-use Rattle.build_pen.proofs.Nibbing.{nib-asks, nib-turn}
+use Rattle.build_pen.specs.Nibs.{Asks, Above, drawn, nibPast, oldsLeft}
+use Rattle.build_pen.proofs.Nibbing.{nib-asks, nib-above, nib-turn}
 
 -- one entry of each
 slots-cons : (limit off : ℕ) (e : Entry) (es : List Entry) → oldSlots limit off (e ∷ es) ≡ le 4 off ++ oldSlots limit (off + (12 + valLen limit e)) es
@@ -57,6 +57,9 @@ module _ (a₀ : List ℕ) (low : ℕ) (whole : List ℕ) (m : Call) (base : ℕ
 
   pub olds-asks : Asks (length a) q base m (oldRec (m .limit) (q .remote)) e
   olds-asks = nib-asks a₀ low whole a [] [] tail end q base m (oldRec (m .limit) (q .remote)) e _ _ _ d0 (h .above) (omega (arith, h .small))
+
+  pub olds-above : Above low q
+  olds-above = nib-above a₀ low whole a [] [] tail end q base m (oldRec (m .limit) (q .remote)) e _ _ _ d0
 
   off-is : off ≡ q .rec + length (oldRec (m .limit) (q .remote) e) - base
   off-is = omega (arith, h .above, length-old (m .limit) (q .remote) e)

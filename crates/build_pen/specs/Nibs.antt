@@ -9,7 +9,7 @@ use Rattle.spans.specs.Span.{put}
 use Rattle.numbers.specs.Number.{le}
 use Rattle.build_sources.specs.Source.{Entry}
 use Rattle.build_image.specs.declared.Call.{Call}
-use Rattle.build_image.specs.Image.{remoteFrameOf, remoteFrames, oldSlots, oldRecs}
+use Rattle.build_image.specs.Image.{remoteAddr, remoteFrameOf, remoteFrames, oldSlots, oldRecs}
 use Rattle.build_pen.specs.declared.Nib.{Nib}
 use Rattle.build_pen.specs.Stretches.{Stretch, stretch}
 
@@ -28,10 +28,20 @@ pub record Asks (long : ℕ) (q : Nib) (base : ℕ) (m : Call) (rec : Entry → 
   pub above : base ≤ q .rec
   pub small : q .rec - base ≤ 4294967295
 
+-- they stand above a mark
+pub record Above (low : ℕ) (q : Nib) : Type 0 where
+  pub slot : low ≤ q .slot
+  pub rec : low ≤ q .rec
+  pub remote : low ≤ q .remote
+
 -- the hint of a value of n bytes: its remote frame's address, if it takes one
 unfoldable pub hintOf : ℕ → ℕ → ℕ → List ℕ
 unfolding le
 hintOf limit remote n = cond (ltb n limit) [] (le 8 remote)
+
+-- an entry's: its remote may be kept
+abbrev pub hintFor : ℕ → ℕ → Entry → List ℕ
+hintFor limit remote e = hintOf limit (remoteAddr remote (e .kept)) (length (e .val))
 
 -- what is left of a page's old versions: slots, records, remote frames; then the tail
 abbrev pub oldsLeft : Call → Nib → ℕ → List Entry → List Stretch → List Stretch

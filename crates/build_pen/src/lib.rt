@@ -15,18 +15,18 @@ ghost use mathlib.Core.Bool.{true, false, cond};
 ghost use mathlib.Core.List.{[]};
 ghost use Prim.Native.Nat.{_+_, _-_, _≤_, _<_};
 ghost use lib.ListN.{length};
-ghost use lib.Dec.{ltb, eqb};
+ghost use lib.Dec.{eqb};
 ghost use Rattle.spans.specs.Span.{part, put};
 ghost use Rattle.frames.specs.Limits.{maxBudget, maxEntries, maxLimit};
 ghost use Rattle.build_sources.specs.Source.{olds};
-ghost use Rattle.build_image.specs.Image.{valBytes, oldRec, headRec, headRecs, remoteAddrs, remoteFrameOf};
+ghost use Rattle.build_image.specs.Image.{valBytes, oldRec, headRec, headRecs, remoteFrameOf};
 ghost use Rattle.build_history.specs.Runs.{Sane, runOf};
 ghost use Rattle.build_heads.specs.Located.{placesAt};
 ghost use Rattle.build_sweep.specs.Ents.{verIn};
 ghost use Rattle.build_pen.specs.Stretches.{draws, Rising};
 ghost use Rattle.build_pen.specs.Places.{listFrom, listBehind, Well, Reads, pastOf, Inside, entryIn, alike};
 ghost use Rattle.build_pen.specs.Nibs.{drawn, nibPast, Asks, hintOf};
-ghost use Rattle.build_pen.specs.Pens.{pensLeft, Steady, Turned, RanTo, allLeft, AllLaid};
+ghost use Rattle.build_pen.specs.Pens.{pensLeft, Steady, Opens, pageOpened, penOpened, Turned, RanTo, allLeft, AllLaid};
 
 // A record of a list: where its key stands, and how long its key and its value are.
 pub struct RecordAt {
@@ -197,7 +197,7 @@ fn put_remote(a: &mut [u8], list: &[u8], i: RecordAt, at: usize, m: Call) -> usi
 }
 
 // The hint of a value of n bytes, if it takes a remote frame; the address past it.
-fn put_hint(a: &mut [u8], at: usize, limit: usize, remote: usize, n: usize) -> usize
+pub fn put_hint(a: &mut [u8], at: usize, limit: usize, remote: usize, n: usize) -> usize
     requires { ⌜ at + length (hintOf limit remote n) ≤ length (now a) ⌝ }
     ensures { λ r. ⌜ r ≡ at + length (hintOf limit remote n) ⌝ }
     ensures { λ _. ⌜ now (a .exit) ≡ put (now (a .entry)) at (hintOf limit remote n) ⌝ }
@@ -320,24 +320,13 @@ fn link_of(more: bool, to: usize) -> usize
     if more { to } else { 0 }
 }
 
-// The pen with a page at hand, where an old version is left: a new page's headers, rounding and hint are stored at once.
-fn turn(a: &mut [u8], list: &[u8], at: usize, kat: usize, klen: usize, q: Pen, m: Call) -> Pen
-    requires { ⌜ Sane m ⌝ }
-    requires { ⌜ Well (now list) at ⌝ }
-    requires { ⌜ kat + klen ≤ length (now list) ⌝ }
-    requires { ⌜ Steady m q (olds (listBehind (now list) at kat klen)) ⌝ }
-    requires { ⌜ Rising 0 (pensLeft m q (olds (listBehind (now list) at kat klen)) [] []) (length (now a)) ⌝ }
-    ensures { λ r. ⌜ Turned m (olds (listBehind (now (list .entry)) at kat klen)) (now (a .entry)) q (now (a .exit)) r ⌝ }
+// The pen at a new history page, which a look ahead told of: its headers, rounding and hint are stored at once.
+pub fn opened(a: &mut [u8], q: Pen, r: PageAhead, m: Call) -> Pen
+    requires { ⌜ Opens q r (length (now a)) ⌝ }
+    ensures { λ p. ⌜ p ≡ penOpened q r ⌝ }
+    ensures { λ _. ⌜ now (a .exit) ≡ pageOpened m q r (now (a .entry)) ⌝ }
 {
-    let left = q.loc.left;
-    if left > 0 {
-        return q;
-    }
-    let r = ahead(list, at, kat, klen, m.limit, m.budget);
     let n = r.count;
-    if n == 0 {
-        return q;
-    }
     let size = r.size;
     let page = q.loc.next;
     let end = page + frames::frame_len(size as u32);
@@ -366,8 +355,28 @@ fn turn(a: &mut [u8], list: &[u8], at: usize, kat: usize, klen: usize, q: Pen, m
     }
 }
 
+// The pen with a page at hand, where an old version is left.
+fn turn(a: &mut [u8], list: &[u8], at: usize, kat: usize, klen: usize, q: Pen, m: Call) -> Pen
+    requires { ⌜ Sane m ⌝ }
+    requires { ⌜ Well (now list) at ⌝ }
+    requires { ⌜ kat + klen ≤ length (now list) ⌝ }
+    requires { ⌜ Steady m q (olds (listBehind (now list) at kat klen)) ⌝ }
+    requires { ⌜ Rising 0 (pensLeft m q (olds (listBehind (now list) at kat klen)) [] []) (length (now a)) ⌝ }
+    ensures { λ r. ⌜ Turned 0 m (olds (listBehind (now (list .entry)) at kat klen)) (now (a .entry)) q (now (a .exit)) r ⌝ }
+{
+    let left = q.loc.left;
+    if left > 0 {
+        return q;
+    }
+    let r = ahead(list, at, kat, klen, m.limit, m.budget);
+    if r.count == 0 {
+        return q;
+    }
+    opened(a, q, r, m)
+}
+
 // Where a run's first old version stands: x where none has been passed.
-fn first_of(run: usize, x: usize, y: usize) -> usize
+pub fn first_of(run: usize, x: usize, y: usize) -> usize
     ensures { λ r. ⌜ r ≡ cond (eqb run 0) x y ⌝ }
 {
     if run == 0 {
@@ -445,44 +454,6 @@ fn pen_run(
     }
 }
 
-// ---- remotes of old versions
-
-fn remote_one(limit: usize, n: usize) -> usize
-    ensures { λ r. ⌜ r ≡ cond (ltb n limit) 0 1 ⌝ }
-{
-    if n < limit { 0 } else { 1 }
-}
-
-// How many old versions of a list have a remote: one light loop, for lists that have remotes.
-pub fn remote_olds(list: &[u8], limit: usize) -> usize
-    requires { ⌜ Well (now list) 5 ⌝ }
-    ensures { λ r. ⌜ r ≡ length (remoteAddrs limit 0 (olds (listFrom (now (list .entry)) 5))) ⌝ }
-{
-    if list.len() <= 5 {
-        return 0;
-    }
-    let first = record_at(list, 5);
-    let mut at = past(first);
-    let mut kat = first.kat;
-    let mut klen = first.klen;
-    let mut n: usize = 0;
-    while at < list.len() {
-        let i = record_at(list, at);
-        let next = past(i);
-        if same_key(list, kat, klen, i.kat, i.klen) {
-            n += remote_one(limit, i.vlen);
-            kat = i.kat;
-            klen = i.klen;
-            at = next;
-        } else {
-            kat = i.kat;
-            klen = i.klen;
-            at = next;
-        }
-    }
-    n
-}
-
 // ---- all entries
 
 // All entries in one loop: each key's old versions, then its head. The address past the heads' records.
@@ -499,7 +470,7 @@ pub fn pen_all(
 ) -> usize
     requires { ⌜ Sane m ⌝ }
     requires { ⌜ Well (now list) from ⌝ }
-    requires { ⌜ AllLaid (length (now a)) start first hints base m p (listFrom (now list) from) ⌝ }
+    requires { ⌜ AllLaid 0 (length (now a)) start first hints base m p (listFrom (now list) from) ⌝ }
     ensures { λ r. ⌜ r ≡ first .rec + length (headRecs (m .limit) p (first .remote) (placesAt (m .limit) (m .budget) (start .loc) (olds (listFrom (now (list .entry)) from))) (listFrom (now (list .entry)) from)) ⌝ }
     ensures { λ _. ⌜ now (a .exit) ≡ draws (now (a .entry)) (allLeft m start first hints base p (listFrom (now (list .entry)) from)) ⌝ }
 {

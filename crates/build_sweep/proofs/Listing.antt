@@ -31,9 +31,10 @@ use Rattle.build_sweep.specs.Bounds.{Bounded}
 use Rattle.build_sweep.specs.Cuts.{begun, cutWith, closedOf, Slim}
 use Rattle.build_sweep.specs.Ents.{entAt, orderAt, verIn, wayBy, wayAt}
 use Rattle.build_sweep.specs.Swept.{listed, plain, Accepted}
+use Rattle.build_sweep.specs.Adding.{Adding}
 use Rattle.build_sweep.proofs.Ents.{here, step-at, step-out, key-bare, same-order, way-head, way-old, way-falls}
 use Rattle.build_sweep.proofs.Plain.{not-well, not-rising, not-few}
-use Rattle.build_sweep.proofs.Sweeping.{Climbing, climb-begin, climb-up, climb-last, climb-falls, climb-on, Adding, add-begin, add-bounded, add-slim, add-end, add-many, add-head, add-old}
+use Rattle.build_sweep.proofs.Sweeping.{Climbing, climb-begin, climb-up, climb-last, climb-falls, climb-on, add-begin, add-bounded, add-slim, add-end, add-many, add-head, add-old}
 
 -- the entry before, by all that the order asks of it
 abbrev pub prior : List ℕ → ℕ → ℕ → Entry

@@ -21,8 +21,9 @@ use Rattle.build_sweep.specs.declared.Cut.{Cut}
 use Rattle.build_sweep.specs.Tally.{nothing, withOld, withHead, withOne, tallyOf}
 use Rattle.build_sweep.specs.Pages.{pagesOf}
 use Rattle.build_sweep.specs.Bounds.{Bounded}
-use Rattle.build_sweep.specs.Cuts.{begun, cutWith, closedOf, pagesFrom, Near, Slim}
+use Rattle.build_sweep.specs.Cuts.{begun, cutWith, closedOf, pagesFrom, Slim}
 use Rattle.build_sweep.specs.Swept.{lastKey}
+use Rattle.build_sweep.specs.Adding.{Adding, Summed}
 use Rattle.build_sweep.proofs.Tallying.{up, one-bounded, tally-nil}
 use Rattle.build_sweep.proofs.Cutting.{folds, near-begin, near-slim, near-turn, near-end}
 
@@ -94,14 +95,6 @@ module _ (all rest : List Entry) (seen : Bool) (x : Entry) (h : Climbing all res
 
 -- ---- the sums
 
-pub record Adding (all rest : List Entry) (p next limit budget : ℕ) (t : Tally) (g : Cut) : Type 0 where
-  pub tally : tallyOf limit p t rest ≡ tallyOf limit p nothing all
-  pub pages : pagesFrom limit budget g (only true rest) ≡ pagesOf limit budget 0 next (only true all)
-  pub count : t .heads + t .olds + length rest ≡ length all
-  pub few : t .heads + t .olds ≤ maxEntries
-  pub bounded : Bounded t (t .heads + t .olds)
-  pub near : Near next (t .olds) g
-
 pub add-begin : (all : List Entry) (p next limit budget : ℕ) → Adding all all p next limit budget nothing (begun next)
 add-begin all p next limit budget =
     record {
@@ -109,22 +102,13 @@ add-begin all p next limit budget =
       pages = folds limit budget next (only true all);
       count = omega arith;
       few = omega arith;
-      bounded = record { heads = omega arith; olds = omega arith; sums = omega arith; counted = omega arith; remotes = omega arith; remote = omega arith };
+      bounded = record { heads = omega arith; olds = omega arith; sums = omega arith; counted = omega arith; remotes = omega arith; aged = omega arith; remote = omega arith };
       near = near-begin next;
     }
 
 pages-nil : (limit budget : ℕ) (g : Cut) (es : List Entry) → es ≡ [] → pagesFrom limit budget g (only true es) ≡ closedOf g
 unfolding pagesFrom only
 pages-nil limit budget g es e = rw e refl
-
--- what is summed up at the end
-pub record Summed (all : List Entry) (p next limit budget : ℕ) (t : Tally) (g : Pages) : Type 0 where
-  pub tally : t ≡ tallyOf limit p nothing all
-  pub pages : g ≡ pagesOf limit budget 0 next (only true all)
-  pub few : length all ≤ maxEntries
-  pub bounded : Bounded t maxEntries
-  pub end : g .end ≤ next + 12890734500
-  pub count : g .count ≤ maxEntries
 
 module _ (all rest : List Entry) (p next limit budget : ℕ) (t : Tally) (g : Cut) (h : Adding all rest p next limit budget t g) where
   pub add-bounded : Bounded t maxEntries

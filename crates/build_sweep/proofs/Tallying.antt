@@ -34,12 +34,12 @@ second-most true limit n h = size-most true limit n h
 second-most false limit n h = omega arith
 
 pub old-is : (limit : ℕ) (t : Tally) (n kept x y z : ℕ) → x ≡ cond (t .after) (sizeOf true limit n) 0 → y ≡ cond (ltb n limit) (cond (eqb kept 0) 0 1) 1 → z ≡ cond (ltb n limit) 0 1
-    → record { heads = t .heads; olds = t .olds + 1; sums = t .sums + x; counted = t .counted + y; remotes = t .remotes + z; remote = t .remote; after = false } ≡ withOld limit t n kept
+    → record { heads = t .heads; olds = t .olds + 1; sums = t .sums + x; counted = t .counted + y; remotes = t .remotes + z; aged = t .aged + z; remote = t .remote; after = false } ≡ withOld limit t n kept
 old-is limit t n kept x y z ex ey ez = rw (ex, ey, ez) refl
 
 pub head-is : (limit p : ℕ) (t : Tally) (k n kept u v y z f : ℕ) → u ≡ keyLen p k → v ≡ sizeOf false limit n → y ≡ cond (ltb n limit) (cond (eqb kept 0) 0 1) 1 → z ≡ cond (ltb n limit) 0 1
     → f ≡ remoteLen limit n kept
-    → record { heads = t .heads + 1; olds = t .olds; sums = t .sums + (u + v); counted = t .counted + y; remotes = t .remotes + z; remote = t .remote + f; after = true } ≡ withHead limit p t k n kept
+    → record { heads = t .heads + 1; olds = t .olds; sums = t .sums + (u + v); counted = t .counted + y; remotes = t .remotes + z; aged = t .aged; remote = t .remote + f; after = true } ≡ withHead limit p t k n kept
 head-is limit p t k n kept u v y z f eu ev ey ez ef = rw (eu, ev, ey, ez, ef) refl
 
 -- the size of a key by the bytes that are left of it
@@ -64,6 +64,7 @@ up t j k h b =
       sums = omega (arith, b .sums);
       counted = omega (arith, b .counted);
       remotes = omega (arith, b .remotes);
+      aged = omega (arith, b .aged);
       remote = omega (arith, b .remote);
     }
 
@@ -76,6 +77,7 @@ one-bounded limit p t true k n kept j b hk hn =
       sums = omega (arith, b .sums, second-most (t .after) limit n hn);
       counted = omega (arith, b .counted, one-most (ltb n limit) (eqb kept 0));
       remotes = omega (arith, b .remotes, remote-one-most (ltb n limit));
+      aged = omega (arith, b .aged, remote-one-most (ltb n limit));
       remote = omega (arith, b .remote);
     }
 one-bounded limit p t false k n kept j b hk hn =
@@ -85,6 +87,7 @@ one-bounded limit p t false k n kept j b hk hn =
       sums = omega (arith, b .sums, key-most p k, size-most false limit n hn);
       counted = omega (arith, b .counted, one-most (ltb n limit) (eqb kept 0));
       remotes = omega (arith, b .remotes, remote-one-most (ltb n limit));
+      aged = omega (arith, b .aged);
       remote = omega (arith, b .remote, remote-most limit n kept);
     }
 
@@ -149,6 +152,17 @@ module _ (limit p : ℕ) where
   unfolding tallyOf remotes
   remotes-are t [] = omega arith
   remotes-are t (e ∷ es) = remotes-are _ es ∙ remotes-by t (e .old) (length (e .key)) (length (e .val)) (e .kept) (remotes limit es)
+
+  aged-by : (t : Tally) (e : Entry) (os : List Entry) (b : Bool) (k kept : ℕ)
+      → withOne limit p t b k (length (e .val)) kept .aged + remotes limit os ≡ t .aged + remotes limit (cond b (e ∷ os) os)
+  unfolding withOne remotes
+  aged-by t e os true k kept = omega arith
+  aged-by t e os false k kept = refl
+
+  pub aged-are : (t : Tally) (es : List Entry) → tallyOf limit p t es .aged ≡ t .aged + remotes limit (olds es)
+  unfolding tallyOf only remotes
+  aged-are t [] = omega arith
+  aged-are t (e ∷ es) = aged-are _ es ∙ aged-by t e (olds es) (e .old) (length (e .key)) (e .kept)
 
   remote-by : (t : Tally) (e : Entry) (hs : List Entry) (b : Bool) (k : ℕ)
       → withOne limit p t b k (length (e .val)) (e .kept) .remote + remotesLen limit hs ≡ t .remote + remotesLen limit (cond (not b) (e ∷ hs) hs)

@@ -9,4 +9,5 @@ pub record Bounded (t : Tally) (k : ℕ) : Type 0 where
   pub sums : t .sums ≤ 69800 * k
   pub counted : t .counted ≤ k
   pub remotes : t .remotes ≤ k
+  pub aged : t .aged ≤ k
   pub remote : t .remote ≤ 65600 * k

@@ -5,3 +5,4 @@ pub mod Bounds
 pub mod Cuts
 pub mod Ents
 pub mod Swept
+pub mod Adding

@@ -11,7 +11,7 @@ use Rattle.build_image.specs.Sizes.{remoteLen, keyLen}
 use Rattle.build_sweep.specs.declared.Tally.{Tally}
 
 abbrev pub nothing : Tally
-nothing = record { heads = 0; olds = 0; sums = 0; counted = 0; remotes = 0; remote = 0; after = false }
+nothing = record { heads = 0; olds = 0; sums = 0; counted = 0; remotes = 0; aged = 0; remote = 0; after = false }
 
 -- with an old version; `after` says that the entry before is a head
 abbrev pub withOld : ℕ → Tally → ℕ → ℕ → Tally
@@ -22,6 +22,7 @@ withOld limit t n kept =
       sums = t .sums + cond (t .after) (sizeOf true limit n) 0;
       counted = t .counted + cond (ltb n limit) (cond (eqb kept 0) 0 1) 1;
       remotes = t .remotes + cond (ltb n limit) 0 1;
+      aged = t .aged + cond (ltb n limit) 0 1;
       remote = t .remote;
       after = false;
     }
@@ -35,6 +36,7 @@ withHead limit p t k n kept =
       sums = t .sums + (keyLen p k + sizeOf false limit n);
       counted = t .counted + cond (ltb n limit) (cond (eqb kept 0) 0 1) 1;
       remotes = t .remotes + cond (ltb n limit) 0 1;
+      aged = t .aged;
       remote = t .remote + remoteLen limit n kept;
       after = true;
     }

@@ -21,13 +21,15 @@ ghost use Rattle.build_sweep.specs.Cuts.{cutWith, closedOf, Slim};
 ghost use Rattle.build_sweep.specs.Ents.{entAt, indexEntAt, orderAt, verIn, wayAt};
 ghost use Rattle.build_sweep.specs.Swept.{SweptBy, IndexSweptBy, spansEnds};
 
-// What a leaf's size and hint room are made of, summed up entry by entry; `after` says that the entry before is a head.
+// What a leaf's size and hint room are made of, summed up entry by entry: `aged` of the remotes are old versions', `after` says that the entry
+// before is a head.
 pub struct Tally {
     pub heads: usize,
     pub olds: usize,
     pub sums: usize,
     pub counted: usize,
     pub remotes: usize,
+    pub aged: usize,
     pub remote: usize,
     pub after: bool,
 }
@@ -101,12 +103,14 @@ pub fn with_old(limit: usize, t: Tally, n: usize, kept: Addr) -> Tally
     requires { ⌜ Bounded t maxEntries ⌝ }
     ensures { λ r. ⌜ r ≡ withOld limit t n (kept .0) ⌝ }
 {
+    let far = remote_one(limit, n);
     Tally {
         heads: t.heads,
         olds: t.olds + 1,
         sums: t.sums + second(t.after, limit, n),
         counted: t.counted + counted_one(limit, n, kept),
-        remotes: t.remotes + remote_one(limit, n),
+        remotes: t.remotes + far,
+        aged: t.aged + far,
         remote: t.remote,
         after: false,
     }
@@ -126,6 +130,7 @@ pub fn with_head(limit: usize, p: usize, t: Tally, k: usize, n: usize, kept: Add
         sums: t.sums + (key + Val::calc_size(false, limit, n as u32)),
         counted: t.counted + counted_one(limit, n, kept),
         remotes: t.remotes + remote_one(limit, n),
+        aged: t.aged,
         remote: t.remote + build_image::remote_len(limit, n, kept),
         after: true,
     }
@@ -269,6 +274,7 @@ pub fn sweep_list(list: &[u8], p: usize, next: usize, limit: usize, budget: usiz
         sums: 0,
         counted: 0,
         remotes: 0,
+        aged: 0,
         remote: 0,
         after: false,
     };

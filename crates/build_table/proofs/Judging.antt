@@ -19,8 +19,7 @@ use Rattle.frames.specs.declared.Refusal.{Refusal}
 use Rattle.frames.specs.declared.Refusal.the-variants.{OutOfOrder, WrongPrefix, Outside, TooBig, NoRoom}
 use Rattle.frames.specs.Limits.{maxEntries, maxSize}
 use Rattle.build_sources.specs.Keys.{srcOf}
-use Rattle.build_sources.specs.declared.Cursor.{Cursor}
-use Rattle.build_sources.specs.Source.{Entry, entries}
+use Rattle.build_sources.specs.Source.{Entry}
 use Rattle.build_sources.specs.Judged.{rising, prefixed, enclosed}
 use Rattle.build_image.specs.declared.Call.{Call}
 use Rattle.build_image.specs.Image.{indexSums, indexSizeAt, indexSize, indexImage, Borders}
@@ -244,10 +243,7 @@ apart n s r e = absurd (let z : _≡_ {A = ℕ} 0 1 = cc in omega arith)
 one-no : (r q : Refusal) → No r ≡ No q → r ≡ q
 one-no r q e = cc
 
-module _ (a l : List ℕ) (next : ℕ) (c : Cursor) (m : Call) (lo hi : List ℕ) (e : Boundaries) (le : next ≤ length a) (h : Held lo hi (take next a) e) where
-  abbrev es : List Entry
-  es = entries l (take next a) c
-
+module _ (a : List ℕ) (next : ℕ) (m : Call) (lo hi : List ℕ) (e : Boundaries) (es : List Entry) (le : next ≤ length a) (h : Held lo hi (take next a) e) where
   abbrev b : Borders
   b = boundsOf lo hi (take next a) e
 

@@ -14,7 +14,6 @@ use Rattle.frames.specs.declared.Refusal.{Refusal}
 use Rattle.frames.specs.declared.Refusal.the-variants.{OutOfOrder, TooBig, NoRoom}
 use Rattle.frames.specs.Limits.{maxEntries, maxSize}
 use Rattle.build_paging.specs.Cuts.{cuts}
-use Rattle.build_sources.specs.declared.Cursor.{Cursor}
 use Rattle.build_sources.specs.Source.{Entry, entries, only, olds, heads}
 use Rattle.build_sources.specs.Judged.{rising, prefixed, enclosed}
 use Rattle.build_image.specs.declared.Call.{Call}
@@ -31,7 +30,7 @@ use Rattle.build_sweep.specs.declared.Pages.{Pages}
 use Rattle.build_totals.specs.Totals.{leafAt, remoteAt, remotesOf, totalsOf}
 use Rattle.build_sweep.specs.Tally.{nothing, tallyOf}
 use Rattle.build_sweep.specs.Pages.{pagesOf}
-use Rattle.build_sweep.proofs.Tallying.{heads-are, olds-are, sums-are, counted-are, remotes-are, remote-is}
+use Rattle.build_sweep.proofs.Tallying.{heads-are, olds-are, sums-are, counted-are, remotes-are, aged-are, remote-is}
 use Rattle.build_totals.proofs.Paged.{hist-remotes}
 use Rattle.build_leaf.specs.Leaf.{Small}
 use Rattle.build_table.specs.declared.LeafVerdict.{LeafVerdict}
@@ -47,7 +46,7 @@ use Rattle.build_table.proofs.Judging.{and-both, held-shared, held-long
 -- ---- the totals, field by field
 
 totals-open : (m : Call) (b : Borders) (at : ℕ) (es : List Entry)
-    → record { heads = length (heads es); olds = length (olds es); pages = length (cutsOf m es); remotes = length (remotesOf m b at es); size = leafSize m b es; room = leafRoom m es; leaf = leafAt m at es; end = totalsOf m b at es .end } ≡ totalsOf m b at es
+    → record { heads = length (heads es); olds = length (olds es); pages = length (cutsOf m es); remotes = length (remotesOf m b at es); aged = length (histAddrs (m .limit) at (cutsOf m es) (olds es)); size = leafSize m b es; room = leafRoom m es; leaf = leafAt m at es; end = totalsOf m b at es .end } ≡ totalsOf m b at es
 unfolding totalsOf
 totals-open m b at es = refl
 
@@ -74,13 +73,14 @@ module _ (m : Call) (b : Borders) (at : ℕ) (es : List Entry) where
       length-append (histAddrs (m .limit) at (cutsOf m es) (olds es)) (remoteAddrs (m .limit) (remoteAt m b at es) (heads es))
       ∙ omega (arith, hist-remotes (m .limit) (m .budget) (olds es) at, length-addrs (m .limit) (heads es) (remoteAt m b at es), remotes-kinds (m .limit) es)
 
-  totals-by : (hs os ps rs size room leaf end : ℕ) → hs ≡ length (heads es) → os ≡ length (olds es) → ps ≡ length (cutsOf m es) → rs ≡ remotes (m .limit) es
+  totals-by : (hs os ps rs ag size room leaf end : ℕ) → hs ≡ length (heads es) → os ≡ length (olds es) → ps ≡ length (cutsOf m es) → rs ≡ remotes (m .limit) es → ag ≡ remotes (m .limit) (olds es)
       → size ≡ leafSize m b es → room ≡ leafRoom m es → leaf ≡ leafAt m at es → end ≡ leafEnd at m b es
-      → record { heads = hs; olds = os; pages = ps; remotes = rs; size = size; room = room; leaf = leaf; end = end } ≡ totalsOf m b at es
-  totals-by hs os ps rs size room leaf end e₁ e₂ e₃ e₄ e₅ e₆ e₇ e₈ =
+      → record { heads = hs; olds = os; pages = ps; remotes = rs; aged = ag; size = size; room = room; leaf = leaf; end = end } ≡ totalsOf m b at es
+  totals-by hs os ps rs ag size room leaf end e₁ e₂ e₃ e₄ e₅ e₆ e₇ e₈ e₉ =
       let f₄ = e₄ ∙ sym remotes-all in
-      let f₈ = e₈ ∙ sym tot-end in
-      rw (e₁, e₂, e₃, f₄, e₅, e₆, e₇, f₈) (totals-open m b at es)
+      let f₅ = e₅ ∙ sym (hist-remotes (m .limit) (m .budget) (olds es) at) in
+      let f₉ = e₉ ∙ sym tot-end in
+      rw (e₁, e₂, e₃, f₄, f₅, e₆, e₇, e₈, f₉) (totals-open m b at es)
 
 -- ---- what the judge measures
 
@@ -159,6 +159,9 @@ module _ (m : Call) (lo hi w : List ℕ) (e : Boundaries) (h : Held lo hi w e) (
         remotes-is : tl .remotes ≡ remotes (m .limit) es
         remotes-is = ap (λ (t : Tally). t .remotes) et ∙ remotes-are (m .limit) (e .prefix) nothing es ∙ omega arith
 
+        aged-is : tl .aged ≡ remotes (m .limit) (olds es)
+        aged-is = ap (λ (t : Tally). t .aged) et ∙ aged-are (m .limit) (e .prefix) nothing es ∙ omega arith
+
         remotes-len-is : tl .remote ≡ remotesLen (m .limit) (heads es)
         remotes-len-is = ap (λ (t : Tally). t .remote) et ∙ remote-is (m .limit) (e .prefix) nothing es ∙ omega arith
 
@@ -200,10 +203,10 @@ module _ (m : Call) (lo hi w : List ℕ) (e : Boundaries) (h : Held lo hi w e) (
           fit-by q = rw (h6, h7, h10, few, small, le-leb (leafEnd next m b es) len (rw end-is at q)) refl
 
           leaf-fits : g .end + x + tl .remote ≤ len
-              → Fits (record { heads = tl .heads; olds = tl .olds; pages = g .count; remotes = tl .remotes; size = size; room = room; leaf = g .end; end = g .end + x + tl .remote }) ≡ leafVerdict len next m b es
+              → Fits (record { heads = tl .heads; olds = tl .olds; pages = g .count; remotes = tl .remotes; aged = tl .aged; size = size; room = room; leaf = g .end; end = g .end + x + tl .remote }) ≡ leafVerdict len next m b es
           leaf-fits q =
               ap Fits
-              (totals-by m b next es (tl .heads) (tl .olds) (g .count) (tl .remotes) size room (g .end) (g .end + x + tl .remote) heads-is olds-is pages-is remotes-is size-is room-is
+              (totals-by m b next es (tl .heads) (tl .olds) (g .count) (tl .remotes) (tl .aged) size room (g .end) (g .end + x + tl .remote) heads-is olds-is pages-is remotes-is aged-is size-is room-is
               (leaf-by m next es (g .end) leaf-is) end-is)
               ∙ fit-by q
 
@@ -223,7 +226,7 @@ module _ (len x y : ℕ) (t : Tally) (g : Pages) (room : ℕ) (er : room ≡ roo
     weigh-full q = rw (sym er, le-leb (all + room) maxSize hs, sym ef, lt-leb (g .end + f + t .remote) len q) refl
 
     pub weigh-fits : g .end + f + t .remote ≤ len
-        → Fits (record { heads = t .heads; olds = t .olds; pages = g .count; remotes = t .remotes; size = all; room = room; leaf = g .end; end = g .end + f + t .remote }) ≡ weighed len x y t g
+        → Fits (record { heads = t .heads; olds = t .olds; pages = g .count; remotes = t .remotes; aged = t .aged; size = all; room = room; leaf = g .end; end = g .end + f + t .remote }) ≡ weighed len x y t g
     unfolding weighed
     weigh-fits q = rw (sym er, le-leb (all + room) maxSize hs, sym ef, le-leb (g .end + f + t .remote) len q) refl
 
@@ -263,10 +266,7 @@ one-no r q e = cc
 one-fit : (t u : Totals) → Fits t ≡ Fits u → t ≡ u
 one-fit t u e = cc
 
-module _ (a l : List ℕ) (next : ℕ) (c : Cursor) (m : Call) (lo hi : List ℕ) (e : Boundaries) (h : Held lo hi (take next a) e) where
-  abbrev es : List Entry
-  es = entries l (take next a) c
-
+module _ (a : List ℕ) (next : ℕ) (m : Call) (lo hi : List ℕ) (e : Boundaries) (h : Held lo hi (take next a) e) (es : List Entry) where
   abbrev bs : Borders
   bs = boundsOf lo hi (take next a) e
 
@@ -293,13 +293,13 @@ module _ (a l : List ℕ) (next : ℕ) (c : Cursor) (m : Call) (lo hi : List ℕ
       passed : (Fits tot ≡ Fits t) × All rows
       passed = passes No (Fits tot) rows (Fits t) (λ r z. apart t r (sym z)) (sym (ev ∙ judge-is) ∙ q)
 
-      pub leaf-totals : t ≡ totalsOf m (boundsOf lo hi (take next a) e) next (entries l (take next a) c)
+      pub leaf-totals : t ≡ totalsOf m (boundsOf lo hi (take next a) e) next es
       leaf-totals = sym (one-fit tot t (passed .0))
 
       both : (leb (length es) maxEntries ≡ true) × (leb (leafSize m bs es + leafRoom m es) maxSize ≡ true)
       both = and-both _ _ (passed .1 .1 .1 .1 .0)
 
-      pub leaf-few : length (entries l (take next a) c) ≤ maxEntries
+      pub leaf-few : length es ≤ maxEntries
       leaf-few = leb-true (length es) maxEntries (both .0)
 
       pub leaf-small : Small t e
@@ -312,7 +312,7 @@ module _ (a l : List ℕ) (next : ℕ) (c : Cursor) (m : Call) (lo hi : List ℕ
             prefix = omega (arith, held-shared lo hi (take next a) e h, h .ground);
           }
 
-      pub leaf-long : Long (e .prefix) (entries l (take next a) c)
+      pub leaf-long : Long (e .prefix) es
       leaf-long = held-long lo hi (take next a) e h es (passed .1 .1 .0)
 
       end-at : t .end ≡ leafEnd next m bs es

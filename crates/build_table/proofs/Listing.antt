@@ -9,7 +9,7 @@ use lib.ListN.{length, take}
 use Rattle.spans.specs.Span.{put}
 use Rattle.frames.specs.declared.Refusal.{Refusal}
 use Rattle.frames.specs.declared.Refusal.the-variants.{BadList}
-use Rattle.frames.specs.Layout.{addr}
+use Rattle.frames.specs.Layout.{addr, frameLen}
 use Rattle.frames.specs.Limits.{maxEntries}
 use Rattle.build_sources.specs.declared.Cursor.{Cursor}
 use Rattle.build_sources.specs.Lists.{firstOf}
@@ -19,7 +19,7 @@ use Rattle.build_sources.proofs.Alone.{list-alone, well-alone}
 use Rattle.build_image.specs.declared.Call.{Call}
 use Rattle.build_image.specs.declared.Built.{Built}
 use Rattle.build_image.specs.declared.Built.the-variants.{At, Refused}
-use Rattle.build_image.specs.Image.{Borders, indexSums, leafImage}
+use Rattle.build_image.specs.Image.{Borders, indexSums, indexImage, leafImage}
 use Rattle.build_bounds.specs.declared.Boundary.{Boundary}
 use Rattle.build_bounds.specs.declared.Boundaries.{Boundaries}
 use Rattle.build_bounds.specs.Boundaries.{boundaryBytes, boundaryOf, boundsOf}
@@ -34,6 +34,7 @@ use Rattle.build_sweep.specs.Swept.{listed, Ended, Accepted, SweptBy, IndexAcce
 use Rattle.build_sweep.proofs.Ending.{First, first-record, first-index, ends-long, ends-enclose}
 use Rattle.build_heads.specs.Steps.{Long}
 use Rattle.build_leaf.specs.Leaf.{Small}
+use Rattle.build_index.specs.Parts.{Ready}
 use Rattle.build_totals.specs.declared.Totals.{Totals}
 use Rattle.build_totals.specs.Totals.{totalsOf}
 use Rattle.build_table.specs.declared.LeafVerdict.{LeafVerdict}
@@ -42,7 +43,7 @@ use Rattle.build_table.specs.declared.IndexVerdict.{IndexVerdict}
 use Rattle.build_table.specs.Table.{ofList}
 use Rattle.build_table.specs.Index.{Held, indexVerdict, indexWeighed, indexAnswer, indexArena}
 use Rattle.build_table.specs.Leaf.{leafVerdict, weighed, leafAnswer, leafArena}
-use Rattle.build_table.proofs.Judging.{index-weighed, index-refused}
+use Rattle.build_table.proofs.Judging.{index-weighed, index-refused, index-ready, index-built}
 use Rattle.build_table.proofs.Leafing.{leaf-weighed, leaf-refused, leaf-totals, leaf-few, leaf-small, leaf-long, leaf-room, leaf-built}
 
 -- ---- 3, or what the entries come to
@@ -124,17 +125,23 @@ module _ (l w : List ℕ) (source : ℕ) (ns : source ≡ 2 → ⊥) (lo hi : Li
   rises-in : rising (entries l w (firstOf source)) ≡ true
   rises-in = ap rising (sym alone) ∙ h .rises
 
-  inside : spansEnds l n kat klen lo hi ≡ true → enclosed (boundaryBytes lo w (e .lo)) (boundaryBytes hi w (e .hi)) (entries l w (firstOf source)) ≡ true
-  inside q =
+  ends-are : enclosed (boundaryBytes lo w (e .lo)) (boundaryBytes hi w (e .hi)) (entries l w (firstOf source)) ≡ spansEnds l n kat klen lo hi
+  ends-are =
       ap₂ (λ (x y : List ℕ). enclosed x y (entries l w (firstOf source))) (ap (boundaryBytes lo w) el ∙ boundary-whole lo w) (ap (boundaryBytes hi w) eh ∙ boundary-whole hi w)
       ∙ ap (enclosed lo hi) (sym alone)
       ∙ sym (ends-enclose l source n kat klen h first lo hi)
-      ∙ q
 
-not-two : _≡_ {A = ℕ} 0 2 → ⊥
+  inside : spansEnds l n kat klen lo hi ≡ true → enclosed (boundaryBytes lo w (e .lo)) (boundaryBytes hi w (e .hi)) (entries l w (firstOf source)) ≡ true
+  inside q = ends-are ∙ q
+
+  -- what the ends do not pass, the boundaries do not enclose
+  pub not-enclosed : (b : Bool) → b ≡ spansEnds l n kat klen lo hi → b ≡ false → enclosed (boundaryBytes lo w (e .lo)) (boundaryBytes hi w (e .hi)) (entries l w (firstOf source)) ≡ false
+  not-enclosed b eb q = ends-are ∙ sym eb ∙ q
+
+pub not-two : _≡_ {A = ℕ} 0 2 → ⊥
 not-two e = absurd (omega arith)
 
-one-two : _≡_ {A = ℕ} 1 2 → ⊥
+pub one-two : _≡_ {A = ℕ} 1 2 → ⊥
 one-two e = absurd (omega arith)
 
 module _ (l w : List ℕ) (len next : ℕ) (lo hi : List ℕ) (e : Boundaries) (h : Held lo hi w e) (el : e .lo ≡ boundaryOf lo) (eh : e .hi ≡ boundaryOf hi) where
@@ -181,7 +188,7 @@ module _ (a l : List ℕ) (next : ℕ) (m : Call) (lo hi : List ℕ) (e : Bounda
     pub leaf-list-refused : (r : Refusal) → v ≡ No r → Leaves (Refused r) a
     leaf-list-refused =
         list-refused No one-leaf a l next 0 (leafVerdict (length a) next m bs) (leafAnswer a next m bs) (leafArena a next m bs) v ev
-        (λ r q k. leaf-refused a l next (firstOf 0) m lo hi e h v q r k)
+        (λ r q k. leaf-refused a next m lo hi e h (entries l (take next a) (firstOf 0)) v q r k)
 
     -- what fits, in the words of the writer of lists
     module _ (t : Totals) (q : v ≡ LeafVerdict.Fits t) where
@@ -200,37 +207,51 @@ module _ (a l : List ℕ) (next : ℕ) (m : Call) (lo hi : List ℕ) (e : Bounda
           ∙ list-well No one-leaf a l next 0 (leafVerdict (length a) next m bs) (leafAnswer a next m bs) (leafArena a next m bs) v ev fits (firstOf 0) refl
 
       pub fit-small : Small t e
-      fit-small = leaf-small a l next (firstOf 0) m lo hi e h v at-hand t q
+      fit-small = leaf-small a next m lo hi e h (entries l (take next a) (firstOf 0)) v at-hand t q
 
       pub fit-long : Long (e .prefix) (listed l 0)
-      fit-long = subst (λ (es : List Entry). Long (e .prefix) es) alone-in (leaf-long a l next (firstOf 0) m lo hi e h v at-hand t q)
+      fit-long = subst (λ (es : List Entry). Long (e .prefix) es) alone-in (leaf-long a next m lo hi e h (entries l (take next a) (firstOf 0)) v at-hand t q)
 
       pub fit-few : length (listed l 0) ≤ maxEntries
-      fit-few = subst (λ (es : List Entry). length es ≤ maxEntries) alone-in (leaf-few a l next (firstOf 0) m lo hi e h v at-hand t q)
+      fit-few = subst (λ (es : List Entry). length es ≤ maxEntries) alone-in (leaf-few a next m lo hi e h (entries l (take next a) (firstOf 0)) v at-hand t q)
 
       pub fit-totals : t ≡ totalsOf m (boundsOf lo hi (take next a) e) next (listed l 0)
-      fit-totals = leaf-totals a l next (firstOf 0) m lo hi e h v at-hand t q ∙ ap (totalsOf m bs next) alone-in
+      fit-totals = leaf-totals a next m lo hi e h (entries l (take next a) (firstOf 0)) v at-hand t q ∙ ap (totalsOf m bs next) alone-in
 
       pub fit-room : t .end ≤ length a
-      fit-room = leaf-room a l next (firstOf 0) m lo hi e h v at-hand t q
+      fit-room = leaf-room a next m lo hi e h (entries l (take next a) (firstOf 0)) v at-hand t q
 
       pub fit-built : (a₁ : List ℕ) (x : ℕ) → x ≡ t .leaf → a₁ ≡ put a next (leafImage m (boundsOf lo hi (take next a) e) next (listed l 0)) → Leaves (At (addr x) (t .end)) a₁
       fit-built a₁ x ex p =
           list-built No one-leaf a l next 0 (leafVerdict (length a) next m bs) (leafAnswer a next m bs) (leafArena a next m bs) v ev fits (firstOf 0) refl (At (addr x) (t .end)) a₁
-          (leaf-built a l next (firstOf 0) m lo hi e h v at-hand t q a₁ x ex (p ∙ ap (λ (es : List Entry). put a next (leafImage m bs next es)) (sym alone-in)))
+          (leaf-built a next m lo hi e h (entries l (take next a) (firstOf 0)) v at-hand t q a₁ x ex (p ∙ ap (λ (es : List Entry). put a next (leafImage m bs next es)) (sym alone-in)))
 
   module _ (le : next ≤ length a) (h : Held lo hi (take next a) e) (v : IndexVerdict) (ev : v ≡ ofList l (take next a) 1 (IndexVerdict.No BadList) (indexVerdict (length a) next bs e)) where
     pub index-list-refused : (r : Refusal) → v ≡ IndexVerdict.No r → Indexes (Refused r) a
     index-list-refused =
         list-refused IndexVerdict.No one-index a l next 1 (indexVerdict (length a) next bs e) (indexAnswer a next m bs) (indexArena a next m bs) v ev
-        (λ r q k. index-refused a l next (firstOf 1) m lo hi e le h v q r k)
+        (λ r q k. index-refused a next m lo hi e (entries l (take next a) (firstOf 1)) le h v q r k)
 
-    module _ (n s : ℕ) (q : v ≡ IndexVerdict.Fits n s) (c : Cursor) (ec : c ≡ firstOf 1) where
+    -- what fits, in the words of the writer of index lists
+    module _ (n s : ℕ) (q : v ≡ IndexVerdict.Fits n s) where
       index-fits : v ≡ IndexVerdict.No BadList → ⊥
       index-fits z = absurd (let y : _≡_ {A = ℕ} 0 1 = cc in omega arith)
 
-      pub index-list-verdict : v ≡ indexVerdict (length a) next (boundsOf lo hi (take next a) e) e (entries l (take next a) c)
-      index-list-verdict = list-verdict IndexVerdict.No one-index a l next 1 (indexVerdict (length a) next bs e) (indexAnswer a next m bs) (indexArena a next m bs) v ev index-fits c ec
+      index-at-hand : v ≡ indexVerdict (length a) next bs e (entries l (take next a) (firstOf 1))
+      index-at-hand = list-verdict IndexVerdict.No one-index a l next 1 (indexVerdict (length a) next bs e) (indexAnswer a next m bs) (indexArena a next m bs) v ev index-fits (firstOf 1) refl
 
-      pub index-list-built : (r : Built) (a₁ : List ℕ) → (r ≡ indexAnswer a next m bs (entries l (take next a) c)) × (a₁ ≡ indexArena a next m bs (entries l (take next a) c)) → Indexes r a₁
-      index-list-built = list-built IndexVerdict.No one-index a l next 1 (indexVerdict (length a) next bs e) (indexAnswer a next m bs) (indexArena a next m bs) v ev index-fits c ec
+      index-alone-in : entries l (take next a) (firstOf 1) ≡ listed l 1
+      index-alone-in = list-alone l (take next a) (firstOf 1) one-two
+
+      pub index-fit-well : wellFormed l [] (firstOf 1) ≡ true
+      index-fit-well =
+          sym (well-alone l (take next a) (firstOf 1) one-two)
+          ∙ list-well IndexVerdict.No one-index a l next 1 (indexVerdict (length a) next bs e) (indexAnswer a next m bs) (indexArena a next m bs) v ev index-fits (firstOf 1) refl
+
+      pub index-fit-ready : Ready a next next lo hi e (listed l 1) n s
+      index-fit-ready = subst (λ (es : List Entry). Ready a next next lo hi e es n s) index-alone-in (index-ready a next m lo hi e (entries l (take next a) (firstOf 1)) le h v index-at-hand n s q)
+
+      pub index-fit-built : (a₁ : List ℕ) (x : ℕ) → a₁ ≡ put a next (indexImage m (boundsOf lo hi (take next a) e) (listed l 1)) → x ≡ frameLen s → Indexes (At (addr next) (next + x)) a₁
+      index-fit-built a₁ x p ex =
+          list-built IndexVerdict.No one-index a l next 1 (indexVerdict (length a) next bs e) (indexAnswer a next m bs) (indexArena a next m bs) v ev index-fits (firstOf 1) refl (At (addr next) (next + x)) a₁
+          (index-built a next m lo hi e (entries l (take next a) (firstOf 1)) le h v index-at-hand n s q a₁ x (p ∙ ap (λ (es : List Entry). put a next (indexImage m bs es)) (sym index-alone-in)) ex)

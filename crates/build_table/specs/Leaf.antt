@@ -58,6 +58,6 @@ weighed len x y t g =
     cond (leb (size + room) maxSize)
     (cond (leb end len)
     (LeafVerdict.Fits
-    (record { heads = t .heads; olds = t .olds; pages = g .count; remotes = t .remotes; size = size; room = room; leaf = g .end; end = end }))
+    (record { heads = t .heads; olds = t .olds; pages = g .count; remotes = t .remotes; aged = t .aged; size = size; room = room; leaf = g .end; end = end }))
     (LeafVerdict.No NoRoom))
     (LeafVerdict.No TooBig)

@@ -2,3 +2,4 @@
 pub mod Table
 pub mod Index
 pub mod Leaf
+pub mod Pages

@@ -6,8 +6,9 @@ use mathlib.Core.Bool.{Bool, true, false, cond, _&&_}
 use lib.ListN.{length, take}
 use lib.Dec.{leb}
 use Rattle.frames.specs.declared.Refusal.{Refusal}
-use Rattle.frames.specs.declared.Refusal.the-variants.{OutOfOrder, WrongPrefix, Outside, TooBig, NoRoom}
+use Rattle.frames.specs.declared.Refusal.the-variants.{BadList, OutOfOrder, WrongPrefix, Outside, TooBig, NoRoom}
 use Rattle.frames.specs.Limits.{maxEntries, maxKey, maxSize}
+use Rattle.build_sources.specs.declared.Cursor.{Cursor}
 use Rattle.build_sources.specs.declared.Started.{Started}
 use Rattle.build_sources.specs.Lists.{begunOf, firstOf}
 use Rattle.build_sources.specs.Source.{Entry, entries, wellFormed}
@@ -56,3 +57,10 @@ outsideOf prefix es = cond (prefixed prefix es) Outside WrongPrefix
 
 abbrev pub apartOf : List ℕ → List Entry → Refusal
 apartOf prefix es = cond (rising es) (outsideOf prefix es) OutOfOrder
+
+-- why a list is refused whose entries are not all that is asked of them: 3, 6, 7, 10, else 8 ("over 65,535 entries")
+unfoldable pub refusalOf : List ℕ → List ℕ → Cursor → Borders → Refusal
+unfolding wellFormed entries rising prefixed
+refusalOf l w c b =
+    let es = entries l w c in
+    cond (wellFormed l w c) (cond (rising es) (cond (enclosed (b .lo) (b .hi) es) TooBig (outsideOf (take (b .prefix) (b .lo)) es)) OutOfOrder) BadList

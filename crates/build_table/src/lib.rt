@@ -5,8 +5,10 @@ use build_bounds::Boundaries;
 use build_bounds::Boundary;
 use build_image::Built;
 use build_image::Call;
+use build_page_sweep::PageSwept;
 use build_sources::Cursor;
 use build_sources::Risen;
+use build_sweep::Cut;
 use build_sweep::IndexSwept;
 use build_sweep::Pages;
 use build_sweep::Swept;
@@ -14,19 +16,25 @@ use build_sweep::Tally;
 use build_totals::Totals;
 use frames::Addr;
 use frames::BaseHeader;
+use frames::Body;
 use frames::Refusal;
 ghost use mathlib.Core.Path.{_≡_};
-ghost use Prim.Native.Nat.{_≤_};
+ghost use mathlib.Core.List.{_++_};
+ghost use mathlib.Core.Bool.{true};
+ghost use Prim.Native.Nat.{_-_, _≤_};
 ghost use lib.ListN.{length, take};
 ghost use Rattle.build_sources.specs.Source.{entries};
-ghost use Rattle.build_sources.specs.Judged.{prefixed, risenOf};
+ghost use Rattle.build_sources.specs.Judged.{rising, prefixed, enclosed, risenOf};
+ghost use Rattle.law_rows.specs.Rows.{indexEntries};
+ghost use Rattle.build_rows.specs.Judged.{Judged};
 ghost use Rattle.build_bounds.specs.Boundaries.{Within, BothWithin, boundaryBytes, boundaryOf, boundsOf};
-ghost use Rattle.build_table.specs.Table.{boundsOk, leafLimits, ofList, outsideOf, apartOf};
+ghost use Rattle.build_table.specs.Table.{boundsOk, leafLimits, ofList, outsideOf, apartOf, refusalOf};
 ghost use Rattle.frames.specs.declared.Refusal.{Refusal};
 ghost use Rattle.build_image.specs.declared.Built.{Built};
 ghost use Rattle.build_table.specs.declared.IndexVerdict.{IndexVerdict};
 ghost use Rattle.build_table.specs.declared.LeafVerdict.{LeafVerdict};
 ghost use Rattle.build_table.specs.Index.{Held, indexVerdict, indexAnswer, indexArena, indexWeighed};
+ghost use Rattle.build_table.specs.Pages.{inLeaves, Leaves};
 ghost use Rattle.build_table.specs.Leaf.{leafVerdict, leafAnswer, leafArena, weighed};
 ghost use Rattle.build_sources.specs.Lists.{firstOf};
 ghost use Rattle.build_sweep.specs.Bounds.{Bounded};
@@ -171,64 +179,6 @@ fn weigh_index(len: usize, next: usize, x: usize, y: usize, n: usize, sums: usiz
     IndexVerdict::Fits(n, size)
 }
 
-// Judges the entries of an index page: 6, 7, 10, 8, 9. It writes nothing.
-pub fn judge_index(
-    list: &[u8],
-    ground: &[u8],
-    from: Cursor,
-    len: usize,
-    next: usize,
-    lo: &[u8],
-    hi: &[u8],
-    e: Boundaries,
-) -> IndexVerdict
-    requires { ⌜ Held (now lo) (now hi) (now ground) e ⌝ }
-    requires { ⌜ next ≤ len ⌝ }
-    ensures { λ r. ⌜ r ≡ indexVerdict len next (boundsOf (now (lo .entry)) (now (hi .entry)) (now (ground .entry)) e) e (entries (now (list .entry)) (now (ground .entry)) from) ⌝ }
-{
-    let x = e.lo;
-    let y = e.hi;
-    let p = e.prefix;
-    let Risen::Up(n, inside) = rises(list, ground, from, lo, hi, e) else {
-        return IndexVerdict::No(Refusal::OutOfOrder);
-    };
-    if !inside {
-        return IndexVerdict::No(outside(list, ground, from, lo, x, p));
-    }
-    if BaseHeader::MAX_ENTRIES < n {
-        return IndexVerdict::No(Refusal::TooBig);
-    }
-    let sums = build_index::index_sums(list, ground, from, p);
-    weigh_index(len, next, x.len, y.len, n, sums)
-}
-
-// Builds an index page of the entries from a cursor on.
-pub fn build_index(
-    a: &mut [u8],
-    next: usize,
-    list: &[u8],
-    from: Cursor,
-    m: Call,
-    lo: &[u8],
-    hi: &[u8],
-    e: Boundaries,
-) -> Built
-    requires { ⌜ next ≤ length (now a) ⌝ }
-    requires { ⌜ Held (now lo) (now hi) (take next (now a)) e ⌝ }
-    ensures { λ r. ⌜ r ≡ indexAnswer (now (a .entry)) next m (boundsOf (now (lo .entry)) (now (hi .entry)) (take next (now (a .entry))) e) (entries (now (list .entry)) (take next (now (a .entry))) from) ⌝ }
-    ensures { λ _. ⌜ now (a .exit) ≡ indexArena (now (a .entry)) next m (boundsOf (now (lo .entry)) (now (hi .entry)) (take next (now (a .entry))) e) (entries (now (list .entry)) (take next (now (a .entry))) from) ⌝ }
-{
-    let len = a.len();
-    let v = judge_index(list, &a[..next], from, len, next, lo, hi, e);
-    match v {
-        IndexVerdict::No(r) => Built::Refused(r),
-        IndexVerdict::Fits(n, size) => {
-            build_index::write_index(a, next, list, from, next, m, n, size, lo, hi, e);
-            Built::At(Addr(next as u64), next + frames::frame_len(size as u32))
-        }
-    }
-}
-
 // ---- leaves
 
 // 8 and 9, on what a leaf's entries sum up to; x and y are the lengths of the boundaries.
@@ -252,6 +202,7 @@ fn weigh(len: usize, x: usize, y: usize, t: Tally, g: Pages) -> LeafVerdict
         olds: t.olds,
         pages: g.count,
         remotes: t.remotes,
+        aged: t.aged,
         size: size,
         room: room,
         leaf: g.end,
@@ -259,96 +210,122 @@ fn weigh(len: usize, x: usize, y: usize, t: Tally, g: Pages) -> LeafVerdict
     })
 }
 
-// Judges the entries of a leaf: 6, 7, 10, 8, 9. It writes nothing.
-pub fn judge_leaf(
-    list: &[u8],
+// ---- two leaves
+
+// Judges heads from..end of a leaf and n heads of another, both sound, whose entries rise and lie between the boundaries: 8, 9. It writes nothing.
+fn judge_leaves(
     ground: &[u8],
-    from: Cursor,
+    b: Body,
+    from: usize,
+    end: usize,
+    d: Body,
+    n: usize,
     len: usize,
     next: usize,
     m: Call,
-    lo: &[u8],
-    hi: &[u8],
+    none: &[u8],
     e: Boundaries,
 ) -> LeafVerdict
-    requires { ⌜ Held (now lo) (now hi) (now ground) e ⌝ }
+    requires { ⌜ Leaves (now none) (now ground) b from end d n e (inLeaves (now ground) b from end d n) ⌝ }
     requires { ⌜ Sane m ⌝ }
     requires { ⌜ (next ≤ len) × (len ≤ 9223372036854775807) ⌝ }
-    ensures { λ r. ⌜ r ≡ leafVerdict len next m (boundsOf (now (lo .entry)) (now (hi .entry)) (now (ground .entry)) e) (entries (now (list .entry)) (now (ground .entry)) from) ⌝ }
+    ensures { λ r. ⌜ r ≡ leafVerdict len next m (boundsOf (now (none .entry)) (now (none .entry)) (now (ground .entry)) e) (inLeaves (now (ground .entry)) b from end d n) ⌝ }
 {
-    let x = e.lo;
-    let y = e.hi;
-    let p = e.prefix;
-    let Risen::Up(n, inside) = rises(list, ground, from, lo, hi, e) else {
-        return LeafVerdict::No(Refusal::OutOfOrder);
+    let none = Tally {
+        heads: 0,
+        olds: 0,
+        sums: 0,
+        counted: 0,
+        remotes: 0,
+        aged: 0,
+        remote: 0,
+        after: false,
     };
-    if !inside {
-        return LeafVerdict::No(outside(list, ground, from, lo, x, p));
-    }
-    if BaseHeader::MAX_ENTRIES < n {
+    let cut = Cut {
+        pages: 0,
+        to: next,
+        count: 0,
+        size: BaseHeader::HDR_LEN,
+        remote: 0,
+    };
+    let x = build_page_sweep::sweep_page(
+        ground,
+        b,
+        from,
+        end,
+        e.prefix,
+        m.limit,
+        m.budget,
+        none,
+        cut,
+    );
+    let PageSwept::Fits(t, g) = x else {
         return LeafVerdict::No(Refusal::TooBig);
-    }
-    let t = build_totals::tally_up(list, ground, from, p, m.limit);
-    let g = build_totals::count_pages(list, ground, from, next, m.limit, m.budget);
-    weigh(len, x.len, y.len, t, g)
+    };
+    let y = build_page_sweep::sweep_page(ground, d, 0, n, e.prefix, m.limit, m.budget, t, g);
+    let PageSwept::Fits(u, h) = y else {
+        return LeafVerdict::No(Refusal::TooBig);
+    };
+    let lo = e.lo;
+    let hi = e.hi;
+    weigh(len, lo.len, hi.len, u, build_sweep::closed(h))
 }
 
-// Builds a leaf of the entries from a cursor on.
-pub fn build_leaf(
+// Builds a leaf of heads from..end of one sound leaf and n heads of another, whose entries rise and lie between the boundaries.
+pub fn build_leaves(
     a: &mut [u8],
     next: usize,
-    list: &[u8],
-    from: Cursor,
+    b: Body,
+    from: usize,
+    end: usize,
+    d: Body,
+    n: usize,
     m: Call,
-    lo: &[u8],
-    hi: &[u8],
+    none: &[u8],
     e: Boundaries,
 ) -> Built
     requires { ⌜ next ≤ length (now a) ⌝ }
-    requires { ⌜ Held (now lo) (now hi) (take next (now a)) e ⌝ }
+    requires { ⌜ Leaves (now none) (take next (now a)) b from end d n e (inLeaves (take next (now a)) b from end d n) ⌝ }
     requires { ⌜ Sane m ⌝ }
-    ensures { λ r. ⌜ r ≡ leafAnswer (now (a .entry)) next m (boundsOf (now (lo .entry)) (now (hi .entry)) (take next (now (a .entry))) e) (entries (now (list .entry)) (take next (now (a .entry))) from) ⌝ }
-    ensures { λ _. ⌜ now (a .exit) ≡ leafArena (now (a .entry)) next m (boundsOf (now (lo .entry)) (now (hi .entry)) (take next (now (a .entry))) e) (entries (now (list .entry)) (take next (now (a .entry))) from) ⌝ }
+    ensures { λ r. ⌜ r ≡ leafAnswer (now (a .entry)) next m (boundsOf (now (none .entry)) (now (none .entry)) (take next (now (a .entry))) e) (inLeaves (take next (now (a .entry))) b from end d n) ⌝ }
+    ensures { λ _. ⌜ now (a .exit) ≡ leafArena (now (a .entry)) next m (boundsOf (now (none .entry)) (now (none .entry)) (take next (now (a .entry))) e) (inLeaves (take next (now (a .entry))) b from end d n) ⌝ }
 {
     let len = a.len();
-    let v = judge_leaf(list, &a[..next], from, len, next, m, lo, hi, e);
+    let v = judge_leaves(&a[..next], b, from, end, d, n, len, next, m, none, e);
     match v {
         LeafVerdict::No(r) => Built::Refused(r),
         LeafVerdict::Fits(t) => {
-            let end = t.end;
-            let leaf = build_leaf::write_leaf(a, next, list, from, next, m, t, lo, hi, e);
-            Built::At(Addr(leaf as u64), end)
+            let stop = t.end;
+            let leaf = build_leaf::write_leaves(a, next, b, from, end, d, n, next, m, t, none, e);
+            Built::At(Addr(leaf as u64), stop)
         }
     }
 }
 
-// ---- a record list
+// ---- why a list is refused
 
-// The lowest number of a record list, by the passes over any source.
-fn judge_slowly(
-    list: &[u8],
-    ground: &[u8],
-    from: Cursor,
-    len: usize,
-    next: usize,
-    m: Call,
-    lo: &[u8],
-    hi: &[u8],
-    e: Boundaries,
-) -> LeafVerdict
-    requires { ⌜ from ≡ firstOf 0 ⌝ }
+// Why a list that its sweep, or the test of its first and last key, did not pass is refused: 3, 6, 7, 10; one with none of these faults has too many
+// entries.
+fn refused(list: &[u8], ground: &[u8], from: Cursor, lo: &[u8], hi: &[u8], e: Boundaries) -> Refusal
     requires { ⌜ Held (now lo) (now hi) (now ground) e ⌝ }
-    requires { ⌜ Sane m ⌝ }
-    requires { ⌜ (next ≤ len) × (len ≤ 9223372036854775807) ⌝ }
-    ensures { λ r. ⌜ r ≡ ofList (now (list .entry)) (now (ground .entry)) 0 (LeafVerdict.No Refusal.BadList) (leafVerdict len next m (boundsOf (now (lo .entry)) (now (hi .entry)) (now (ground .entry)) e)) ⌝ }
+    ensures { λ r. ⌜ r ≡ refusalOf (now (list .entry)) (now (ground .entry)) from (boundsOf (now (lo .entry)) (now (hi .entry)) (now (ground .entry)) e) ⌝ }
 {
     if !build_sources::well(list, ground, from) {
-        return LeafVerdict::No(Refusal::BadList);
+        return Refusal::BadList;
     }
-    judge_leaf(list, ground, from, len, next, m, lo, hi, e)
+    let Risen::Up(_, inside) = rises(list, ground, from, lo, hi, e) else {
+        return Refusal::OutOfOrder;
+    };
+    if inside {
+        return Refusal::TooBig;
+    }
+    let x = e.lo;
+    outside(list, ground, from, lo, x, e.prefix)
 }
 
-// Judges a record list: 3, 6, 7, 10, 8, 9. It writes nothing. One sweep accepts it; what the sweep does not accept is judged slowly.
+// ---- a record list
+
+// Judges a record list: 3, 6, 7, 10, 8, 9. It writes nothing. One sweep accepts it.
 pub fn judge_list(
     list: &[u8],
     ground: &[u8],
@@ -369,12 +346,12 @@ pub fn judge_list(
 {
     let s = build_sweep::sweep_list(list, e.prefix, next, m.limit, m.budget);
     let Swept::Fits(t, g, kat, klen) = s else {
-        return judge_slowly(list, ground, from, len, next, m, lo, hi, e);
+        return LeafVerdict::No(refused(list, ground, from, lo, hi, e));
     };
     if build_sweep::spans_ends(list, t.heads + t.olds, kat, klen, lo, hi) {
         return weigh(len, lo.len(), hi.len(), t, g);
     }
-    judge_slowly(list, ground, from, len, next, m, lo, hi, e)
+    LeafVerdict::No(refused(list, ground, from, lo, hi, e))
 }
 
 // Builds a leaf of a record list, whose boundaries are the lent slices.
@@ -410,29 +387,7 @@ pub fn build_list(
 
 // ---- an index list
 
-// The lowest number of an index list, by the passes over any source.
-fn index_slowly(
-    list: &[u8],
-    ground: &[u8],
-    from: Cursor,
-    len: usize,
-    next: usize,
-    lo: &[u8],
-    hi: &[u8],
-    e: Boundaries,
-) -> IndexVerdict
-    requires { ⌜ from ≡ firstOf 1 ⌝ }
-    requires { ⌜ Held (now lo) (now hi) (now ground) e ⌝ }
-    requires { ⌜ next ≤ len ⌝ }
-    ensures { λ r. ⌜ r ≡ ofList (now (list .entry)) (now (ground .entry)) 1 (IndexVerdict.No Refusal.BadList) (indexVerdict len next (boundsOf (now (lo .entry)) (now (hi .entry)) (now (ground .entry)) e) e) ⌝ }
-{
-    if !build_sources::well(list, ground, from) {
-        return IndexVerdict::No(Refusal::BadList);
-    }
-    judge_index(list, ground, from, len, next, lo, hi, e)
-}
-
-// Judges an index list: 3, 6, 7, 10, 8, 9. It writes nothing. One sweep accepts it; what the sweep does not accept is judged slowly.
+// Judges an index list: 3, 6, 7, 10, 8, 9. It writes nothing. One sweep accepts it.
 pub fn judge_index_list(
     list: &[u8],
     ground: &[u8],
@@ -451,12 +406,12 @@ pub fn judge_index_list(
 {
     let s = build_sweep::sweep_index(list, e.prefix);
     let IndexSwept::Fits(n, sums, kat, klen) = s else {
-        return index_slowly(list, ground, from, len, next, lo, hi, e);
+        return IndexVerdict::No(refused(list, ground, from, lo, hi, e));
     };
     if build_sweep::spans_ends(list, n, kat, klen, lo, hi) {
         return weigh_index(len, next, lo.len(), hi.len(), n, sums);
     }
-    index_slowly(list, ground, from, len, next, lo, hi, e)
+    IndexVerdict::No(refused(list, ground, from, lo, hi, e))
 }
 
 // Builds an index page of an index list, whose boundaries are the lent slices.
@@ -482,7 +437,75 @@ pub fn build_index_list(
     match v {
         IndexVerdict::No(r) => Built::Refused(r),
         IndexVerdict::Fits(n, size) => {
-            build_index::write_index(a, next, list, from, next, m, n, size, lo, hi, e);
+            build_index::write_list(a, next, list, next, m, n, size, lo, hi, e);
+            Built::At(Addr(next as u64), next + frames::frame_len(size as u32))
+        }
+    }
+}
+
+// ---- two index pages
+
+// Judges the children from..end of one page and the first of another, which rise and lie between the boundaries: 8, 9. It writes nothing.
+fn judge_indexes(
+    ground: &[u8],
+    b: Body,
+    from: usize,
+    end: usize,
+    d: Body,
+    count: usize,
+    len: usize,
+    next: usize,
+    none: &[u8],
+    e: Boundaries,
+) -> IndexVerdict
+    requires { ⌜ Judged (now ground) b 1 × Judged (now ground) d 1 ⌝ }
+    requires { ⌜ (from ≤ end) × (end ≤ b .elems) × (count ≤ d .elems) ⌝ }
+    requires { ⌜ Held (now none) (now none) (now ground) e ⌝ }
+    requires { ⌜ next ≤ len ⌝ }
+    requires { ⌜ rising (indexEntries (now ground) b (end - from) from ++ indexEntries (now ground) d count 0) ≡ true ⌝ }
+    requires { ⌜ enclosed (boundaryBytes (now none) (now ground) (e .lo)) (boundaryBytes (now none) (now ground) (e .hi)) (indexEntries (now ground) b (end - from) from ++ indexEntries (now ground) d count 0) ≡ true ⌝ }
+    ensures { λ r. ⌜ r ≡ indexVerdict len next (boundsOf (now (none .entry)) (now (none .entry)) (now (ground .entry)) e) e (indexEntries (now (ground .entry)) b (end - from) from ++ indexEntries (now (ground .entry)) d count 0) ⌝ }
+{
+    let x = e.lo;
+    let y = e.hi;
+    let p = e.prefix;
+    let n = end - from + count;
+    if BaseHeader::MAX_ENTRIES < n {
+        return IndexVerdict::No(Refusal::TooBig);
+    }
+    let one = build_index::sum_page(ground, b, from, end, p);
+    let two = build_index::sum_page(ground, d, 0, count, p);
+    weigh_index(len, next, x.len, y.len, n, one + two)
+}
+
+// Builds an index page of the children from..end of one sound page and the first of another, which rise and lie between the boundaries.
+pub fn build_indexes(
+    a: &mut [u8],
+    next: usize,
+    b: Body,
+    from: usize,
+    end: usize,
+    d: Body,
+    count: usize,
+    m: Call,
+    none: &[u8],
+    e: Boundaries,
+) -> Built
+    requires { ⌜ next ≤ length (now a) ⌝ }
+    requires { ⌜ Judged (take next (now a)) b 1 × Judged (take next (now a)) d 1 ⌝ }
+    requires { ⌜ (from ≤ end) × (end ≤ b .elems) × (count ≤ d .elems) ⌝ }
+    requires { ⌜ Held (now none) (now none) (take next (now a)) e ⌝ }
+    requires { ⌜ rising (indexEntries (take next (now a)) b (end - from) from ++ indexEntries (take next (now a)) d count 0) ≡ true ⌝ }
+    requires { ⌜ enclosed (boundaryBytes (now none) (take next (now a)) (e .lo)) (boundaryBytes (now none) (take next (now a)) (e .hi)) (indexEntries (take next (now a)) b (end - from) from ++ indexEntries (take next (now a)) d count 0) ≡ true ⌝ }
+    ensures { λ r. ⌜ r ≡ indexAnswer (now (a .entry)) next m (boundsOf (now (none .entry)) (now (none .entry)) (take next (now (a .entry))) e) (indexEntries (take next (now (a .entry))) b (end - from) from ++ indexEntries (take next (now (a .entry))) d count 0) ⌝ }
+    ensures { λ _. ⌜ now (a .exit) ≡ indexArena (now (a .entry)) next m (boundsOf (now (none .entry)) (now (none .entry)) (take next (now (a .entry))) e) (indexEntries (take next (now (a .entry))) b (end - from) from ++ indexEntries (take next (now (a .entry))) d count 0) ⌝ }
+{
+    let len = a.len();
+    let v = judge_indexes(&a[..next], b, from, end, d, count, len, next, none, e);
+    match v {
+        IndexVerdict::No(r) => Built::Refused(r),
+        IndexVerdict::Fits(n, size) => {
+            build_index::write_pages(a, next, b, from, end, d, count, next, m, n, size, none, e);
             Built::At(Addr(next as u64), next + frames::frame_len(size as u32))
         }
     }

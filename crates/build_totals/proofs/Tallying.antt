@@ -26,7 +26,7 @@ tally-begin l w limit p c k =
     record {
       goes = refl;
       few = k;
-      bounded = record { heads = omega arith; olds = omega arith; sums = omega arith; counted = omega arith; remotes = omega arith; remote = omega arith };
+      bounded = record { heads = omega arith; olds = omega arith; sums = omega arith; counted = omega arith; remotes = omega arith; aged = omega arith; remote = omega arith };
     }
 
 same-old : (l w : List ℕ) (i : EntryAt) → entryOf l w i .old ≡ i .old

@@ -25,15 +25,16 @@ unfoldable pub remotesOf : Call → Borders → ℕ → List Entry → List ℕ
 unfolding remoteAt histAddrs remoteAddrs
 remotesOf m b at es = histAddrs (m .limit) at (cutsOf m es) (olds es) ++ remoteAddrs (m .limit) (remoteAt m b at es) (heads es)
 
--- heads, old versions, history pages, remote addresses that the hints list, size, hint room, the leaf's address, the new next free address
+-- heads, old versions, history pages, remote addresses that the hints list, those of them in the history, size, hint room, the leaf's address, the new next free address
 unfoldable pub totalsOf : Call → Borders → ℕ → List Entry → Totals
-unfolding leafSize leafRoom leafAt remoteAt remotesOf remotesLen only
+unfolding leafSize leafRoom leafAt remoteAt remotesOf histAddrs remotesLen only
 totalsOf m b at es =
     record {
       heads = length (heads es);
       olds = length (olds es);
       pages = length (cutsOf m es);
       remotes = length (remotesOf m b at es);
+      aged = length (histAddrs (m .limit) at (cutsOf m es) (olds es));
       size = leafSize m b es;
       room = leafRoom m es;
       leaf = leafAt m at es;

@@ -15,13 +15,14 @@ ghost use Rattle.build_sweep.specs.Tally.{nothing, withOne, tallyOf};
 ghost use Rattle.build_sweep.specs.Pages.{pagesOf};
 ghost use Rattle.build_sweep.specs.Bounds.{Bounded};
 
-// What a leaf build writes: heads, old versions, history pages, remotes, the page's size and its hints' room, its address, and the
-// new next free address.
+// What a leaf build writes: heads, old versions, history pages, remotes and how many of them are old versions', the page's size and its hints'
+// room, its address, and the new next free address.
 pub struct Totals {
     pub heads: usize,
     pub olds: usize,
     pub pages: usize,
     pub remotes: usize,
+    pub aged: usize,
     pub size: usize,
     pub room: usize,
     pub leaf: usize,
@@ -58,6 +59,7 @@ pub fn tally_up(list: &[u8], ground: &[u8], from: Cursor, p: usize, limit: usize
         sums: 0,
         counted: 0,
         remotes: 0,
+        aged: 0,
         remote: 0,
         after: false,
     };

@@ -1,6 +1,5 @@
 -- The crate's laws.
 pub mod Lists
-pub mod Climbing
 pub mod Pages
 pub mod Meeting
 pub mod Trees

@@ -17,6 +17,7 @@ use Rattle.frames.proofs.Frames.{and-l, and-r}
 use Rattle.pages.specs.Meaning.{Head, Child, Page, leaf, index, says, meaning}
 use Rattle.build_sources.specs.Source.{Entry, olds}
 use Rattle.build_sources.specs.Marks.{Each, Short}
+use Rattle.build_sources.specs.Judged.{enclosed}
 use Rattle.walks.specs.Listed.{entriesOf}
 use Rattle.build_image.specs.declared.Call.{Call}
 use Rattle.build_image.specs.Image.{Borders, cutsOf, historyEnd, leafImage, indexImage}
@@ -27,7 +28,7 @@ use Rattle.build_image.specs.Table.{Row, row, judged}
 use Rattle.build_table.specs.Index.{indexEnd}
 use Rattle.build_table.specs.Leaf.{leafEnd}
 use Rattle.build_image.proofs.Tables.{All}
-use Rattle.law_two_pages.specs.Pairs.{bare, child, Carried, NoPage, NoVersion}
+use Rattle.law_rows.specs.Pairs.{bare, child, Carried, NoPage, NoVersion}
 use Rattle.merge.specs.declared.Kinds.{Kinds}
 use Rattle.merge.specs.Merge.{boundsBetween, boundsIn, meetIn, merged, Merged}
 use Rattle.merge.specs.Answer.{kindsIn, kindRows, answerBy, arenaBy, mergeAnswer, mergeArena}
@@ -106,8 +107,11 @@ module _ (a : List ℕ) (next : ℕ) (m : Call) (left right : Addr) (typed : Typ
       leaf-room = leb-true (next + length image) (length a) (leaf-holds .1 .1 .1 .1 .1 .1 .1 .1 .0)
 
       -- what is merged says exactly the records of the left, then of the right
-      pub leaves-are : Merged bare NoPage w es (entriesOf hs ++ entriesOf ks)
-      leaves-are = leaves-said w bytes left right x y f g hs ks d e
+      pub leaves-are : Merged bare NoPage w met es (entriesOf hs ++ entriesOf ks)
+      leaves-are = leaves-said w left right x y f g bytes hs ks d e
+
+      leaf-met : met ≡ true
+      leaf-met = and-l met (enclosed (b .lo) (b .hi) es) (leaf-holds .1 .1 .1 .1 .1 .1 .0)
 
       leaf-each : Each (Fits w) es
       leaf-each = each-both Short (Carried w) (Fits w) (λ z s c. record { short = s; wide = c .wide; keeps = c .keeps }) es (leaves-are .short) (leaves-are .carried)
@@ -119,7 +123,7 @@ module _ (a : List ℕ) (next : ℕ) (m : Call) (left right : Addr) (typed : Typ
       leaf-fits =
           let h = leaf-holds in
           let k = limits (h .0) in
-          leaf-fit w m b next es met (leafEnd next m b es) (length a) (address-below a next (typed .word) (h .1 .0)) bounds (call-fits m (typed .numbers) (k .0) (k .1)) leaf-each (leaves-are .marks) (h .1 .1 .1 .1)
+          leaf-fit w m b next es met (leafEnd next m b es) (length a) (address-below a next (typed .word) (h .1 .0)) bounds (call-fits m (typed .numbers) (k .0) (k .1)) leaf-each (leaves-are .marks leaf-met) (h .1 .1 .1 .1)
 
       module _ (s : List ℕ) (mark : ℕ) (later : Later end after s mark) where
         long : end ≤ length s
@@ -157,8 +161,8 @@ module _ (a : List ℕ) (next : ℕ) (m : Call) (left right : Addr) (typed : Typ
       unfolding indexEnd
       index-room = leb-true (next + length page) (length a) (index-holds .1 .1 .1 .1 .1 .1 .1 .1 .0)
 
-      pub indexes-are : Merged child NoVersion w es (cs ++ ds)
-      indexes-are = indexes-said w bytes left right x y f g cs ds d e
+      pub indexes-are : Merged child NoVersion w met es (cs ++ ds)
+      indexes-are = indexes-said w left right x y f g bytes cs ds d e
 
       abbrev Plain : Entry → Type 0
       Plain z = Short z × Carried w z

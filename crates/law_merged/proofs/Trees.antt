@@ -29,6 +29,7 @@ use Rattle.base.proofs.Refusing.{new-accepted}
 use Rattle.merge.specs.Merge.{boundsBetween, boundsIn, meetIn, merged}
 use Rattle.merge.specs.Answer.{mergeAnswer, mergeArena}
 use Rattle.merge.proofs.Refusing.{merge-accepted}
+use Rattle.merge.proofs.Said.{meet-said}
 use Rattle.law_leaf.specs.Grouped.{grouped, leafPage}
 use Rattle.law_index.specs.Children.{childrenOf, indexPage}
 use Rattle.law_list.specs.Asked.{recordsOf}
@@ -38,7 +39,8 @@ use Rattle.law_calls.proofs.Index.{index-says}
 use Rattle.law_merged.specs.Trees.{Input, Tree, built, joined, Typed, Later, Answer, Arena, boundariesOf, BuiltBy, Made}
 use Rattle.law_merged.specs.Joined.{allOf, entriesIn, leftmost, rightmost, boundsOf, leafOf, indexOf}
 use Rattle.law_leaf.proofs.Hinted.{each-append}
-use Rattle.law_merged.proofs.Lists.{list-anywhere, bare-records, child-children, records-append, children-append, enclosed-append, marked-append, same-groups}
+use Rattle.law_merged.proofs.Lists.{list-anywhere, bare-records, child-children, records-append, children-append, same-groups}
+use Rattle.law_rows.proofs.Neighbours.{enclosed-append, marked-append}
 use Rattle.law_merged.proofs.Pages.{leaves-are, leaves-merged, indexes-are, indexes-merged}
 
 -- ---- later still
@@ -159,7 +161,7 @@ leaf-then t u a next m left right typed p end answers f g s mark later =
     record {
       said =
           leaves-merged a next m left right typed p end answers (leafOf t) (leafOf u) (f .said) (g .said) hs ks refl refl s mark later
-          ∙ ap says (same-leaf (boundsOf (joined t u)) es (entriesIn 0 (joined t u)) h (d .marks) marks);
+          ∙ ap says (same-leaf (boundsOf (joined t u)) es (entriesIn 0 (joined t u)) h (d .marks (meet-said (take next a) left right (leafOf t) (leafOf u) (f .said) (g .said) ∙ met)) marks);
       marks = marks;
       inside = enclosed-append (leftmost t .lo) (rightmost t .hi) (leftmost u .lo) (rightmost u .hi) met (entriesIn 0 t) (entriesIn 0 u) (f .inside) (g .inside);
     }

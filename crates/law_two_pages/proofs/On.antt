@@ -44,7 +44,7 @@ use Rattle.build_sources.specs.Pages.{wholeOf, wholeAt, firstIn, pageFirst, pag
 use Rattle.build_sources.specs.Source.{nextOf, entryOf, entries}
 use Rattle.build_sources.specs.Marks.{Each, Held, Keeps}
 use Rattle.build_sources.proofs.Marked.{each}
-use Rattle.law_two_pages.specs.Pairs.{Carried}
+use Rattle.law_rows.specs.Pairs.{Carried}
 
 -- ---- how a cursor begins on a page
 

@@ -44,7 +44,8 @@ use Rattle.build_sources.specs.Source.{Entry, nextOf, entryOf, entries, wellFor
 use Rattle.build_sources.specs.Marks.{Each}
 use Rattle.build_sources.proofs.Sourced.{found, ended, odd}
 use Rattle.build_sources.proofs.Marked.{marked, short}
-use Rattle.law_two_pages.specs.Pairs.{bare, child, NoPage, NoVersion, Reads}
+use Rattle.law_rows.specs.Pairs.{bare, child, NoPage, NoVersion}
+use Rattle.law_two_pages.specs.Pairs.{Reads}
 use Rattle.law_two_pages.proofs.On.{On, wholeWalk, whole-walk, frontOf, first-is, front-on, found-is, leads-is, end-is, found-on, leads-on, carried}
 
 -- ---- the end of a page

@@ -47,6 +47,38 @@ module _ (w : List ℕ) (left right : Addr) (k : Kinds) (h : k ≡ kindsIn w lef
   pub right-sound : (k ≡ Kinds.Bad → ⊥) → Sound w right
   right-sound n = second-said (meaning w left) (meaning w right) (λ e. n (h ∙ e))
 
+-- what pages of one kind are
+both-leaves : (x y : Kind) → kindsBy x y ≡ Kinds.Leaves → (x ≡ Kind.Leaf) × (y ≡ Kind.Leaf)
+both-leaves Kind.Leaf Kind.Leaf e = (refl, refl)
+both-leaves Kind.Leaf Kind.Index e = absurd (let z : _≡_ {A = ℕ} 0 1 = cc in omega arith)
+both-leaves Kind.Leaf Kind.Bad e = absurd (let z : _≡_ {A = ℕ} 0 1 = cc in omega arith)
+both-leaves Kind.Index Kind.Leaf e = absurd (let z : _≡_ {A = ℕ} 0 1 = cc in omega arith)
+both-leaves Kind.Index Kind.Index e = absurd (let z : _≡_ {A = ℕ} 0 1 = cc in omega arith)
+both-leaves Kind.Index Kind.Bad e = absurd (let z : _≡_ {A = ℕ} 0 1 = cc in omega arith)
+both-leaves Kind.Bad y e = absurd (let z : _≡_ {A = ℕ} 0 1 = cc in omega arith)
+
+both-indexes : (x y : Kind) → kindsBy x y ≡ Kinds.Indexes → (x ≡ Kind.Index) × (y ≡ Kind.Index)
+both-indexes Kind.Index Kind.Index e = (refl, refl)
+both-indexes Kind.Index Kind.Leaf e = absurd (let z : _≡_ {A = ℕ} 0 1 = cc in omega arith)
+both-indexes Kind.Index Kind.Bad e = absurd (let z : _≡_ {A = ℕ} 0 1 = cc in omega arith)
+both-indexes Kind.Leaf Kind.Leaf e = absurd (let z : _≡_ {A = ℕ} 0 1 = cc in omega arith)
+both-indexes Kind.Leaf Kind.Index e = absurd (let z : _≡_ {A = ℕ} 0 1 = cc in omega arith)
+both-indexes Kind.Leaf Kind.Bad e = absurd (let z : _≡_ {A = ℕ} 0 1 = cc in omega arith)
+both-indexes Kind.Bad y e = absurd (let z : _≡_ {A = ℕ} 0 1 = cc in omega arith)
+
+module _ (w : List ℕ) (left right : Addr) (k : Kinds) (h : k ≡ kindsIn w left right) where
+  pub are-leaves : k ≡ Kinds.Leaves → (saidKind (meaning w left) ≡ Kind.Leaf) × (saidKind (meaning w right) ≡ Kind.Leaf)
+  are-leaves e = both-leaves (saidKind (meaning w left)) (saidKind (meaning w right)) (sym h ∙ e)
+
+  pub are-indexes : k ≡ Kinds.Indexes → (saidKind (meaning w left) ≡ Kind.Index) × (saidKind (meaning w right) ≡ Kind.Index)
+  are-indexes e = both-indexes (saidKind (meaning w left)) (saidKind (meaning w right)) (sym h ∙ e)
+
+  pub one-leaves : k ≡ Kinds.Leaves → saidKind (meaning w left) ≡ saidKind (meaning w right)
+  one-leaves e = let x = are-leaves e in x .0 ∙ sym (x .1)
+
+  pub one-indexes : k ≡ Kinds.Indexes → saidKind (meaning w left) ≡ saidKind (meaning w right)
+  one-indexes e = let x = are-indexes e in x .0 ∙ sym (x .1)
+
 pub leaves-not : Kinds.Leaves ≡ Kinds.Bad → ⊥
 leaves-not e = let z : _≡_ {A = ℕ} 0 1 = cc in omega arith
 

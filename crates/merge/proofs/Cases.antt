@@ -21,10 +21,8 @@ use Rattle.pages.specs.Sound.{inOrder, slotsFrom, slotsOk, historyAt, histOk, o
 use Rattle.pages.specs.Meaning.{oldsFrom, prefixOf, headOf, childOf, rowsFrom, pageSays, meaning, soundBody}
 use Rattle.walks.specs.Walk.{upRange, upWay, kindOfWay, forwardAt, fitsIn, readAt, movedOf, onOf, behindOf, itemOf, nextIn, nextOld, enterAt, headStep, stepAt}
 use Rattle.build_paging.specs.Cuts.{fits, cutsFrom, total}
-use Rattle.build_sources.specs.Keys.{keyBytes}
-use Rattle.build_sources.specs.Lists.{sameKey}
-use Rattle.build_sources.specs.Pages.{wholeAt, pageFirst, itemAt, walked, turned, pagesNext, pagesLeft}
-use Rattle.build_sources.specs.Source.{after, listF, nextOf, leftOf, entryOf, entries, only}
+use Rattle.law_rows.specs.Rows.{oldEntry, oldEntries, headEntry, headEntries, childEntry, slotEntries, pageEntries}
+use Rattle.build_sources.specs.Source.{only}
 use Rattle.build_sources.specs.Judged.{above, risingFrom, rising, prefixed}
 use Rattle.build_image.specs.Prefix.{common}
 use Rattle.build_image.specs.Sizes.{pad, remoteLen, cost, costsOf, remotesLen, keyLen, oldRun, sums, counted, roomOf}
@@ -61,7 +59,7 @@ pub rows : (mergeAnswer (pair ++ zeros 256) 344 (at64 256) (addr 104) (addr 240)
     × (mergeAnswer (pair ++ zeros 256) 336 (at64 256) (addr 104) (addr 240) ≡ Refused BadFrame)
     × (mergeAnswer (set (pair ++ zeros 256) 316 99) 344 (at64 256) (addr 104) (addr 240) ≡ Refused BadFrame)
     × (mergeAnswer (pair ++ (childPage ++ zeros 256)) 432 (at64 256) (addr 104) (addr 344) ≡ Refused MixedKinds)
-unfolding childPage pair five larger common sameKey after listF nextOf leftOf entryOf entries only keyBytes above risingFrom rising prefixed belowHi allInBounds bounded meet startsWith cmpBytes newerThan part partOr put ofLe leAt leafAt leafEnd le enc uleb boxBytes baseFront baseBack baseBytes pageBytes verBytes leafFront leafKey flagOf histBytes frontBytes inlineBytes remoteBytes sizeOf fits cutsFrom total pad remoteLen cost costsOf remotesLen keyLen oldRun sums counted roomOf remoteAddr valBytes remoteFrame remoteFrameOf remoteFrames remoteAddrs oldRec oldRecs oldSlots histHead histSize histPage pageEnd history historyEnd starts histAddrs placesIn places headRec headRecs headSlots les hints leafSize leafRoom leafFrame leafImage boxFields boxOk boxAt baseFields baseOk pageAt kindOf bodyOf openAt remoteAt carry dec within readLen skipOf keyAt refAt frontAt valAt slotAt verIn keyIn valIn recIn recAt inOrder slotsFrom slotsOk historyAt histOk oldIn oldAt chainFrom entered headOk multiOf chainsFrom chainsOk hintsOk soundBody oldsFrom prefixOf headOf rowsFrom pageSays meaning upRange upWay kindOfWay forwardAt fitsIn readAt movedOf onOf behindOf itemOf nextIn nextOld enterAt headStep stepAt wholeAt pageFirst itemAt walked turned pagesNext pagesLeft boundsOf boundsAt loAt hiAt merged boundsIn mergeAnswer mergeArena childOf
+unfolding childPage pair five larger common only above risingFrom rising prefixed belowHi allInBounds bounded meet startsWith cmpBytes newerThan part partOr put ofLe leAt leafAt leafEnd le enc uleb boxBytes baseFront baseBack baseBytes pageBytes verBytes leafFront leafKey flagOf histBytes frontBytes inlineBytes remoteBytes sizeOf fits cutsFrom total pad remoteLen cost costsOf remotesLen keyLen oldRun sums counted roomOf remoteAddr valBytes remoteFrame remoteFrameOf remoteFrames remoteAddrs oldRec oldRecs oldSlots histHead histSize histPage pageEnd history historyEnd starts histAddrs placesIn places headRec headRecs headSlots les hints leafSize leafRoom leafFrame leafImage boxFields boxOk boxAt baseFields baseOk pageAt kindOf bodyOf openAt remoteAt carry dec within readLen skipOf keyAt refAt frontAt valAt slotAt verIn keyIn valIn recIn recAt inOrder slotsFrom slotsOk historyAt histOk oldIn oldAt chainFrom entered headOk multiOf chainsFrom chainsOk hintsOk soundBody oldsFrom prefixOf headOf rowsFrom pageSays meaning upRange upWay kindOfWay forwardAt fitsIn readAt movedOf onOf behindOf itemOf nextIn nextOld enterAt headStep stepAt oldEntry oldEntries headEntry headEntries childEntry slotEntries pageEntries boundsOf boundsAt loAt hiAt merged boundsIn mergeAnswer mergeArena childOf
 rows = (refl, refl, refl, refl, refl, refl, refl, refl)
 
 -- Order 4's worked answers: A B, A E and B C meet; A C do not; B A is out of order; E A lacks the prefix that both new boundaries, `h`, have; C and N
@@ -76,5 +74,5 @@ pub neighbours : (mergeAnswer (five ++ zeros 128) 472 (at64 256) (addr 8) (addr 
     × (mergeAnswer (five ++ zeros 128) 472 (at64 256) (addr 400) (addr 400) ≡ Refused Outside)
     × (mergeAnswer (five ++ zeros 128) 472 (at64 256) (addr 320) (addr 320) ≡ Refused Outside)
     × (mergeAnswer (five ++ zeros 128) 472 (at64 256) (addr 8) (addr 8) ≡ Refused OutOfOrder)
-unfolding childPage pair five larger common sameKey after listF nextOf leftOf entryOf entries only keyBytes above risingFrom rising prefixed belowHi allInBounds bounded meet startsWith cmpBytes newerThan part partOr put ofLe leAt leafAt leafEnd le enc uleb boxBytes baseFront baseBack baseBytes pageBytes verBytes leafFront leafKey flagOf histBytes frontBytes inlineBytes remoteBytes sizeOf fits cutsFrom total pad remoteLen cost costsOf remotesLen keyLen oldRun sums counted roomOf remoteAddr valBytes remoteFrame remoteFrameOf remoteFrames remoteAddrs oldRec oldRecs oldSlots histHead histSize histPage pageEnd history historyEnd starts histAddrs placesIn places headRec headRecs headSlots les hints leafSize leafRoom leafFrame leafImage boxFields boxOk boxAt baseFields baseOk pageAt kindOf bodyOf openAt remoteAt carry dec within readLen skipOf keyAt refAt frontAt valAt slotAt verIn keyIn valIn recIn recAt inOrder slotsFrom slotsOk historyAt histOk oldIn oldAt chainFrom entered headOk multiOf chainsFrom chainsOk hintsOk soundBody oldsFrom prefixOf headOf rowsFrom pageSays meaning upRange upWay kindOfWay forwardAt fitsIn readAt movedOf onOf behindOf itemOf nextIn nextOld enterAt headStep stepAt wholeAt pageFirst itemAt walked turned pagesNext pagesLeft boundsOf boundsAt loAt hiAt merged boundsIn mergeAnswer mergeArena childOf
+unfolding childPage pair five larger common only above risingFrom rising prefixed belowHi allInBounds bounded meet startsWith cmpBytes newerThan part partOr put ofLe leAt leafAt leafEnd le enc uleb boxBytes baseFront baseBack baseBytes pageBytes verBytes leafFront leafKey flagOf histBytes frontBytes inlineBytes remoteBytes sizeOf fits cutsFrom total pad remoteLen cost costsOf remotesLen keyLen oldRun sums counted roomOf remoteAddr valBytes remoteFrame remoteFrameOf remoteFrames remoteAddrs oldRec oldRecs oldSlots histHead histSize histPage pageEnd history historyEnd starts histAddrs placesIn places headRec headRecs headSlots les hints leafSize leafRoom leafFrame leafImage boxFields boxOk boxAt baseFields baseOk pageAt kindOf bodyOf openAt remoteAt carry dec within readLen skipOf keyAt refAt frontAt valAt slotAt verIn keyIn valIn recIn recAt inOrder slotsFrom slotsOk historyAt histOk oldIn oldAt chainFrom entered headOk multiOf chainsFrom chainsOk hintsOk soundBody oldsFrom prefixOf headOf rowsFrom pageSays meaning upRange upWay kindOfWay forwardAt fitsIn readAt movedOf onOf behindOf itemOf nextIn nextOld enterAt headStep stepAt oldEntry oldEntries headEntry headEntries childEntry slotEntries pageEntries boundsOf boundsAt loAt hiAt merged boundsIn mergeAnswer mergeArena childOf
 neighbours = (refl, refl, refl, refl, refl, refl, refl, refl, refl, refl)

@@ -1,5 +1,5 @@
 -- What is gathered from two sound pages: the boundaries lie below the next free address and are short, and they and the entries are those
--- that the definition names.
+-- that the definition names. A cursor over the two pages finds why pages that do not meet are refused.
 -- Assumes nothing.
 use Prim.Native.Nat.{ℕ, _+_, _*_, _≤_}
 use mathlib.Core.Path.{_≡_, refl, sym, ap, ap₂, _∙_}
@@ -29,7 +29,6 @@ use Rattle.build_sources.specs.declared.Cursor.{Cursor}
 use Rattle.build_sources.specs.declared.Started.{Started}
 use Rattle.build_sources.specs.Lists.{firstOf}
 use Rattle.build_sources.specs.Pages.{pageFirst}
-use Rattle.build_sources.specs.Source.{entries}
 use Rattle.build_image.specs.Prefix.{common}
 use Rattle.build_image.proofs.Prefix.{common-ground}
 use Rattle.build_bounds.specs.declared.Boundaries.{Boundaries}
@@ -38,7 +37,7 @@ use Rattle.build_bounds.specs.Boundaries.{Within, boundaryBytes}
 use Rattle.build_table.specs.Index.{Held}
 use Rattle.law_two_pages.proofs.On.{frontOf, first-is, bounds-are}
 use Rattle.merge.specs.declared.Gathered.{Gathered}
-use Rattle.merge.specs.Merge.{boundsIn, entriesFrom, merged, boundariesIn, gathered}
+use Rattle.merge.specs.Merge.{boundsIn, boundariesIn, gathered}
 
 -- ---- a page's boundaries are short (it belongs to `frames`)
 
@@ -77,7 +76,7 @@ open-short s a b e = go (boxAt s a) e
 pub record Ready (w : List ℕ) (left right : Addr) (c : Cursor) (e : Boundaries) : Type 0 where
   pub held : Held [] [] w e
   pub bounds : boundaries-specs.boundsOf [] [] w e ≡ boundsIn w left right
-  pub list : entries [] w c ≡ merged w left right
+  pub cursor : pageFirst w (firstOf 2) left right ≡ Started.From c
 
 module _ (w : List ℕ) (left right : Addr) (p q : Page) (m : meaning w left ≡ says p) (n : meaning w right ≡ says q) where
   g : Sound w left p
@@ -164,17 +163,13 @@ module _ (w : List ℕ) (left right : Addr) (p q : Page) (m : meaning w left ≡
   unfolding boundsIn boundaryBytes
   bounds-is = rw (lo-is, hi-is, right-bounds, lo-part, hi-part)
 
-  merged-is : merged w left right ≡ entries [] w front
-  unfolding merged
-  merged-is = ap (entriesFrom w) begun
-
   ready : Ready w left right front held-boundaries
   unfolding Within boundaryBytes
   ready =
       record {
         held = record { inside = record { ground = lo-in; high = hi-in }; front = ap₂ common lo-part hi-part; ground = lo-few; high = hi-few };
         bounds = bounds-is;
-        list = sym merged-is;
+        cursor = begun;
       }
 
   -- THE LAWS

@@ -2,6 +2,7 @@
 pub mod Gathering
 pub mod Merging
 pub mod Said
+pub mod Building
 pub mod Answering
 pub mod Refusing
 pub mod Cases

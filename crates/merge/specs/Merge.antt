@@ -3,7 +3,7 @@
 -- Assumes nothing.
 use Prim.Native.Nat.{ℕ}
 use mathlib.Core.Path.{_≡_}
-use mathlib.Core.List.{List, [], map}
+use mathlib.Core.List.{List, _++_, map}
 use mathlib.Core.Bool.{Bool, true}
 use Rattle.order.specs.Bounds.{meet}
 use Rattle.frames.specs.declared.Addr.{Addr}
@@ -15,9 +15,10 @@ use Rattle.pages.specs.Meaning.{Rows, leaf, index, Page, Said, nothing, says, m
 use Rattle.build_sources.specs.declared.Started.{Started}
 use Rattle.build_sources.specs.Lists.{firstOf}
 use Rattle.build_sources.specs.Pages.{pageFirst}
-use Rattle.build_sources.specs.Source.{Entry, entries}
+use Rattle.build_sources.specs.Source.{Entry}
 use Rattle.build_sources.specs.Marks.{Each, Marked, Short}
-use Rattle.law_two_pages.specs.Pairs.{Carried}
+use Rattle.law_rows.specs.Rows.{pageEntries}
+use Rattle.law_rows.specs.Pairs.{Carried}
 use Rattle.build_image.specs.Prefix.{common}
 use Rattle.build_image.specs.Image.{Borders}
 use Rattle.build_bounds.specs.declared.Boundary.{Boundary}
@@ -56,13 +57,10 @@ Sound w a = (p : Page) × (meaning w a ≡ says p)
 
 -- ---- what is merged
 
--- "Merge takes lo and every record of the left, then of the right": with their marks and the addresses of their remotes
-abbrev pub entriesFrom : List ℕ → Started → List Entry
-entriesFrom w (Started.From c) = entries [] w c
-entriesFrom w Started.Bad = []
-
+-- "Merge takes lo and every record of the left, then of the right": with the addresses of their remotes
 unfoldable pub merged : List ℕ → Addr → Addr → List Entry
-merged w left right = entriesFrom w (pageFirst w (firstOf 2) left right)
+unfolding pageEntries
+merged w left right = pageEntries w left ++ pageEntries w right
 
 -- "hi and right_sibling of the right"
 abbrev pub siblingOf : BoundsRead → ℕ
@@ -82,11 +80,11 @@ boundsBetween p q = record { lo = p .lo; hi = q .hi; prefix = common (p .lo) (q 
 abbrev pub meetIn : List ℕ → Addr → Addr → Bool
 meetIn w left right = meet (hiAt w left) (loAt w right)
 
--- what is merged says exactly these, in order, each of its kind (P); what is known of it before anything is judged
-pub record Merged {A : Type 0} (tell : Entry → A) (P : Entry → Type 0) (w : List ℕ) (es : List Entry) (xs : List A) : Type 0 where
+-- what is merged says exactly these, in order, each of its kind (P), and is marked where the pages meet; what is known of it before anything is judged
+pub record Merged {A : Type 0} (tell : Entry → A) (P : Entry → Type 0) (w : List ℕ) (met : Bool) (es : List Entry) (xs : List A) : Type 0 where
   pub list : map tell es ≡ xs
   pub kind : Each P es
-  pub marks : Marked es
+  pub marks : met ≡ true → Marked es
   pub short : Each Short es
   pub carried : Each (Carried w) es
 

@@ -12,6 +12,7 @@ use frames::Refusal;
 use pages::BoundsRead;
 use pages::Checked;
 ghost use mathlib.Core.Path.{_≡_};
+ghost use mathlib.Core.Bool.{true};
 ghost use mathlib.Core.List.{[]};
 ghost use Prim.Native.Nat.{_≤_};
 ghost use lib.ListN.{length, take};
@@ -20,6 +21,7 @@ ghost use Rattle.build_history.specs.Runs.{Sane};
 ghost use Rattle.build_table.specs.Index.{indexAnswer, indexArena};
 ghost use Rattle.build_table.specs.Leaf.{leafAnswer, leafArena};
 ghost use Rattle.build_image.specs.Call.{callOf};
+ghost use Rattle.merge.specs.declared.Kind.{Kind};
 ghost use Rattle.merge.specs.Merge.{saidKind, kindsBy, kindsOf, gathered, Sound, boundsIn, meetIn, merged};
 ghost use Rattle.merge.specs.Answer.{apartIn, kindsAnswer, kindsArena, mergeAnswer, mergeArena};
 
@@ -142,6 +144,7 @@ fn apart(ground: &[u8], left: Addr, right: Addr, none: &[u8]) -> Refusal
     requires { ⌜ now none ≡ [] ⌝ }
     requires { ⌜ Sound (now ground) left ⌝ }
     requires { ⌜ Sound (now ground) right ⌝ }
+    requires { ⌜ saidKind (meaning (now ground) left) ≡ saidKind (meaning (now ground) right) ⌝ }
     ensures { λ r. ⌜ r ≡ apartIn (boundsIn (now (ground .entry)) left right) (merged (now (ground .entry)) left right) ⌝ }
 {
     let Gathered::Is(c, e) = gather(ground, left, right) else {
@@ -154,15 +157,22 @@ fn apart(ground: &[u8], left: Addr, right: Addr, none: &[u8]) -> Refusal
 fn merge_indexes(a: &mut [u8], next: usize, left: Addr, right: Addr, m: Call, none: &[u8]) -> Built
     requires { ⌜ next ≤ length (now a) ⌝ }
     requires { ⌜ now none ≡ [] ⌝ }
-    requires { ⌜ Sound (take next (now a)) left ⌝ }
-    requires { ⌜ Sound (take next (now a)) right ⌝ }
+    requires { ⌜ Sound (take next (now a)) left × Sound (take next (now a)) right ⌝ }
+    requires { ⌜ (saidKind (meaning (take next (now a)) left) ≡ Kind.Index) × (saidKind (meaning (take next (now a)) right) ≡ Kind.Index) ⌝ }
+    requires { ⌜ meetIn (take next (now a)) left right ≡ true ⌝ }
     ensures { λ r. ⌜ r ≡ indexAnswer (now (a .entry)) next m (boundsIn (take next (now (a .entry))) left right) (merged (take next (now (a .entry))) left right) ⌝ }
     ensures { λ _. ⌜ now (a .exit) ≡ indexArena (now (a .entry)) next m (boundsIn (take next (now (a .entry))) left right) (merged (take next (now (a .entry))) left right) ⌝ }
 {
-    let Gathered::Is(c, e) = gather(&a[..next], left, right) else {
+    let Gathered::Is(_, e) = gather(&a[..next], left, right) else {
         return Built::Refused(Refusal::BadFrame);
     };
-    build_table::build_index(a, next, none, c, m, none, none, e)
+    let Opened::Is(b) = frames::open_at(&a[..next], left) else {
+        return Built::Refused(Refusal::BadFrame);
+    };
+    let Opened::Is(d) = frames::open_at(&a[..next], right) else {
+        return Built::Refused(Refusal::BadFrame);
+    };
+    build_table::build_indexes(a, next, b, 0, b.elems, d, d.elems, m, none, e)
 }
 
 // Two leaves that were judged and meet.
@@ -170,15 +180,22 @@ fn merge_leaves(a: &mut [u8], next: usize, left: Addr, right: Addr, m: Call, non
     requires { ⌜ next ≤ length (now a) ⌝ }
     requires { ⌜ now none ≡ [] ⌝ }
     requires { ⌜ Sane m ⌝ }
-    requires { ⌜ Sound (take next (now a)) left ⌝ }
-    requires { ⌜ Sound (take next (now a)) right ⌝ }
+    requires { ⌜ Sound (take next (now a)) left × Sound (take next (now a)) right ⌝ }
+    requires { ⌜ (saidKind (meaning (take next (now a)) left) ≡ Kind.Leaf) × (saidKind (meaning (take next (now a)) right) ≡ Kind.Leaf) ⌝ }
+    requires { ⌜ meetIn (take next (now a)) left right ≡ true ⌝ }
     ensures { λ r. ⌜ r ≡ leafAnswer (now (a .entry)) next m (boundsIn (take next (now (a .entry))) left right) (merged (take next (now (a .entry))) left right) ⌝ }
     ensures { λ _. ⌜ now (a .exit) ≡ leafArena (now (a .entry)) next m (boundsIn (take next (now (a .entry))) left right) (merged (take next (now (a .entry))) left right) ⌝ }
 {
-    let Gathered::Is(c, e) = gather(&a[..next], left, right) else {
+    let Gathered::Is(_, e) = gather(&a[..next], left, right) else {
         return Built::Refused(Refusal::BadFrame);
     };
-    build_table::build_leaf(a, next, none, c, m, none, none, e)
+    let Opened::Is(b) = frames::open_at(&a[..next], left) else {
+        return Built::Refused(Refusal::BadFrame);
+    };
+    let Opened::Is(d) = frames::open_at(&a[..next], right) else {
+        return Built::Refused(Refusal::BadFrame);
+    };
+    build_table::build_leaves(a, next, b, 0, b.elems, d, d.elems, m, none, e)
 }
 
 // Pages that were judged, by their kinds.

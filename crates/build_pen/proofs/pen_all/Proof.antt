@@ -8,12 +8,12 @@ use Rattle.build_heads.specs.Located.{placesAt}
 use Rattle.build_pen.specs.Stretches.{draws}
 use Rattle.build_pen.specs.Places.{listFrom}
 use Rattle.build_pen.specs.Pens.{allLeft}
-use Rattle.build_pen.proofs.Penning.{Penning, all-begin, all-end, head-inside, head-past, head-key, run-asked, ran-place, ran-less, head-hint, head-asks, all-turn}
+use Rattle.build_pen.proofs.PenningList.{PenningList, all-begin, all-end, head-inside, head-past, head-key, run-asked, ran-place, ran-less, head-hint, head-asks, all-turn}
 use Rattle.build_pen.proofs.pen_all.Statement.{statement}
 use Rattle.build_pen.proofs.pen_all.Tie as tie
 
 abbrev Inv-loop : tie.InvT-loop
-Inv-loop a₀ list from hints base m p at₀ q₀ n₀ hint₀ a at q n hint = Penning a₀ list (draws a₀ (allLeft m q₀ n₀ hints base p (listFrom list from))) m base p (length a₀) (n₀ .rec + length (headRecs (m .limit) p (n₀ .remote) (placesAt (m .limit) (m .budget) (q₀ .loc) (olds (listFrom list from))) (listFrom list from))) a at q n hint
+Inv-loop a₀ list from hints base m p at₀ q₀ n₀ hint₀ a at q n hint = PenningList a₀ list (draws a₀ (allLeft m q₀ n₀ hints base p (listFrom list from))) m base p (length a₀) (n₀ .rec + length (headRecs (m .limit) p (n₀ .remote) (placesAt (m .limit) (m .budget) (q₀ .loc) (olds (listFrom list from))) (listFrom list from))) a at q n hint
 
 abbrev μ-loop : tie.MeasureT-loop
 μ-loop a₀ list from hints base m p at₀ q₀ n₀ hint₀ a at q n hint = length list - at
@@ -49,7 +49,7 @@ loop-again : tie.Need-loop-again Inv-loop μ-loop
 loop-again c = all-turn _ _ _ _ _ _ _ _ _ _ _ _ _ (c .before .before .before .before .before .before .before .before .before .before .before .before .before .before .before .before .before .before .loop .inv) (c .before .before .before .before .before .before .before .before .before .before .before .before .before .before .before .before .before .loop-test .taken) _ (c .before .before .before .before .before .before .before .before .before .before .before .before .before .before .before .before .record-at .ensures) _ (c .before .before .before .before .before .before .before .before .before .before .before .before .before .before .past .ensures) _ _ (c .before .before .before .before .before .before .before .before .before .before .before .before .before .pen-run .ensures) _ _ (c .before .before .before .before .before .before .before .put-hint .ensures .0) (c .before .before .before .before .before .before .before .put-hint .ensures .1) _ _ (c .before .before .before .pen-head .ensures .0) (c .before .before .before .pen-head .ensures .1)
 
 same-length : tie.Need-same-length Inv-loop μ-loop
-same-length c = c .before .loop .inv .drawing .long
+same-length c = c .before .loop .inv .pens .drawing .long
 
 returns : tie.Need-returns Inv-loop μ-loop
 returns c = all-end _ _ _ _ _ _ _ _ _ _ _ _ _ (c .before .loop .inv) (c .loop-test .left)

@@ -1,6 +1,6 @@
 -- `build_pen::pen_head` meets its contract. Assumes nothing.
 use Rattle.build_image.specs.Image.{headRec}
-use Rattle.build_pen.proofs.Writing.{frame-either}
+use Rattle.build_pen.proofs.WritingList.{frame-either}
 use Rattle.build_pen.proofs.Nibbing.{rec-asks, remote-asks, nib-is, all-drawn}
 use borrow.Author.Needs.{needs}
 use Rattle.build_pen.proofs.pen_head.Statement.{statement}

@@ -5,13 +5,13 @@ use mathlib.Core.Path.{sym, _∙_}
 use Prim.Native.Nat.{_-_}
 use lib.ListN.{length}
 use Rattle.build_pen.specs.Places.{listBehind}
-use Rattle.build_pen.proofs.Running.{Running, run-begin, run-long, turn-asks, run-end, run-stop, run-inside, run-past, run-keys, run-less, run-left, run-slot, run-count, run-hint, run-asks, run-page, run-turn}
+use Rattle.build_pen.proofs.RunningList.{RunningList, run-begin, run-long, turn-asks, run-end, run-stop, run-inside, run-past, run-keys, run-less, run-left, run-slot, run-count, run-hint, run-asks, run-page, run-turn}
 use borrow.Author.Needs.{needs}
 use Rattle.build_pen.proofs.pen_run.Statement.{statement}
 use Rattle.build_pen.proofs.pen_run.Tie as tie
 
 abbrev Inv-loop : tie.InvT-loop
-Inv-loop a₀ list from bat blen m at₀ kat₀ klen₀ q₀ run₀ page₀ slot₀ a at kat klen q run page slot = Running m list a₀ (listBehind list from bat blen) from q₀ a at kat klen q run page slot
+Inv-loop a₀ list from bat blen m at₀ kat₀ klen₀ q₀ run₀ page₀ slot₀ a at kat klen q run page slot = RunningList m list a₀ (listBehind list from bat blen) from q₀ a at kat klen q run page slot
 
 abbrev μ-loop : tie.MeasureT-loop
 μ-loop a₀ list from bat blen m at₀ kat₀ klen₀ q₀ run₀ page₀ slot₀ a at kat klen q run page slot = length list - at
@@ -35,7 +35,7 @@ returns : tie.Need-returns Inv-loop μ-loop
 returns c = run-stop _ _ _ _ _ _ _ _ _ _ _ _ _ _ (c .before .before .before .before .before .loop .inv) (c .before .before .before .before .loop-test .taken) _ (c .before .before .before .record-at .ensures) (sym (c .before .same-key .ensures) ∙ not-true _ (c .if1 .taken))
 
 turn-requires : tie.Need-turn-requires Inv-loop μ-loop
-turn-requires c κs = (c .before .before .before .before .before .before .before .before .before .pre .0, (c .before .before .before .before .before .before .loop .inv .well, (c .before .before .before .before .before .before .loop .inv .before, (c .before .before .before .before .before .before .loop .inv .steady, turn-asks _ _ _ _ _ _ _ _ _ _ _ _ _ _ (c .before .before .before .before .before .before .loop .inv)))))
+turn-requires c κs = (c .before .before .before .before .before .before .before .before .before .pre .0, (c .before .before .before .before .before .before .loop .inv .well, (c .before .before .before .before .before .before .loop .inv .before, (c .before .before .before .before .before .before .loop .inv .runs .steady, turn-asks _ _ _ _ _ _ _ _ _ _ _ _ _ _ (c .before .before .before .before .before .before .loop .inv)))))
 
 first-of-requires : tie.Need-first-of-requires Inv-loop μ-loop
 first-of-requires c κs = search needs

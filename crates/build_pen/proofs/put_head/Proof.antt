@@ -1,6 +1,6 @@
 -- `build_pen::put_head` meets its contract. Assumes nothing.
 use native.Mathlib.Omega.{arith}
-use Rattle.build_pen.proofs.Writing.{head-fits, head-room, head-done}
+use Rattle.build_pen.proofs.WritingList.{head-fits, head-room, head-done}
 use borrow.Author.Needs.{needs}
 use Rattle.build_pen.proofs.put_head.Statement.{statement}
 use Rattle.build_pen.proofs.put_head.Tie as tie

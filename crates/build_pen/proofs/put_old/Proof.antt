@@ -15,19 +15,19 @@ write-ver-requires : tie.Need-write-ver-requires
 write-ver-requires c κs = search needs
 
 add-put-value : tie.Need-add-put-value
-add-put-value c = omega (arith, old-fits _ _ (c .before .before .before .before .before .before .before .before .before .pre .0) _ _ _ _ (c .before .before .before .before .before .before .before .before .before .pre .1) _ (c .before .before .before .before .before .ver-in .ensures) _ _ (c .before .before .before .write-ver .ensures), c .before .before .before .before .before .before .before .before .before .good .0)
+add-put-value c = omega (arith, old-fits _ _ _ _ _ (c .before .before .before .before .before .before .before .before .before .pre .1) _ (c .before .before .before .before .before .ver-in .ensures) _ _ (c .before .before .before .write-ver .ensures), c .before .before .before .before .before .before .before .before .before .good .0)
 
 put-value-requires : tie.Need-put-value-requires
-put-value-requires c κs = (c .before .before .before .before .before .before .before .before .before .pre .0, old-room _ _ (c .before .before .before .before .before .before .before .before .before .pre .0) _ _ _ _ (c .before .before .before .before .before .before .before .before .before .pre .1) _ (c .before .before .before .before .before .ver-in .ensures) _ _ (c .before .before .before .write-ver .ensures))
+put-value-requires c κs = (c .before .before .before .before .before .before .before .before .before .pre .0, old-room _ _ _ _ _ (c .before .before .before .before .before .before .before .before .before .pre .1) _ (c .before .before .before .before .before .ver-in .ensures) _ _ (c .before .before .before .write-ver .ensures))
 
 add-result : tie.Need-add-result
-add-result c = let z = old-done _ _ (c .before .before .before .before .before .before .before .before .before .before .before .before .pre .0) _ _ _ _ (c .before .before .before .before .before .before .before .before .before .before .before .before .pre .1) _ (c .before .before .before .before .before .before .before .before .ver-in .ensures) _ _ (c .before .before .before .before .before .before .write-ver .ensures) _ _ (c .before .before .put-value .ensures .0) (c .before .before .put-value .ensures .1) .0 in omega (arith, z, c .before .before .before .before .before .before .before .before .before .before .before .before .pre .1, c .before .before .before .before .before .before .before .before .before .before .before .before .good .0)
+add-result c = let z = old-done _ _ _ _ _ (c .before .before .before .before .before .before .before .before .before .before .before .before .pre .1) _ (c .before .before .before .before .before .before .before .before .ver-in .ensures) _ _ (c .before .before .before .before .before .before .write-ver .ensures) _ _ (c .before .before .put-value .ensures .0) (c .before .before .put-value .ensures .1) .0 in omega (arith, z, c .before .before .before .before .before .before .before .before .before .before .before .before .pre .1, c .before .before .before .before .before .before .before .before .before .before .before .before .good .0)
 
 same-length : tie.Need-same-length
 same-length c = search needs
 
 returns : tie.Need-returns
-returns c = old-done _ _ (c .before .before .before .before .before .before .before .before .before .before .before .before .pre .0) _ _ _ _ (c .before .before .before .before .before .before .before .before .before .before .before .before .pre .1) _ (c .before .before .before .before .before .before .before .before .ver-in .ensures) _ _ (c .before .before .before .before .before .before .write-ver .ensures) _ _ (c .before .before .put-value .ensures .0) (c .before .before .put-value .ensures .1)
+returns c = old-done _ _ _ _ _ (c .before .before .before .before .before .before .before .before .before .before .before .before .pre .1) _ (c .before .before .before .before .before .before .before .before .ver-in .ensures) _ _ (c .before .before .before .before .before .before .write-ver .ensures) _ _ (c .before .before .put-value .ensures .0) (c .before .before .put-value .ensures .1)
 
 pub put-old-spec : {M : Type 1} → statement M
 put-old-spec =

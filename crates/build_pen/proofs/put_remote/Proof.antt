@@ -1,6 +1,6 @@
 -- `build_pen::put_remote` meets its contract. Assumes nothing.
 use native.Mathlib.Omega.{arith}
-use Rattle.build_pen.proofs.Writing.{none-done, frame-room, frame-end, frame-done}
+use Rattle.build_pen.proofs.WritingList.{none-done, frame-room, frame-end, frame-done}
 use borrow.Author.Needs.{needs}
 use Rattle.build_pen.proofs.put_remote.Statement.{statement}
 use Rattle.build_pen.proofs.put_remote.Tie as tie

@@ -1,5 +1,5 @@
 -- `build_pen::put_value` meets its contract. Assumes nothing.
-use Rattle.build_pen.proofs.Writing.{near-done, away-done}
+use Rattle.build_pen.proofs.WritingList.{near-done, away-done}
 use borrow.Author.Needs.{needs}
 use Rattle.build_pen.proofs.put_value.Statement.{statement}
 use Rattle.build_pen.proofs.put_value.Tie as tie

@@ -1,7 +1,7 @@
 -- `build_pen::same_key` meets its contract. Assumes nothing.
 use mathlib.Core.Path.{ap, _∙_}
 use Rattle.order.specs.Order.{isEqual}
-use Rattle.build_pen.proofs.Writing.{alike-not, alike-by}
+use Rattle.build_pen.proofs.WritingList.{alike-not, alike-by}
 use borrow.Author.Needs.{needs}
 use Rattle.build_pen.proofs.same_key.Statement.{statement}
 use Rattle.build_pen.proofs.same_key.Tie as tie

@@ -1,9 +1,7 @@
 -- `merge::apart` meets its contract. Assumes nothing.
 use mathlib.Core.Path.{sym, _∙_}
-use mathlib.Core.List.{List}
-use Rattle.build_image.specs.Image.{Borders}
-use Rattle.build_sources.specs.Source.{Entry}
-use Rattle.merge.specs.Answer.{apartIn}
+use Prim.Native.Nat.{ℕ}
+use native.Mathlib.Omega.{arith}
 use Rattle.merge.proofs.Merging.{never-bad, is-held, answered}
 use borrow.Author.Needs.{needs}
 use Rattle.merge.proofs.apart.Statement.{statement}
@@ -19,13 +17,13 @@ enum-told : tie.Need-enum-told
 enum-told c = search needs
 
 returns : tie.Need-returns
-returns c = absurd (never-bad _ _ _ (c .before .before .before .before .before .pre .1 .0) (c .before .before .before .before .before .pre .1 .1) (sym (c .before .before .gather .ensures) ∙ c .enum-told .given .1))
+returns c = absurd (never-bad _ _ _ (c .before .before .before .before .before .pre .1 .0) (c .before .before .before .before .before .pre .1 .1 .0) (sym (c .before .before .gather .ensures) ∙ c .enum-told .given .1))
 
 apart-requires : tie.Need-apart-requires
-apart-requires c κs = is-held _ _ _ (c .before .before .before .before .before .before .pre .1 .0) (c .before .before .before .before .before .before .pre .1 .1) _ _ (sym (c .before .before .before .gather .ensures) ∙ c .before .c .given .1) _ (c .before .before .before .before .before .before .pre .0)
+apart-requires c κs = is-held _ _ _ (c .before .before .before .before .before .before .pre .1 .0) (c .before .before .before .before .before .before .pre .1 .1 .0) _ _ (sym (c .before .before .before .gather .ensures) ∙ c .before .c .given .1) _ (c .before .before .before .before .before .before .pre .0)
 
 returns-2 : tie.Need-returns-2
-returns-2 c = answered _ _ _ (c .before .before .before .before .before .before .before .pre .1 .0) (c .before .before .before .before .before .before .before .pre .1 .1) _ _ (sym (c .before .before .before .before .gather .ensures) ∙ c .before .before .c .given .1) _ (c .before .before .before .before .before .before .before .pre .0) (λ (b : Borders) (es : List Entry). apartIn b es) _ (c .apart .ensures)
+returns-2 c = answered _ _ _ (c .before .before .before .before .before .before .before .pre .1 .0) (c .before .before .before .before .before .before .before .pre .1 .1 .0) _ _ (sym (c .before .before .before .before .gather .ensures) ∙ c .before .before .c .given .1) _ (c .before .before .before .before .before .before .before .pre .0) (λ (i : ℕ). omega (arith, c .before .before .before .before .before .before .shared-slice-known .given i)) (c .before .before .before .before .before .before .before .pre .1 .1 .1) _ (c .apart .ensures)
 
 pub apart-spec : {M : Type 1} → statement M
 apart-spec =

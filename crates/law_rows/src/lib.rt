@@ -1,0 +1,1 @@
+// What a page holds, as entries: the definitions, in specs/, and laws, in proofs/.
