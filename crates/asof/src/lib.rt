@@ -1,4 +1,5 @@
 // A row as of a version: the newest record of a key that is no newer than it, head or history, across linked pages.
+#![tactic(auto)]
 ghost use Rattle.std.specs.Prelude.{◌≡◌, ◌+◌, ◌<◌, ◌≤◌, ◌^◌};
 ghost use Rattle.frames.specs.Layout.{Inside};
 ghost use Rattle.frames.specs.declared.Opened.{Opened};
@@ -16,7 +17,7 @@ use walks::{Aged, Entered, OldPlace};
 
 // The key's slot in the leaf, the record's own version, the place of its value, and the number of keys that the halving read, as a search
 // counts them.
-#[derive(Drop)]
+#[derive(Clone, Copy)]
 pub enum AsOf {
     Is {
         slot: usize,
@@ -91,7 +92,7 @@ fn newer_in(s: &[u8], b: Body, from: OldPlace, v: Ver) -> usize
 }
 
 // What the history page in hand comes to: the row's version and its value, or the place where the lookup goes on.
-#[derive(Drop)]
+#[derive(Clone, Copy)]
 enum InHand {
     Is(Ver, Place),
     On(OldPlace),

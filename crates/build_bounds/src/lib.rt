@@ -1,5 +1,6 @@
 // A page's boundaries before it is built: where each lies, in a slice lent for it or in the arena below the next free address (merges
 // take theirs from pages), and the store of one.
+#![tactic(auto)]
 ghost use Rattle.std.specs.Prelude.{◌≡◌, ◌+◌, ◌≤◌, length, take};
 ghost use Rattle.spans.specs.Span.{put};
 ghost use Rattle.build_bounds.specs.Boundaries.{Within, boundary_bytes, boundary_of};
@@ -7,7 +8,7 @@ ghost use Rattle.build_bounds.specs.Boundaries.{Within, boundary_bytes, boundary
 use frames::PageId;
 
 // One boundary's place.
-#[derive(Drop)]
+#[derive(Clone, Copy)]
 pub struct Boundary {
     pub ground: bool,
     pub at: usize,
@@ -15,7 +16,7 @@ pub struct Boundary {
 }
 
 // Both, the count of their common bytes, and the right sibling.
-#[derive(Drop)]
+#[derive(Clone, Copy)]
 pub struct Boundaries {
     pub lo: Boundary,
     pub hi: Boundary,

@@ -1,4 +1,5 @@
 // Head records: a leaf key without the page's prefix, and the value with its history reference; the slots and records of all heads.
+#![tactic(auto)]
 ghost use Rattle.std.specs.Prelude.{◌≡◌, true, ◌+◌, ◌≤◌, length, take, drop};
 ghost use Rattle.spans.specs.Span.{put};
 ghost use Rattle.frames.specs.Limits.{max_entries, max_key, max_value};
@@ -15,7 +16,7 @@ use frames::Addr;
 use values::{HistRef, Val};
 
 // Where the next old version stands: its page and slot, how many of the page are left, and where the page behind it starts.
-#[derive(Drop)]
+#[derive(Clone, Copy)]
 pub struct Loc {
     pub page: usize,
     pub slot: usize,

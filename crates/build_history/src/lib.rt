@@ -1,5 +1,6 @@
 // History pages: old versions written page by page, each page with its remote frames behind it; remote frames of heads too. Each
 // function stores exactly its part of the image, from one address upward, and reads its entries through the source alone.
+#![tactic(auto)]
 ghost use Rattle.std.specs.Prelude.{◌≡◌, true, cond, ◌+◌, ◌≤◌, length, take};
 ghost use Rattle.spans.specs.Span.{part, put};
 ghost use Rattle.frames.specs.Layout.{slots_at};
@@ -17,7 +18,7 @@ use frames::{Addr, BaseHeader, BoxHeader, NULL_ADDR, NULL_PID};
 use values::{HistRef, Val};
 
 // A history page that is to come: how many old versions it takes, its size, its remote frames' length, and whether more are left.
-#[derive(Drop)]
+#[derive(Clone, Copy)]
 pub struct PageAhead {
     pub count: usize,
     pub size: usize,
@@ -26,7 +27,7 @@ pub struct PageAhead {
 }
 
 // A look ahead: that page, and the old versions behind it.
-#[derive(Drop)]
+#[derive(Clone, Copy)]
 pub struct Look {
     pub run: PageAhead,
     pub rest: Cursor,

@@ -1,5 +1,6 @@
 // What every build shares: what a call is told and answers, what numbers 1 and 2 ask, sizes and addresses as numbers, and a page's two
 // headers. The image itself is a definition (specs/Image.antt); the crates above write it.
+#![tactic(auto)]
 ghost use Rattle.std.specs.Prelude.{◌≡◌, ◌+◌, ◌≤◌, length};
 ghost use Rattle.spans.specs.Span.{put};
 ghost use Rattle.frames.specs.Layout.{slots_at};
@@ -12,7 +13,7 @@ ghost use Rattle.build_image.specs.Image.{page_box, remote_addr};
 use frames::{Addr, BaseHeader, BoxHeader, Refusal};
 
 // What a build is told beside its entries: the inline limit, the budget of a history page, and what its frames' headers carry.
-#[derive(Drop)]
+#[derive(Clone, Copy)]
 pub struct Call {
     pub limit: usize,
     pub budget: usize,
@@ -22,7 +23,7 @@ pub struct Call {
 }
 
 // What it answers: where its page or delta stands, and the new next free address; or a refusal that changes nothing.
-#[derive(Drop)]
+#[derive(Clone, Copy)]
 pub enum Built {
     At(Addr, usize),
     Refused(Refusal),

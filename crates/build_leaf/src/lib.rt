@@ -1,5 +1,6 @@
 // The whole leaf: history pages, the leaf's frame with its hints, the heads' remote frames. What no entry tells is stored first; the entries, of a record
 // list or of leaves, are written by the pen.
+#![tactic(auto)]
 ghost use Rattle.std.specs.Prelude.{◌≡◌, ◌++◌, true, ◌+◌, ◌-◌, ◌*◌, ◌≤◌, length, take};
 ghost use Rattle.spans.specs.Span.{put};
 ghost use Rattle.frames.specs.Layout.{frame_len, box_len, slots_at};
@@ -55,7 +56,7 @@ fn leaf_head(a: &mut [u8], at: usize, m: Call, t: Totals, e: Boundaries)
 // ---- a record list's leaf
 
 // Where the hints of history pages, of old versions' remotes and of heads' stand.
-#[derive(Drop)]
+#[derive(Clone, Copy)]
 pub struct HintPlaces {
     pub pages: usize,
     pub olds: usize,
@@ -124,7 +125,7 @@ fn leaf_fixed(
 }
 
 // Where the entries of a leaf are to be written: its old versions, its heads, and its heads' hints.
-#[derive(Drop)]
+#[derive(Clone, Copy)]
 pub struct Opened {
     pub pen: Pen,
     pub nib: Nib,

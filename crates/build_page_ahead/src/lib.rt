@@ -1,4 +1,5 @@
 // Looking ahead over pages: the history page that comes next, of the old versions that are left of a run and of those of the heads that follow in sound leaves.
+#![tactic(auto)]
 ghost use Rattle.std.specs.Prelude.{◌≡◌, ◌-◌, ◌≤◌, ◌<◌};
 ghost use Rattle.frames.specs.Limits.{max_budget, max_limit};
 ghost use Rattle.law_rows.specs.Rows.{leaf_entries};
@@ -13,7 +14,7 @@ use frames::{Addr, BaseHeader, Body};
 use values::Val;
 
 // The heads that follow: from i on in one page, then all of another.
-#[derive(Drop)]
+#[derive(Clone, Copy)]
 pub struct Rest {
     pub body: Body,
     pub i: usize,
@@ -23,7 +24,7 @@ pub struct Rest {
 }
 
 // A history page that fills up, and the page in hand that it is filled from.
-#[derive(Drop)]
+#[derive(Clone, Copy)]
 pub struct Filling {
     pub run: PageAhead,
     pub hand: Hand,

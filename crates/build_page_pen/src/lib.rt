@@ -1,5 +1,6 @@
 // The pen over pages: the entries of two leaves, or of a part of one, written side by side, each kind of byte by a cursor of its own. They are read below
 // the next free address of the arena that is written.
+#![tactic(auto)]
 ghost use Rattle.std.specs.Prelude.{◌≡◌, List, ◌++◌, ℕ, ◌+◌, ◌-◌, ◌≤◌, ◌<◌, length, take, drop};
 ghost use Rattle.spans.specs.Span.{put};
 ghost use Rattle.build_sources.specs.Source.{olds};
@@ -211,7 +212,7 @@ fn pen_head(
 }
 
 // A run of old versions written: the pen and the page in hand behind it, and where the first stands.
-#[derive(Drop)]
+#[derive(Clone, Copy)]
 pub struct RunPenned {
     pub pen: Pen,
     pub hand: Hand,
@@ -291,7 +292,7 @@ fn pen_run(
 }
 
 // Heads written: the pen, where the next head goes, and where its hint does.
-#[derive(Drop)]
+#[derive(Clone, Copy)]
 pub struct Penned {
     pub pen: Pen,
     pub nib: Nib,

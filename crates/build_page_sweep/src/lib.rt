@@ -1,5 +1,6 @@
 // A leaf's heads with their old versions judged in one sweep, without writing: each is read once and added up; history pages are cut on the way. The
 // leaf was checked, and its keys rise.
+#![tactic(auto)]
 ghost use Rattle.std.specs.Prelude.{◌-◌, ◌≤◌};
 ghost use Rattle.frames.specs.Limits.{max_budget, max_limit};
 ghost use Rattle.law_rows.specs.Rows.{leaf_entries};
@@ -14,7 +15,7 @@ use frames::{BaseHeader, Body};
 use values::HistRef;
 
 // A run of old versions summed up, and the page in hand behind it.
-#[derive(Drop)]
+#[derive(Clone, Copy)]
 pub struct RunSwept {
     pub tally: Tally,
     pub cut: Cut,
@@ -70,7 +71,7 @@ fn sweep_run(
 }
 
 // What a sweep over heads finds: the sums; or that there are more entries than a page takes.
-#[derive(Drop)]
+#[derive(Clone, Copy)]
 pub enum PageSwept {
     Fits(Tally, Cut),
     Many,

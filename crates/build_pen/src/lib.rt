@@ -1,5 +1,6 @@
 // The pen: a record list's entries written side by side, each kind of byte by a cursor of its own, while the list is read once (and its old
 // versions once more, page by page, for their sizes).
+#![tactic(auto)]
 ghost use Rattle.std.specs.Prelude.{◌≡◌, true, false, cond, [], ◌+◌, ◌-◌, ◌≤◌, ◌<◌, length, eqb};
 ghost use Rattle.spans.specs.Span.{part, put};
 ghost use Rattle.frames.specs.Limits.{max_budget, max_entries, max_limit};
@@ -21,7 +22,7 @@ use order::Ver;
 use values::{HistRef, Val};
 
 // A record of a list: where its key stands, and how long its key and its value are.
-#[derive(Drop)]
+#[derive(Clone, Copy)]
 pub struct RecordAt {
     pub kat: usize,
     pub klen: usize,
@@ -29,7 +30,7 @@ pub struct RecordAt {
 }
 
 // Where the next slot, record and remote frame stand.
-#[derive(Drop)]
+#[derive(Clone, Copy)]
 pub struct Nib {
     pub slot: usize,
     pub rec: usize,
@@ -37,7 +38,7 @@ pub struct Nib {
 }
 
 // Where the next old version stands, where its slot, record and remote frame do, and where the next hints do: a page's, and a remote's.
-#[derive(Drop)]
+#[derive(Clone, Copy)]
 pub struct Pen {
     pub loc: Loc,
     pub nib: Nib,
@@ -46,7 +47,7 @@ pub struct Pen {
 }
 
 // A run of old versions written: the pen and the place behind it, how many, and where the first stands.
-#[derive(Drop)]
+#[derive(Clone, Copy)]
 pub struct Ran {
     pub pen: Pen,
     pub at: usize,

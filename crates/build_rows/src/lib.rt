@@ -1,5 +1,6 @@
 // A sound page's rows as entries: the heads of a leaf one by one, each with its old versions behind it. The history page is in hand, so that it is opened
 // once as long as heads name pages in order.
+#![tactic(auto)]
 ghost use Rattle.std.specs.Prelude.{◌≡◌, true, ◌+◌, ◌<◌};
 ghost use Rattle.build_rows.specs.Fields.{hist_at, behind_of, HistFits, bytes_at, BytesFit, Readable, KeyAt};
 ghost use Rattle.build_rows.specs.Judged.{Judged, HeadAt, PastAt, ChildAt};
@@ -10,7 +11,7 @@ use records::RecRead;
 use values::HistRef;
 
 // A history page in hand: its address, where it stands, its slots and its link; none where the address is 0.
-#[derive(Drop)]
+#[derive(Clone, Copy)]
 pub struct Hand {
     pub page: Addr,
     pub at: usize,
@@ -19,7 +20,7 @@ pub struct Hand {
 }
 
 // An old version's place.
-#[derive(Drop)]
+#[derive(Clone, Copy)]
 pub struct Spot {
     pub hand: Hand,
     pub slot: usize,
@@ -80,7 +81,7 @@ pub fn spot_at(s: &[u8], hand: Hand, slot: usize) -> Spot
 // ---- records of sound pages
 
 // A value's bytes: where they stand, how many, the address of its remote frame, or 0.
-#[derive(Drop)]
+#[derive(Clone, Copy)]
 pub struct Bytes {
     pub at: usize,
     pub len: usize,
@@ -109,7 +110,7 @@ fn bytes_here(s: &[u8], far: bool, at: usize) -> Bytes
 }
 
 // An old version: where its version stands, and its value.
-#[derive(Drop)]
+#[derive(Clone, Copy)]
 pub struct Old {
     pub ver_at: usize,
     pub bytes: Bytes,
@@ -130,7 +131,7 @@ pub fn old_here(s: &[u8], hand: Hand, i: usize) -> Old
 }
 
 // A head: where its version and its rest of the key stand, its old versions, its value.
-#[derive(Drop)]
+#[derive(Clone, Copy)]
 pub struct Head {
     pub ver_at: usize,
     pub rest_len: usize,
@@ -167,7 +168,7 @@ fn behind(has: bool, at: usize) -> usize
 }
 
 // Where a key begins, behind its length, and how long it is: a head's with its version.
-#[derive(Drop)]
+#[derive(Clone, Copy)]
 pub struct KeyHere {
     pub at: usize,
     pub len: usize,
@@ -223,7 +224,7 @@ pub fn past_here(s: &[u8], b: Body, i: usize) -> HistRef
 // ---- index pages
 
 // A child of an index page: where the rest of its key stands, and the page that it leads to.
-#[derive(Drop)]
+#[derive(Clone, Copy)]
 pub struct Child {
     pub rest_at: usize,
     pub rest_len: usize,

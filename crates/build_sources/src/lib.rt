@@ -1,6 +1,7 @@
 // Sources of entries: a record list, an index list, or two pages one behind the other, read by a cursor by value with a step. A pass over
 // a source knows the step's equation and the laws that follow from it, never the cursor, so a source that is added here (a part of a
 // page, more pages) changes no pass. `list` is the lent slice, `ground` the arena below the next free address.
+#![tactic(auto)]
 ghost use Rattle.std.specs.Prelude.{◌≡◌, ◌∷◌, ◌++◌, ◌+◌, ◌<◌, length, get_or};
 ghost use Rattle.order.specs.Order.{cmp_bytes, starts_with};
 ghost use Rattle.order.specs.Bounds.{spanned};
@@ -16,7 +17,7 @@ use pages::{BoundsRead, Place};
 use walks::{OldPlace, Sheet, Walk};
 
 // A key: its first bytes (a page's prefix; none in a list) and its rest, as places of one slice.
-#[derive(Drop)]
+#[derive(Clone, Copy)]
 pub struct Key {
     pub pat: usize,
     pub plen: usize,
@@ -25,7 +26,7 @@ pub struct Key {
 }
 
 // Where reading stands: which source, and the key of the entry before; a list's place; a page's walk and prefix, and the page behind.
-#[derive(Drop)]
+#[derive(Clone, Copy)]
 pub struct Cursor {
     pub source: u8,
     pub seen: bool,
@@ -45,7 +46,7 @@ impl Cursor {
 }
 
 // Where an entry lies: below the free address (ground) or in the lent slice. `old` says that its key is that of the entry before.
-#[derive(Drop)]
+#[derive(Clone, Copy)]
 pub struct EntryAt {
     pub ground: bool,
     pub old: bool,
@@ -57,33 +58,33 @@ pub struct EntryAt {
     pub page: PageId,
 }
 
-#[derive(Drop)]
+#[derive(Clone, Copy)]
 pub enum Started {
     From(Cursor),
     Bad,
 }
 
-#[derive(Drop)]
+#[derive(Clone, Copy)]
 pub enum Spot {
     At(EntryAt, usize),
     Out,
 }
 
-#[derive(Drop)]
+#[derive(Clone, Copy)]
 pub enum EntryRead {
     Got(EntryAt, Cursor),
     End,
     Bad,
 }
 
-#[derive(Drop)]
+#[derive(Clone, Copy)]
 pub enum Pick {
     One(EntryAt, Cursor),
     None,
 }
 
 // Whether the entries rise; if so, how many there are, and whether lo is below hi and each key between them.
-#[derive(Drop)]
+#[derive(Clone, Copy)]
 pub enum Risen {
     Up(usize, bool),
     Not,

@@ -1,5 +1,6 @@
 // A list judged in one sweep, without writing: each entry is read once, set beside the one before, and added up; history pages are cut on the
 // way. A list that is refused goes by a second, light sweep, which finds the lowest number.
+#![tactic(auto)]
 ghost use Rattle.std.specs.Prelude.{◌≡◌, true, false, cond, ◌+◌, ◌≤◌, ◌<◌, length, ltb, eqb};
 ghost use Rattle.spans.specs.Span.{part_or};
 ghost use Rattle.order.specs.Version.{newer_than};
@@ -18,7 +19,7 @@ use values::Val;
 
 // What a leaf's size and hint room are made of, summed up entry by entry: `aged` of the remotes are old versions', `after` says that the entry
 // before is a head.
-#[derive(Drop)]
+#[derive(Clone, Copy)]
 pub struct Tally {
     pub heads: usize,
     pub olds: usize,
@@ -31,14 +32,14 @@ pub struct Tally {
 }
 
 // History pages: how many, and where they end.
-#[derive(Drop)]
+#[derive(Clone, Copy)]
 pub struct Pages {
     pub count: usize,
     pub end: usize,
 }
 
 // History pages under way: those that are closed, where the next stands, and what it holds.
-#[derive(Drop)]
+#[derive(Clone, Copy)]
 pub struct Cut {
     pub pages: usize,
     pub to: usize,
@@ -48,14 +49,14 @@ pub struct Cut {
 }
 
 // An entry at a place, by the lengths of its key and its value.
-#[derive(Drop)]
+#[derive(Clone, Copy)]
 pub enum Ent {
     At(usize, usize),
     Out,
 }
 
 // What an entry is beside the one before.
-#[derive(Drop)]
+#[derive(Clone, Copy)]
 pub enum Way {
     Head,
     Old,
@@ -63,7 +64,7 @@ pub enum Way {
 }
 
 // What a sweep finds: the tally, the history pages and the place of the last key; or that the list is refused, not why.
-#[derive(Drop)]
+#[derive(Clone, Copy)]
 pub enum Swept {
     Fits(Tally, Pages, usize, usize),
     Not,
@@ -322,7 +323,7 @@ pub fn sweep_list(list: &[u8], p: usize, next: usize, limit: usize, budget: usiz
 // ---- an index list
 
 // What a sweep over an index list finds: how many entries, the size of all records and the place of the last key; or that the list is refused.
-#[derive(Drop)]
+#[derive(Clone, Copy)]
 pub enum IndexSwept {
     Fits(usize, usize, usize, usize),
     Not,

@@ -1,6 +1,7 @@
 // Building from any source: the whole input is judged without writing, then written from the next free address on, as one store. The
 // numbers 6 to 10 are judged on the entries, whatever holds them, and of a list whether it ends well (3); 1, 2 and a list's first five bytes
 // are the calls' own (crate base).
+#![tactic(auto)]
 ghost use Rattle.std.specs.Prelude.{◌≡◌, ◌++◌, true, ◌-◌, ◌≤◌, length, take};
 ghost use Rattle.build_sources.specs.Source.{entries};
 ghost use Rattle.build_sources.specs.Judged.{rising, prefixed, enclosed, risen_of};
@@ -29,14 +30,14 @@ use build_totals::Totals;
 use frames::{Addr, BaseHeader, Body, Refusal};
 
 // What the judge of an index page finds: the count of its entries and its size.
-#[derive(Drop)]
+#[derive(Clone, Copy)]
 pub enum IndexVerdict {
     Fits(usize, usize),
     No(Refusal),
 }
 
 // What the judge of a leaf finds: what it is going to write.
-#[derive(Drop)]
+#[derive(Clone, Copy)]
 pub enum LeafVerdict {
     Fits(Totals),
     No(Refusal),

@@ -1,4 +1,5 @@
 // What a leaf build is going to write, measured before anything is written.
+#![tactic(auto)]
 ghost use Rattle.std.specs.Prelude.{◌≡◌, true, ◌+◌, ◌≤◌, length};
 ghost use Rattle.frames.specs.Limits.{max_budget, max_entries, max_key, max_limit, max_value};
 ghost use Rattle.build_sources.specs.Source.{entries, only};
@@ -12,7 +13,7 @@ use build_sweep::{Pages, Tally};
 
 // What a leaf build writes: heads, old versions, history pages, remotes and how many of them are old versions', the page's size and its hints'
 // room, its address, and the new next free address.
-#[derive(Drop)]
+#[derive(Clone, Copy)]
 pub struct Totals {
     pub heads: usize,
     pub olds: usize,

@@ -1,5 +1,6 @@
 // Many steps of a walk, their records told in lent words: the loop of ct_steps. The common record is read in place (records::quick_head,
 // quick_old), and a history page that the loop has judged is not judged again; every other record is left to the walk's own step.
+#![tactic(auto)]
 ghost use Rattle.std.specs.Prelude.{◌≡◌, [], ◌+◌, ◌*◌, ◌-◌, ◌<◌, ◌≤◌, ◌^◌, length};
 ghost use Rattle.spans.specs.Span.{put};
 ghost use Rattle.records.specs.declared.Rec.{Rec};
@@ -17,7 +18,7 @@ use values::HistRef;
 use walks::{Entered, OldPlace, Step, Walk};
 
 // What a run of steps came to: how many records, the number of the refusal that ended it (0 without), and the walk behind the last record.
-#[derive(Drop)]
+#[derive(Clone, Copy)]
 pub struct Run {
     pub count: usize,
     pub number: u32,
@@ -25,21 +26,21 @@ pub struct Run {
 }
 
 // What is left of a head's history, and the history page that is known then, or 0.
-#[derive(Drop)]
+#[derive(Clone, Copy)]
 enum Reached {
     Is(OldPlace, u64),
     Not,
 }
 
 // A head, the walk behind it, and the history page that is known then, or 0.
-#[derive(Drop)]
+#[derive(Clone, Copy)]
 enum HeadRead {
     Is(Rec, Walk, u64),
     Not,
 }
 
 // Heads without history: how many, where the next head stands, the last one's key; and the next head, read, where it has history.
-#[derive(Drop)]
+#[derive(Clone, Copy)]
 struct Plain {
     count: usize,
     pos: usize,
@@ -49,7 +50,7 @@ struct Plain {
 
 // A turn of the loop: how many records, the walk behind them, the history page that is known then; or no record, and the number of the
 // refusal, 0 at the end.
-#[derive(Drop)]
+#[derive(Clone, Copy)]
 enum Turn {
     On(usize, Walk, u64),
     Stop(u32),

@@ -1,5 +1,6 @@
 // Deltas: one change of a page as a frame of its own. A leaf delta holds a key with its version and a value, an index delta a key and a
 // page id. A call judges its input, then stores all its frames, the remote frame first; readers take any buffer and any address.
+#![tactic(auto)]
 ghost use Rattle.std.specs.Prelude.{◌≡◌, ◌+◌, ◌≤◌, length};
 ghost use Rattle.spans.specs.Span.{put};
 ghost use Rattle.frames.specs.Layout.{delta_key_at};
@@ -222,28 +223,28 @@ pub fn from_key_index(
 // ---- readers
 
 // A leaf delta's key: its version, and where the key stands.
-#[derive(Drop)]
+#[derive(Clone, Copy)]
 pub enum LeafKey {
     Is { ver: Ver, key: Place },
     Refused(Refusal),
 }
 
 // Where an index delta's key stands.
-#[derive(Drop)]
+#[derive(Clone, Copy)]
 pub enum IndexKey {
     Is(Place),
     Refused(Refusal),
 }
 
 // Where a leaf delta's value stands: in the delta, or in its remote frame.
-#[derive(Drop)]
+#[derive(Clone, Copy)]
 pub enum Value {
     Is(Place),
     Refused(Refusal),
 }
 
 // The page that an index delta names.
-#[derive(Drop)]
+#[derive(Clone, Copy)]
 pub enum Child {
     Is(PageId),
     Refused(Refusal),

@@ -1,5 +1,7 @@
 // Frames: addresses and page ids, the two headers read and written, the frame of each kind cut into its places, and the clerk.
 // Headers are judged once a call, into one body by value; everything after works on places inside it.
+#![tactic(auto)]
+
 ghost use Rattle.std.specs.Prelude.{◌≡◌, true, ◌+◌, ◌*◌, ◌≤◌, ◌<◌, ◌^◌, length};
 ghost use Rattle.spans.specs.Span.{put};
 ghost use Rattle.frames.specs.Refusals.{number_of};
@@ -10,7 +12,7 @@ ghost use Rattle.frames.specs.Stored.{box_bytes, base_of, base_front, base_back,
 ghost use Rattle.frames.specs.Clerks.{taken_of};
 
 // Why a call refuses: document 01's table, in the order in which a call judges.
-#[derive(Drop)]
+#[derive(Clone, Copy)]
 pub enum Refusal {
     BadLimit,
     BadArena,
@@ -42,18 +44,18 @@ pub fn number(r: Refusal) -> u8
 }
 
 // A frame's offset in the arena; 0 is none.
-#[derive(Drop)]
+#[derive(Clone, Copy)]
 pub struct Addr(pub u64);
 
 // A node's name, which outlives its frames; 0 is none.
-#[derive(Drop)]
+#[derive(Clone, Copy)]
 pub struct PageId(pub u64);
 
 pub const NULL_ADDR: Addr = Addr(0);
 
 pub const NULL_PID: PageId = PageId(0);
 
-#[derive(Drop)]
+#[derive(Clone, Copy)]
 pub struct BoxHeader {
     pub payload_size: u32,
     pub box_kind: u8,
@@ -65,13 +67,13 @@ pub struct BoxHeader {
     pub lsn: u64,
 }
 
-#[derive(Drop)]
+#[derive(Clone, Copy)]
 pub enum FrameRead {
     Frame(BoxHeader),
     Bad,
 }
 
-#[derive(Drop)]
+#[derive(Clone, Copy)]
 pub struct BaseHeader {
     pub size: u32,
     pub elems: u16,
@@ -88,7 +90,7 @@ pub struct BaseHeader {
 }
 
 // A base page of any kind: its frame's header and its own.
-#[derive(Drop)]
+#[derive(Clone, Copy)]
 pub enum PageRead {
     Page(BoxHeader, BaseHeader),
     Bad,
@@ -360,7 +362,7 @@ pub fn put_page(buf: &mut [u8], at: usize, x: BoxHeader, h: BaseHeader)
 }
 
 // Where a page stands in the arena: its base header, its end, its payload's end, where its records begin; and what its headers say.
-#[derive(Drop)]
+#[derive(Clone, Copy)]
 pub struct Body {
     pub at: usize,
     pub end: usize,
@@ -384,7 +386,7 @@ impl Body {
     pub const HISTORY: u8 = 2;
 }
 
-#[derive(Drop)]
+#[derive(Clone, Copy)]
 pub enum Opened {
     Is(Body),
     Bad,
@@ -529,7 +531,7 @@ pub fn open_at(s: &[u8], a: Addr) -> Opened
 }
 
 // Where a remote value's bytes stand.
-#[derive(Drop)]
+#[derive(Clone, Copy)]
 pub enum RemoteRead {
     At(usize),
     Bad,
@@ -556,7 +558,7 @@ pub fn remote_at(s: &[u8], a: Addr, n: u32) -> RemoteRead
 }
 
 // Where a delta's key and value stand, and what its frame says of it.
-#[derive(Drop)]
+#[derive(Clone, Copy)]
 pub struct Delta {
     pub key_at: usize,
     pub val_at: usize,
@@ -572,7 +574,7 @@ impl Delta {
     pub const KEY_AT: usize = BoxHeader::HDR_LEN + Delta::LENS;
 }
 
-#[derive(Drop)]
+#[derive(Clone, Copy)]
 pub enum DeltaRead {
     Is(Delta),
     Bad,
@@ -607,14 +609,14 @@ pub fn delta_at(s: &[u8], a: Addr) -> DeltaRead
 }
 
 // The arena's clerk: the next free address, and how far the arena goes.
-#[derive(Drop)]
+#[derive(Clone, Copy)]
 pub struct Clerk {
     pub next: Addr,
     pub limit: u64,
 }
 
 // The address handed out, 0 where there is no room, and the clerk moved on.
-#[derive(Drop)]
+#[derive(Clone, Copy)]
 pub struct Taken {
     pub addr: Addr,
     pub clerk: Clerk,

@@ -1,1 +1,2 @@
+#![tactic(auto)]
 // What a build wrote is what a reader reads: remote frames and history pages. Laws only, in proofs/.

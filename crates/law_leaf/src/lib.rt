@@ -1,1 +1,2 @@
+#![tactic(auto)]
 // What a build wrote is what a reader reads: leaf pages with their history. Laws only, in proofs/.

@@ -1,1 +1,2 @@
+#![tactic(auto)]
 // What two pages read one behind the other list: laws only, in proofs/.

@@ -1,10 +1,12 @@
 // Lengths: unsigned LEB128 (DWARF 5, 7.6), the shortest form only, at most five bytes, within u32.
+#![tactic(auto)]
+
 ghost use Rattle.std.specs.Prelude.{◌≡◌, ◌+◌, ◌≤◌, true, length};
 ghost use Rattle.spans.specs.Span.{put, Stored};
 ghost use Rattle.lengths.specs.Leb128.{uleb, read_len};
 
 // What reading a length finds: its value and the index behind it.
-#[derive(Drop)]
+#[derive(Clone, Copy)]
 pub enum Length {
     Is(u32, usize),
     Bad,

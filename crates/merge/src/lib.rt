@@ -1,5 +1,6 @@
 // Merging: two pages below the next free address become one, built anew from every record of the left, then of the right. Both are
 // checked first; then the builder judges and writes.
+#![tactic(auto)]
 ghost use Rattle.std.specs.Prelude.{◌≡◌, true, [], ◌≤◌, length, take};
 ghost use Rattle.pages.specs.Meaning.{meaning};
 ghost use Rattle.build_history.specs.Runs.{Sane};
@@ -17,7 +18,7 @@ use frames::{Addr, Opened, Refusal};
 use pages::{BoundsRead, Checked};
 
 // The kind of a sound page.
-#[derive(Drop)]
+#[derive(Clone, Copy)]
 pub enum Kind {
     Leaf,
     Index,
@@ -25,7 +26,7 @@ pub enum Kind {
 }
 
 // The kinds of two.
-#[derive(Drop)]
+#[derive(Clone, Copy)]
 pub enum Kinds {
     Leaves,
     Indexes,
@@ -34,7 +35,7 @@ pub enum Kinds {
 }
 
 // What a merge takes from its pages: their records, lo of the left, hi and sibling of the right.
-#[derive(Drop)]
+#[derive(Clone, Copy)]
 pub enum Gathered {
     Is(Cursor, Boundaries),
     Bad,

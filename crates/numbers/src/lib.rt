@@ -1,4 +1,6 @@
 // Numbers of 1, 2, 4 and 8 bytes in a lent slice, read and stored in place, the lowest byte first, and read (be) the highest first.
+#![tactic(auto)]
+
 ghost use Rattle.std.specs.Prelude.{◌≡◌, ◌+◌, ◌≤◌, length};
 ghost use Rattle.spans.specs.Span.{put};
 ghost use Rattle.numbers.specs.Number.{le, le_at, be_at, turned};

@@ -1,10 +1,12 @@
 // The order of byte strings, compared eight bytes at a time, and the order of versions.
+#![tactic(auto)]
+
 ghost use Rattle.std.specs.Prelude.{◌≡◌, ◌++◌, ◌≤◌, length, drop};
 ghost use Rattle.order.specs.Order.{by_number, cmp_bytes, is_equal, is_less, starts_with, Lesser};
 ghost use Rattle.order.specs.Bounds.{below_by, meet};
 ghost use Rattle.order.specs.Version.{ver_of, newer_than};
 
-#[derive(Drop)]
+#[derive(Clone, Copy)]
 pub enum Order {
     Less,
     Equal,
@@ -170,7 +172,7 @@ pub fn meets(hi: &[u8], lo: &[u8]) -> bool
 }
 
 // A version: the writing transaction and the number of the command in it.
-#[derive(Drop)]
+#[derive(Clone, Copy)]
 pub struct Ver {
     pub txid: u64,
     pub cmd: u32,

@@ -1,5 +1,7 @@
 // Two strings of one length, told apart by two numbers: what a search asks of a key at every turn. A second text of `order::compare`, for speed:
 // `StandsAs` says that the numbers stand as the strings do.
+#![tactic(auto)]
+
 ghost use Rattle.std.specs.Prelude.{◌≡◌, ◌+◌, ◌≤◌, length, take};
 ghost use Rattle.order_pair.specs.Word.{word_of};
 ghost use Rattle.order_pair.specs.Apart.{StandsAs};
@@ -72,7 +74,7 @@ fn word_of(t: &[u8]) -> u64
 }
 
 // Two numbers that stand as two strings do, where they differ; whether they say all of the strings, where they are the same.
-#[derive(Drop)]
+#[derive(Clone, Copy)]
 pub struct Pair {
     pub x: u64,
     pub y: u64,

@@ -1,5 +1,6 @@
 // The overlay lookup: a leaf page in an arena, and one leaf delta in a second buffer. Which of the two answers a probe is found first, as
 // a place; then that part is lent on from the buffer that holds it.
+#![tactic(auto)]
 ghost use Rattle.std.specs.Prelude.{◌≡◌};
 ghost use Rattle.frames.specs.Layout.{Inside};
 ghost use Rattle.search_head.specs.Head.{head_at};
@@ -14,7 +15,7 @@ use records::RecRead;
 use search_head::Head;
 
 // Which buffer holds the value and where, none, or why it is refused.
-#[derive(Drop)]
+#[derive(Clone, Copy)]
 pub enum Laid {
     Delta(Place),
     Page(Place),

@@ -1,4 +1,5 @@
 // Pages: what a page says, the check that decides whether it says anything, its boundaries, its old versions and its hints.
+#![tactic(auto)]
 ghost use Rattle.std.specs.Prelude.{◌≡◌, true, ◌+◌, ◌*◌, ◌≤◌, ◌<◌, length};
 ghost use Rattle.numbers.specs.Number.{le_at};
 ghost use Rattle.frames.specs.Layout.{base_len, Inside};
@@ -86,7 +87,7 @@ pub fn history_at(s: &[u8], a: Addr) -> Opened
 }
 
 // A history page in hand: its address, where it stands, its slots and its link.
-#[derive(Drop)]
+#[derive(Clone, Copy)]
 struct Hand {
     page: Addr,
     at: usize,
@@ -94,7 +95,7 @@ struct Hand {
     link: Addr,
 }
 
-#[derive(Drop)]
+#[derive(Clone, Copy)]
 enum HandRead {
     Is(Hand),
     Bad,
@@ -131,7 +132,7 @@ fn in_hand(s: &[u8], a: Addr, hand: Hand) -> HandRead
 }
 
 // An old version: its page, its slot and its record.
-#[derive(Drop)]
+#[derive(Clone, Copy)]
 pub enum OldRead {
     Old { page: Addr, slot: usize, rec: Rec },
     Bad,
@@ -170,13 +171,13 @@ pub fn old_at(s: &[u8], a: Addr, i: usize) -> OldRead
 }
 
 // A page in hand, and a slot of it.
-#[derive(Drop)]
+#[derive(Clone, Copy)]
 struct Spot {
     hand: Hand,
     slot: usize,
 }
 
-#[derive(Drop)]
+#[derive(Clone, Copy)]
 enum SpotRead {
     Is(Spot),
     Bad,
@@ -212,7 +213,7 @@ fn old_ver(s: &[u8], hand: Hand, i: usize) -> Ver
 }
 
 // What a chain says, and the page in hand behind it.
-#[derive(Drop)]
+#[derive(Clone, Copy)]
 struct Chained {
     ok: bool,
     hand: Hand,
@@ -486,7 +487,7 @@ fn bounded(s: &[u8], b: Body) -> bool
     !order::is_less(low) & order::below_by(high, hi)
 }
 
-#[derive(Drop)]
+#[derive(Clone, Copy)]
 pub enum Checked {
     Sound,
     Refused(Refusal),
@@ -515,14 +516,14 @@ pub fn check(s: &[u8], a: Addr) -> Checked
 // ---- boundaries
 
 // A stretch of the arena.
-#[derive(Drop)]
+#[derive(Clone, Copy)]
 pub struct Place {
     pub at: usize,
     pub len: usize,
 }
 
 // Where a page's boundaries and prefix stand, and the page beside it.
-#[derive(Drop)]
+#[derive(Clone, Copy)]
 pub struct Bounds {
     pub lo: Place,
     pub hi: Place,
@@ -530,7 +531,7 @@ pub struct Bounds {
     pub sibling: PageId,
 }
 
-#[derive(Drop)]
+#[derive(Clone, Copy)]
 pub enum BoundsRead {
     Is(Bounds),
     Refused(Refusal),
@@ -608,20 +609,20 @@ pub fn prefix(s: &[u8], a: Addr) -> &[u8]
 // ---- hints
 
 // Addresses of frames, one behind the other.
-#[derive(Drop)]
+#[derive(Clone, Copy)]
 pub struct Hints {
     pub at: usize,
     pub count: usize,
 }
 
-#[derive(Drop)]
+#[derive(Clone, Copy)]
 pub enum HintsRead {
     Are(Hints),
     Nothing,
     Refused(Refusal),
 }
 
-#[derive(Drop)]
+#[derive(Clone, Copy)]
 pub enum Hint {
     Is(Addr),
     Nothing,

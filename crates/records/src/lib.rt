@@ -1,4 +1,5 @@
 // A page's parts: one decoder of a record at a slot, for leaf, index and history pages; its prefix, lent on.
+#![tactic(auto)]
 ghost use Rattle.std.specs.Prelude.{◌≡◌, ◌+◌, ◌≤◌, ◌<◌, true, false, length};
 ghost use Rattle.frames.specs.declared.Body.{Body};
 ghost use Rattle.frames.specs.Layout.{Inside};
@@ -15,14 +16,14 @@ use frames::{Addr, BaseHeader, Body, NULL_ADDR, RemoteRead};
 use order::Ver;
 use values::{HistRef, KeyRead, Val};
 
-#[derive(Drop)]
+#[derive(Clone, Copy)]
 pub enum SlotRead {
     At(usize),
     Bad,
 }
 
 // A value with its remote resolved: where its bytes stand, and the remote frame's address or 0.
-#[derive(Drop)]
+#[derive(Clone, Copy)]
 pub enum ValRead {
     Is {
         hist: HistRef,
@@ -35,7 +36,7 @@ pub enum ValRead {
 }
 
 // A record's places: where it begins, its version, key rest, value; what follows it.
-#[derive(Drop)]
+#[derive(Clone, Copy)]
 pub struct Rec {
     pub from: usize,
     pub ver_at: usize,
@@ -48,7 +49,7 @@ pub struct Rec {
     pub next: usize,
 }
 
-#[derive(Drop)]
+#[derive(Clone, Copy)]
 pub enum RecRead {
     Is(Rec),
     Bad,
@@ -529,7 +530,7 @@ pub fn head_by(s: &[u8], e: usize, prefix: usize, p: usize) -> RecRead
 // ---- a child, for the check of an index page
 
 // A child's places: where it begins, and its key; the page id stands behind the key.
-#[derive(Drop)]
+#[derive(Clone, Copy)]
 pub enum ChildRead {
     Is {
         from: usize,

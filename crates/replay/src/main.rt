@@ -1,9 +1,10 @@
 // Replays the judge's vectors: reads tests/vectors (tools/test puts them together), leaves every answer out, prints every other line again
 // with our own answer behind it, and must so write what it read, byte for byte.
+#![tactic(auto)]
 ghost use Rattle.std.specs.Prelude.{◌≡◌, ◌+◌, ◌≤◌, length};
 
 // How far the arena and the second buffer go in the room for them.
-#[derive(Drop)]
+#[derive(Clone, Copy)]
 struct State {
     arena: usize,
     second: usize,
@@ -80,7 +81,7 @@ fn turn(l: &[u8], arena: &mut [u8], second: &mut [u8], st: State) -> State {
 }
 
 // How much of a text has been carried out, and the state behind it.
-#[derive(Drop)]
+#[derive(Clone, Copy)]
 struct Done {
     upto: usize,
     st: State,

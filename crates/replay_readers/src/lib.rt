@@ -1,4 +1,5 @@
 // The commands of the judge's vectors that read: each is carried out on the lent arena, and what it answers is printed.
+#![tactic(auto)]
 ghost use Rattle.std.specs.Prelude.{◌≡◌, length};
 
 use delta::{Child, IndexKey, LeafKey, Value};

@@ -1,9 +1,11 @@
 // Text for the programs: lines, words, decimal numbers and hexadecimal bytes (runs as hh*N.), read from a slice and printed.
+#![tactic(auto)]
+
 ghost use Rattle.std.specs.Prelude.{◌≤◌, ◌<◌, length};
 ghost use Rattle.replay_text.specs.Ends.{Ends, Reaches, Behind, Within};
 
 // A decimal number, and the place of the byte that ends it.
-#[derive(Drop)]
+#[derive(Clone, Copy)]
 pub enum Number {
     Is(u64, usize),
     Bad,
@@ -118,7 +120,7 @@ fn digit(b: u8) -> u8
 }
 
 // How often a byte stands, and the place behind what says so.
-#[derive(Drop)]
+#[derive(Clone, Copy)]
 pub struct Repeat {
     pub count: u64,
     pub next: usize,

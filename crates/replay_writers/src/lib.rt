@@ -1,4 +1,5 @@
 // The commands of the judge's vectors that build: each is carried out in the lent arena, and its answer and what it wrote are printed.
+#![tactic(auto)]
 ghost use Rattle.std.specs.Prelude.{◌≡◌, ◌≤◌, ◌<◌, length};
 
 use build_image::Built;

@@ -1,5 +1,6 @@
 // The head of a leaf page that has a probe as its key, by search's halving: its key alone is read. The overlay and the lookup as of a
 // version share it.
+#![tactic(auto)]
 ghost use Rattle.std.specs.Prelude.{◌≡◌};
 ghost use Rattle.frames.specs.Layout.{Inside};
 ghost use Rattle.search_head.specs.Head.{head_slot, head_in, head_at};
@@ -10,7 +11,7 @@ use sst::{Halved, Outcome, Want};
 use values::KeyRead;
 
 // Its page, slot and version, where its value begins, and the number of keys that the halving read. The value is not judged.
-#[derive(Drop)]
+#[derive(Clone, Copy)]
 pub enum Head {
     Is {
         page: Body,

@@ -1,4 +1,6 @@
 // Stretches of a byte slice: stored, copied, zeroed, and lent on. The lowest crate: every store of the library is one `put`.
+#![tactic(auto)]
+
 ghost use Rattle.std.specs.Prelude.{◌≡◌, ◌+◌, ◌-◌, ◌^◌, ◌≤◌, ◌<◌, cond, leb, length, replicate};
 ghost use Rattle.spans.specs.Span.{part, part_or, put};
 

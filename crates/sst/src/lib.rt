@@ -1,4 +1,5 @@
 // The three searches of sst.rs: lower bound, floor and search. Each is one halving of a page's slots over a comparison that may refuse.
+#![tactic(auto)]
 ghost use Rattle.std.specs.Prelude.{◌≡◌, ◌+◌, ◌-◌, ◌≤◌, ◌<◌, ◌^◌, length};
 ghost use Rattle.frames.specs.Layout.{Inside};
 ghost use Rattle.values.specs.Keys.{skip_of};
@@ -13,7 +14,7 @@ use records::{RecRead, SlotRead, ValRead};
 use values::{HistRef, KeyRead};
 
 // How a key stands to the probe, or that it cannot be read.
-#[derive(Drop)]
+#[derive(Clone, Copy)]
 pub enum Cmp {
     Less,
     Equal,
@@ -22,7 +23,7 @@ pub enum Cmp {
 }
 
 // Where a probe stands among a page's keys, with the number of keys read: at an equal key, or where the smaller keys end.
-#[derive(Drop)]
+#[derive(Clone, Copy)]
 pub enum Halved {
     At(usize, usize),
     End(usize, usize),
@@ -30,7 +31,7 @@ pub enum Halved {
 }
 
 // The kinds of page that a search takes, and what it looks for beside the key: in a lower bound, the version.
-#[derive(Drop)]
+#[derive(Clone, Copy)]
 pub struct Want {
     pub leaf: bool,
     pub index: bool,
@@ -39,7 +40,7 @@ pub struct Want {
 }
 
 // Where the search of an opened page ends; bad is another kind of page.
-#[derive(Drop)]
+#[derive(Clone, Copy)]
 pub enum Ended {
     Stands(Halved),
     Empty,
@@ -47,7 +48,7 @@ pub enum Ended {
 }
 
 // The same of the page at an address; bad is no page, too.
-#[derive(Drop)]
+#[derive(Clone, Copy)]
 pub enum Outcome {
     Stands(Body, Halved),
     Empty,
@@ -55,7 +56,7 @@ pub enum Outcome {
 }
 
 // The first position not less, with the number of keys read.
-#[derive(Drop)]
+#[derive(Clone, Copy)]
 pub enum Bound {
     At { pos: usize, reads: usize },
     PastEnd { pos: usize, reads: usize },
@@ -63,7 +64,7 @@ pub enum Bound {
 }
 
 // The slot of the greatest key not above, its page, and the number of keys read.
-#[derive(Drop)]
+#[derive(Clone, Copy)]
 pub enum Floor {
     Is {
         slot: usize,
@@ -77,7 +78,7 @@ pub enum Floor {
 }
 
 // The slot of the key, its version, its history's reference, the place of its value in the arena, and the number of keys read.
-#[derive(Drop)]
+#[derive(Clone, Copy)]
 pub enum Found {
     Is {
         slot: usize,
@@ -108,7 +109,7 @@ fn newer_at(s: &[u8], kind: u8, at: usize, v: Ver) -> bool
 // ---- the halving
 
 // Where a halving stands: the slots that are left, the keys read, and the record whose key is the probe, where it stopped at one.
-#[derive(Drop)]
+#[derive(Clone, Copy)]
 pub struct Stand {
     pub lo: usize,
     pub hi: usize,

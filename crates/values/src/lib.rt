@@ -1,4 +1,5 @@
 // Versions, keys and values as a page holds them: read from arbitrary bytes, and stored where they fit.
+#![tactic(auto)]
 ghost use Rattle.std.specs.Prelude.{◌≡◌, ◌+◌, ◌≤◌, true, leb, length};
 ghost use Rattle.spans.specs.Span.{put, Stored};
 ghost use Rattle.frames.specs.Limits.{max_key, max_value};
@@ -33,7 +34,7 @@ pub fn write_ver(buf: &mut [u8], at: usize, v: Ver) -> usize
 // ---- keys
 
 // Where a key's version stands, its rest, and how long that is.
-#[derive(Drop)]
+#[derive(Clone, Copy)]
 pub enum KeyRead {
     Key {
         ver_at: usize,
@@ -160,7 +161,7 @@ pub fn write_index_key(buf: &mut [u8], at: usize, rest: &[u8]) -> usize
 // ---- values
 
 // A history reference: where the first old version stands, and how many there are; 0 where there is none.
-#[derive(Drop)]
+#[derive(Clone, Copy)]
 pub struct HistRef {
     pub page: Addr,
     pub slot: u16,
@@ -168,7 +169,7 @@ pub struct HistRef {
 }
 
 // The front of a value: its history, whether its bytes are remote, and the place behind.
-#[derive(Drop)]
+#[derive(Clone, Copy)]
 pub enum FrontRead {
     Front {
         hist: HistRef,
@@ -179,7 +180,7 @@ pub enum FrontRead {
 }
 
 // A value: its history, where its bytes stand or its remote's address, its size, and the place behind it.
-#[derive(Drop)]
+#[derive(Clone, Copy)]
 pub enum Val {
     Inline {
         hist: HistRef,

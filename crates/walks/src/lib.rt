@@ -1,5 +1,6 @@
 // Walks over a page, forward and backward, each head followed by its older versions: by value, a step at a time.
 // The headers are judged when the walk is made; a step asks only that the page still lies in the lent arena.
+#![tactic(auto)]
 ghost use Rattle.std.specs.Prelude.{◌≡◌, ◌+◌, ◌*◌, ◌-◌, ◌≤◌, ◌<◌, ◌^◌, length};
 ghost use Rattle.spans.specs.Span.{part_or};
 ghost use Rattle.frames.specs.Layout.{base_len};
@@ -14,7 +15,7 @@ use records::{Rec, RecRead};
 use values::{HistRef, KeyRead};
 
 // A page as a walk carries it: where it stands, its slots, the boundaries behind them, its end.
-#[derive(Drop)]
+#[derive(Clone, Copy)]
 pub struct Sheet {
     pub at: usize,
     pub elems: usize,
@@ -24,7 +25,7 @@ pub struct Sheet {
 }
 
 // What is left of a head's history: the page that it stands in, the page linked to, the next slot, how many are left.
-#[derive(Drop)]
+#[derive(Clone, Copy)]
 pub struct OldPlace {
     pub page: Sheet,
     pub link: Addr,
@@ -33,7 +34,7 @@ pub struct OldPlace {
 }
 
 // A walk: its page, its way, the next head and how many are left; the last head's key rest and what is left of its history.
-#[derive(Drop)]
+#[derive(Clone, Copy)]
 pub struct Walk {
     pub page: Sheet,
     pub way: usize,
@@ -44,7 +45,7 @@ pub struct Walk {
 }
 
 // A record of a leaf: its places in the arena, its version, its remote frame and the history page that the step entered, or 0.
-#[derive(Drop)]
+#[derive(Clone, Copy)]
 pub struct Item {
     pub key: Place,
     pub ver: Ver,
@@ -54,20 +55,20 @@ pub struct Item {
 }
 
 // A record of an index page: its key rest, and the page that it leads to.
-#[derive(Drop)]
+#[derive(Clone, Copy)]
 pub struct Branch {
     pub key: Place,
     pub page: PageId,
 }
 
-#[derive(Drop)]
+#[derive(Clone, Copy)]
 pub enum Begun {
     Is(Walk),
     Refused(Refusal),
 }
 
 // A record with the walk moved on.
-#[derive(Drop)]
+#[derive(Clone, Copy)]
 pub enum Step {
     Found(Item, Walk),
     Leads(Branch, Walk),
@@ -78,7 +79,7 @@ pub enum Step {
 // ---- beginning
 
 // The first head and how many there are to walk.
-#[derive(Drop)]
+#[derive(Clone, Copy)]
 enum Range {
     Heads(usize, usize),
     Outside,
@@ -299,14 +300,14 @@ fn item_of(s: &[u8], key: Place, r: Rec, named: Addr) -> Item
 }
 
 // The next old version, with what is left behind it.
-#[derive(Drop)]
+#[derive(Clone, Copy)]
 enum OldStep {
     Is(Item, OldPlace),
     Bad,
 }
 
 // What a head's history leaves to walk: its page is entered.
-#[derive(Drop)]
+#[derive(Clone, Copy)]
 pub enum Entered {
     Is(OldPlace),
     Bad,
@@ -331,7 +332,7 @@ pub fn enter(s: &[u8], h: HistRef, was: OldPlace) -> Entered
 }
 
 // Where the next old version stands, and the history page entered, or 0.
-#[derive(Drop)]
+#[derive(Clone, Copy)]
 enum Turned {
     Is(OldPlace, Addr),
     Bad,
@@ -487,7 +488,7 @@ impl Walk {
 // ---- the versions of a history without their values, for a lookup as of a version
 
 // The next old version by its key alone: its version and slot, and what is left behind it, on the same page.
-#[derive(Drop)]
+#[derive(Clone, Copy)]
 pub enum Aged {
     Is {
         ver: Ver,

@@ -1,0 +1,8 @@
+-- `asof::handed` meets its contract. Assumes nothing.
+use Rattle.asof.proofs.handed.Goals as goal
+
+pub returns-in_default : goal.returns-in_default
+returns-in_default c = simp c.in_default.is
+
+pub returns : goal.returns
+returns c = simp c.in-Is.is

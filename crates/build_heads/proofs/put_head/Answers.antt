@@ -1,0 +1,31 @@
+use native.Mathlib.Omega.{arith}
+use mathlib.Core.Path.{◌∙◌}
+use Prim.Native.Nat.{◌+◌}
+use lib.Dec.{ltb}
+use Rattle.build_image.proofs.Lengths.{key_most, size_most}
+use Rattle.build_heads.proofs.HeadPass.{rec_none, rec-room, rec_one, rec-long, some-any, old_of}
+use Rattle.build_heads.proofs.put_head.Goals as goal
+
+pub returns-then-old : goal.returns-then-old
+returns-then-old c = let all = rec_none _ _ _ _ _ _ _ (old_of _ _ _ ∙ c.if-old.true) in record { value = all.0; a_after = all.1 }
+
+pub overflow_add-i : goal.overflow_add-i
+overflow_add-i c = omega (arith, c.requires.placed.0.ksmall)
+
+pub key_len-k-requires : goal.key_len-k-requires
+key_len-k-requires c = (c.requires.placed.0.ksmall, c.requires.placed.1.0)
+
+pub overflow_cast-i : goal.overflow_cast-i
+overflow_cast-i c = omega (arith, c.requires.placed.0.vsmall)
+
+pub overflow_add-n : goal.overflow_add-n
+overflow_add-n c = omega (arith, c.requires.placed.0.ksmall, c.key_len-k.ensures, key_most c.args.p (c.args.i.key.plen + c.args.i.key.klen), c.calc_size.ensures, size_most (ltb 0 c.args.h.count) c.args.limit c.args.i.vlen c.requires.placed.0.vsmall)
+
+pub head_rec-requires : goal.head_rec-requires
+head_rec-requires c = let all = (c.requires.ground_le_at, (c.requires.placed.0, (c.requires.placed.1.0, rec-room c.args.a.now c.args.at c.args.limit c.args.p c.args.remote c.args.h _ (old_of _ _ _ ∙ c.if-old.false) c.requires.placed.1.1))) in record { ground_le_at = all.0; placed = all.1; p_bound = all.2; i_in_bounds = all.3 }
+
+pub overflow_add-result : goal.overflow_add-result
+overflow_add-result c = let z = rec-long _ _ _ c.requires.placed.0 c.args.limit c.args.p c.args.remote c.args.h _ _ _ c.key_len-k.ensures c.calc_size.ensures (some-any c.args.h.count) in let y = rec-room c.args.a.now c.args.at c.args.limit c.args.p c.args.remote c.args.h _ (old_of _ _ _ ∙ c.if-old.false) c.requires.placed.1.1 in omega (arith, z, y, c.well_formed.0)
+
+pub returns : goal.returns
+returns c = let all = rec_one _ _ _ _ _ _ _ (old_of _ _ _ ∙ c.if-old.false) _ _ (rec-long _ _ _ c.requires.placed.0 c.args.limit c.args.p c.args.remote c.args.h _ _ _ c.key_len-k.ensures c.calc_size.ensures (some-any c.args.h.count)) c.head_rec.ensures in record { value = all.0; a_after = all.1 }

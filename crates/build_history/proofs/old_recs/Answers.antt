@@ -1,0 +1,54 @@
+use native.Mathlib.Omega.{arith}
+use mathlib.Core.Path.{sym, ap}
+use mathlib.Core.Bool.{true, false}
+use Prim.Native.Nat.{◌-◌}
+use lib.ListN.{length, take}
+use lib.Seq.{length-take-le}
+use Rattle.build_sources.proofs.Sourced.{one, no_one}
+use Rattle.spans.proofs.Writing.{begin, finished}
+use Rattle.build_history.proofs.Passes.{recs_asks, recs-room, recs_turn, recs_nil, take_nil, take_none, remotes-found}
+use Rattle.build_history.proofs.old_recs.Goals as goal
+
+pub loop-k-init : goal.loop-k-init
+loop-k-init c = (begin _ _ _ _ c.requires.ground_le_at c.requires.n_in_bounds.0, c.requires.n_in_bounds.1)
+
+pub slice_bounds-next_of-end : goal.slice_bounds-next_of-end
+slice_bounds-next_of-end c = let v = c.loop-k.invariant.0 in omega (arith, v.over, v.room)
+
+pub slice_bounds-next_of-end-in-loop-k : goal.slice_bounds-next_of-end-in-loop-k
+slice_bounds-next_of-end-in-loop-k c = let v = c.loop-k.invariant.0 in sym (length-take-le _ _ (omega (arith, v.over, v.room)))
+
+pub shape_of-a-in_default : goal.shape_of-a-in_default
+shape_of-a-in_default c = c.loop-k.invariant.0.long
+
+pub returns-in_default : goal.returns-in_default
+returns-in_default c = finished _ _ _ _ _ _ c.loop-k.invariant.0 (recs_nil _ _ _ (take_nil c.loop-k.k _ (no_one _ _ _ _ _ _ c.loop-k.invariant.0.same c.next_of-st.ensures c.in_default.is)))
+
+pub overflow_cast-i : goal.overflow_cast-i
+overflow_cast-i c = let z = (one _ _ _ _ _ _ c.loop-k.invariant.0.same c.next_of-st.ensures _ _ c.in-One.is).placed.vsmall in omega arith
+
+pub overflow_add-past : goal.overflow_add-past
+overflow_add-past c = let z = recs-room _ _ _ _ _ _ _ (one _ _ _ _ _ _ c.loop-k.invariant.0.same c.next_of-st.ensures _ _ c.in-One.is) _ c.loop-k-test.true _ _ _ _ _ c.loop-k.invariant.0 in omega (arith, c.well_formed.0, c.loop-k.invariant.0.long, c.calc_size.ensures)
+
+pub overflow_add-past-in-loop-k : goal.overflow_add-past-in-loop-k
+overflow_add-past-in-loop-k c = let z = recs-room _ _ _ _ _ _ _ (one _ _ _ _ _ _ c.loop-k.invariant.0.same c.next_of-st.ensures _ _ c.in-One.is) _ c.loop-k-test.true _ _ _ _ _ c.loop-k.invariant.0 in omega (arith, c.well_formed.0, c.loop-k.invariant.0.long, c.calc_size.ensures)
+
+pub remote_len-requires : goal.remote_len-requires
+remote_len-requires c = (one _ _ _ _ _ _ c.loop-k.invariant.0.same c.next_of-st.ensures _ _ c.in-One.is).placed.vsmall
+
+pub overflow_add-beyond : goal.overflow_add-beyond
+overflow_add-beyond c = let z = remotes-found _ _ _ _ _ _ (one _ _ _ _ _ _ c.loop-k.invariant.0.same c.next_of-st.ensures _ _ c.in-One.is) _ c.loop-k-test.true c.args.limit in let v = c.loop-k.invariant.1 in omega (arith, c.well_formed.0, c.remote_len.ensures)
+
+pub old_rec-requires : goal.old_rec-requires
+old_rec-requires c = let all = recs_asks _ _ _ _ _ _ _ (one _ _ _ _ _ _ c.loop-k.invariant.0.same c.next_of-st.ensures _ _ c.in-One.is) _ c.loop-k-test.true _ _ _ _ _ c.loop-k.invariant.0 in record { ground_le_at = all.0; placed = all.1; i_in_bounds = all.2 }
+
+pub loop-k-preserved : goal.loop-k-preserved
+loop-k-preserved c = let z = remotes-found _ _ _ _ _ _ (one _ _ _ _ _ _ c.loop-k.invariant.0.same c.next_of-st.ensures _ _ c.in-One.is) _ c.loop-k-test.true c.args.limit in
+    let v = c.loop-k.invariant.1 in
+    (recs_turn _ _ _ _ _ _ _ (one _ _ _ _ _ _ c.loop-k.invariant.0.same c.next_of-st.ensures _ _ c.in-One.is) _ c.loop-k-test.true _ _ _ _ _ c.loop-k.invariant.0 _ _ _ c.old_rec.ensures c.calc_size.ensures c.remote_len.ensures, omega (arith, c.remote_len.ensures, z, v))
+
+pub shape_of-a : goal.shape_of-a
+shape_of-a c = c.loop-k.invariant.0.long
+
+pub returns : goal.returns
+returns c = finished _ _ _ _ _ _ c.loop-k.invariant.0 (recs_nil _ _ _ (take_none c.loop-k.k _ c.loop-k-test.false))

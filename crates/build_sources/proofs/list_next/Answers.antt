@@ -1,0 +1,16 @@
+use borrow.Author.Tests.{le-leb, lt-leb}
+use mathlib.Core.Path.{sym, ap, ◌∙◌}
+use Rattle.build_sources.specs.Source.{list_next, step_of}
+use Rattle.build_sources.proofs.list_next.Goals as goal
+
+pub returns-then-list-at : goal.returns-then-list-at
+unfolding list_next step_of
+returns-then-list-at c = rw (le-leb _ _ c.if-list-at.true)
+
+pub returns-in_default : goal.returns-in_default
+unfolding list_next step_of
+returns-in_default c = rw (lt-leb _ _ c.if-list-at.false) (ap (step_of c.args.c) (sym c.in_default.is ∙ c.spot_at.ensures))
+
+pub returns : goal.returns
+unfolding list_next step_of
+returns c = rw (lt-leb _ _ c.if-list-at.false) (ap (step_of c.args.c) (sym c.in-At.is ∙ c.spot_at.ensures))

@@ -1,0 +1,69 @@
+-- `c_step::head_read` meets its contract. Assumes nothing.
+use native.Mathlib.Omega.{arith}
+use mathlib.Core.Path.{sym, ◌∙◌}
+use Rattle.records.proofs.Inside.{val_no, slot-inside}
+use Rattle.records.proofs.Quick.{quick_is, short_head, slot-rec}
+use Rattle.c_steps.proofs.Ways.{rec_none}
+use Rattle.c_steps.proofs.Heading.{leaf_kind, leaf_inside, head_ahead}
+use Rattle.c_step.proofs.head_read.Goals as goal
+
+pub returns-then-w-eq0 : goal.returns-then-w-eq0
+returns-then-w-eq0 c = λ r e. absurd (rec_none r e)
+
+pub returns-then-w-eq-INDEX : goal.returns-then-w-eq-INDEX
+returns-then-w-eq-INDEX c = λ r e. absurd (rec_none r e)
+
+pub returns-in_default : goal.returns-in_default
+returns-in_default c = λ r e. absurd (rec_none r e)
+
+pub slot_at-requires : goal.slot_at-requires
+slot_at-requires c = leaf_inside c.args.s.now c.args.w c.in-Is.b (sym c.body_of.ensures ∙ c.in-Is.is)
+
+pub returns-in_default-slot_at : goal.returns-in_default-slot_at
+returns-in_default-slot_at c = λ r e. absurd (rec_none r e)
+
+pub quick_key-n-requires : goal.quick_key-n-requires
+quick_key-n-requires c = let all = let o = sym c.body_of.ensures ∙ c.in-Is.is in
+    (leaf_inside c.args.s.now c.args.w c.in-Is.b o, (leaf_kind c.args.s.now c.args.w c.in-Is.b o, (slot-inside c.args.s.now c.in-Is.b c.args.w.pos c.in-At.p (sym c.slot_at.ensures ∙ c.in-At.is)).1)) in record { inside = all.0; kind_value = all.1; p_lt_end = all.2 }
+
+pub returns-then-n-eq0 : goal.returns-then-n-eq0
+returns-then-n-eq0 c = λ r e. absurd (rec_none r e)
+
+pub overflow_add-p : goal.overflow_add-p
+overflow_add-p c = let i = leaf_inside c.args.s.now c.args.w c.in-Is.b (sym c.body_of.ensures ∙ c.in-Is.is) in
+    omega (arith, (c.quick_key-n.ensures c.if-n-eq0.false).inside, i.payload, i.arena, c.well_formed)
+
+pub overflow_add-p-2 : goal.overflow_add-p-2
+overflow_add-p-2 c = let i = leaf_inside c.args.s.now c.args.w c.in-Is.b (sym c.body_of.ensures ∙ c.in-Is.is) in
+    omega (arith, (c.quick_key-n.ensures c.if-n-eq0.false).inside, i.payload, i.arena, c.well_formed)
+
+pub quick_value-requires : goal.quick_value-requires
+quick_value-requires c = let o = sym c.body_of.ensures ∙ c.in-Is.is in
+    record {
+        inside = leaf_inside c.args.s.now c.args.w c.in-Is.b o;
+        kind_value = leaf_kind c.args.s.now c.args.w c.in-Is.b o;
+    }
+
+pub returns-in_default-quick_value : goal.returns-in_default-quick_value
+returns-in_default-quick_value c = λ r e. absurd (rec_none r e)
+
+pub overflow_add-result : goal.overflow_add-result
+overflow_add-result c = let i = leaf_inside c.args.s.now c.args.w c.in-Is.b (sym c.body_of.ensures ∙ c.in-Is.is) in
+    omega (arith, (c.quick_key-n.ensures c.if-n-eq0.false).inside, i.payload, i.arena, c.well_formed)
+
+pub overflow_add-result-2 : goal.overflow_add-result-2
+overflow_add-result-2 c = let i = leaf_inside c.args.s.now c.args.w c.in-Is.b (sym c.body_of.ensures ∙ c.in-Is.is) in
+    omega (arith, (c.quick_key-n.ensures c.if-n-eq0.false).inside, i.payload, i.arena, c.well_formed)
+
+pub overflow_add-result-3 : goal.overflow_add-result-3
+overflow_add-result-3 c = let i = leaf_inside c.args.s.now c.args.w c.in-Is.b (sym c.body_of.ensures ∙ c.in-Is.is) in
+    let k = c.quick_key-n.ensures c.if-n-eq0.false in
+    omega (arith, k.inside, k.long, i.payload, i.arena, c.well_formed)
+
+pub overflow_sub-result : goal.overflow_sub-result
+overflow_sub-result c = omega (arith, (c.quick_key-n.ensures c.if-n-eq0.false).long)
+
+pub returns : goal.returns
+returns c = let o = sym c.body_of.ensures ∙ c.in-Is.is in
+    let q = sym (slot-rec c.args.s.now c.in-Is.b c.args.w.pos c.in-At.p (sym c.slot_at.ensures ∙ c.in-At.is)) ∙ short_head c.args.s.now c.in-Is.b c.in-At.p _ c.in-Is-quick_value.hist c.in-Is-quick_value.val_at c.in-Is-quick_value.val_len c.in-Is-quick_value.remote c.in-Is-quick_value.next (leaf_kind c.args.s.now c.args.w c.in-Is.b o) (c.quick_key-n.ensures c.if-n-eq0.false) (quick_is _ c.quick_value.ensures c.in-Is-quick_value.is (val_no _ _ _ _ _)) in
+    λ r e. head_ahead c.args.s.now c.args.w c.in-Is.b o c.requires c.if-w-eq0.false c.if-w-eq-INDEX.false r (q ∙ e)

@@ -1,0 +1,21 @@
+-- `c_steps::behind` meets its contract. Assumes nothing.
+use native.Mathlib.Omega.{arith}
+use mathlib.Core.Path.{subst}
+use Rattle.c_steps.specs.declared.Reached.{Reached}
+use Rattle.c_steps.specs.Turns.{Reaches}
+use Rattle.walks.specs.Walk.{on_of, moved_of}
+use Rattle.c_steps.proofs.behind.Goals as goal
+
+pub reach-requires : goal.reach-requires
+reach-requires c = c.requires.known_older
+
+pub onward-requires : goal.onward-requires
+onward-requires c = omega (arith, c.requires.ahead.below, c.well_formed)
+
+pub overflow_sub-result : goal.overflow_sub-result
+overflow_sub-result c = omega (arith, c.requires.ahead.some)
+
+pub returns : goal.returns
+unfolding moved_of on_of
+returns c = (let q : Reaches c.args.s.now c.args.r.hist c.args.w.older (Reached.Is c.in-Is.older c.in-Is.seen) = subst (λ (z : Reached). Reaches c.args.s.now c.args.r.hist c.args.w.older z) c.in-Is.is c.reach.ensures in
+    (rw c.onward.ensures (c.requires.ahead.steps c.in-Is.older q.0), (q.1, c.requires.ahead.ver)))

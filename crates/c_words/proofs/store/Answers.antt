@@ -1,0 +1,9 @@
+-- `c_words::store` meets its contract. Assumes nothing.
+use mathlib.Core.Path.{sym}
+use mathlib.Core.List.{[], ◌∷◌}
+use Rattle.spans.specs.Span.{put}
+use Rattle.c_words.proofs.Laws.{put_out}
+use Rattle.c_words.proofs.store.Goals as goal
+
+pub returns-else-k-out : goal.returns-else-k-out
+returns-else-k-out c = sym (put_out _ _ (c.args.w ∷ []) c.if-k-out.false)

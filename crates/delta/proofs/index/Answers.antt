@@ -1,0 +1,25 @@
+-- `delta::index` meets its contract. Assumes nothing.
+use native.Mathlib.Omega.{arith}
+use mathlib.Core.Path.{sym, ◌∙◌}
+use borrow.Author.Tests.{eq-eqb, ne_eqb}
+use Rattle.delta.specs.Read.{child_at}
+use Rattle.delta.proofs.Ends.{key-ends, val-ends}
+use Rattle.delta.proofs.index.Goals as goal
+
+pub returns-in_default : goal.returns-in_default
+unfolding child_at
+returns-in_default c = simp (← c.delta_of.ensures, c.in_default.is)
+
+pub overflow_add-p : goal.overflow_add-p
+overflow_add-p c = omega (arith, key-ends c.args.s.now c.args.a 2 c.in-Is.d (sym c.delta_of.ensures ∙ c.in-Is.is), c.well_formed)
+
+pub read_u64-requires : goal.read_u64-requires
+read_u64-requires c = omega (arith, val-ends c.args.s.now c.args.a 2 c.in-Is.d (sym c.delta_of.ensures ∙ c.in-Is.is), c.if-d-p.true)
+
+pub returns-then-d-p : goal.returns-then-d-p
+unfolding child_at
+returns-then-d-p c = simp (← c.delta_of.ensures, c.in-Is.is, eq-eqb _ _ c.if-d-p.true, c.read_u64.ensures)
+
+pub returns : goal.returns
+unfolding child_at
+returns c = simp (← c.delta_of.ensures, c.in-Is.is, ne_eqb _ _ c.if-d-p.false)

@@ -1,0 +1,38 @@
+-- `frames::open_at` meets its contract. Assumes nothing.
+use native.Mathlib.Omega.{arith}
+use Prim.Native.Nat.{◌+◌}
+use mathlib.Core.Path.{◌≡◌, sym, ◌∙◌}
+use lib.ListN.{length}
+use borrow.Author.Tests.{leb-true}
+use Rattle.frames.specs.declared.PageRead.{PageRead}
+use Rattle.frames.specs.Layout.{slots_at, page_at, open_at}
+use Rattle.frames.proofs.Frames.{page_sizes}
+use Rattle.frames.proofs.Judged.{plain-page}
+use Rattle.frames.proofs.open_at.Goals as goal
+
+pub fields-x-requires : goal.fields-x-requires
+fields-x-requires c = omega (arith, leb-true (c.args.a.0 + slots_at) (length c.args.s.now) (sym c.room.ensures ∙ c.if-room.true))
+
+pub overflow_add-at : goal.overflow_add-at
+overflow_add-at c = omega (arith, leb-true (c.args.a.0 + slots_at) (length c.args.s.now) (sym c.room.ensures ∙ c.if-room.true), c.well_formed)
+
+pub fields-h-requires : goal.fields-h-requires
+fields-h-requires c = omega (arith, leb-true (c.args.a.0 + slots_at) (length c.args.s.now) (sym c.room.ensures ∙ c.if-room.true))
+
+pub plain-requires : goal.plain-requires
+plain-requires c = omega (arith, leb-true (c.args.a.0 + slots_at) (length c.args.s.now) (sym c.room.ensures ∙ c.if-room.true), c.well_formed)
+
+-- a page that `plain` lets pass is read
+
+page : (c : tie.Then2) → page_at c.before.before.before.before.before.before.before.args.s.now c.before.before.before.before.before.before.before.args.a ≡ PageRead.Page c.before.before.before.fields.result c.before.before.fields2.result
+page c = plain-page c.before.before.before.before.before.before.before.args.s.now c.before.before.before.before.before.before.before.args.a _ _ (sym c.before.before.before.before.before.room.ensures ∙ c.before.before.before.before.if1.true) c.before.before.before.fields.ensures c.before.before.fields2.ensures (c.before.plain.ensures c.if2.true)
+
+pub body_of-requires : goal.body_of-requires
+body_of-requires c = omega (arith, page_sizes c.args.s.now c.args.a _ _ (page c), c.well_formed)
+
+pub returns-then-plain : goal.returns-then-plain
+unfolding open_at
+returns-then-plain c = simp (page c.before, c.body_of.ensures)
+
+pub returns : goal.returns
+returns c = c.any_at.ensures

@@ -1,0 +1,41 @@
+-- `pages::head_at` meets its contract. Assumes nothing.
+use native.Mathlib.Omega.{arith}
+use mathlib.Core.Path.{refl, sym, ◌∙◌}
+use Rattle.records.specs.Records.{rec_at}
+use Rattle.records.proofs.Inside.{slot-inside, val_no}
+use Rattle.records.proofs.Quick.{quick_is, short_head, slot-rec}
+use Rattle.pages.proofs.head_at.Goals as goal
+
+pub returns-in_default : goal.returns-in_default
+unfolding rec_at
+returns-in_default c = simp (← c.slot_at.ensures, c.in_default.is)
+
+pub quick_key-n-requires : goal.quick_key-n-requires
+quick_key-n-requires c = let all = (c.requires.inside, (c.requires.kind_value, omega (arith, slot-inside c.args.s.now c.args.b c.args.i c.in-At.p (sym c.slot_at.ensures ∙ c.in-At.is)))) in record { inside = all.0; kind_value = all.1; p_lt_end = all.2 }
+
+pub overflow_add-p : goal.overflow_add-p
+overflow_add-p c = omega (arith, (c.quick_key-n.ensures c.if-n-ne0.true).inside, c.requires.inside.payload, c.requires.inside.arena, c.well_formed)
+
+pub overflow_add-p-then-n-ne0 : goal.overflow_add-p-then-n-ne0
+overflow_add-p-then-n-ne0 c = omega (arith, (c.quick_key-n.ensures c.if-n-ne0.true).inside, c.requires.inside.payload, c.requires.inside.arena, c.well_formed)
+
+pub overflow_add-result : goal.overflow_add-result
+overflow_add-result c = omega (arith, (c.quick_key-n.ensures c.if-n-ne0.true).inside, c.requires.inside.payload, c.requires.inside.arena, c.well_formed)
+
+pub overflow_add-result-in-Is : goal.overflow_add-result-in-Is
+overflow_add-result-in-Is c = omega (arith, (c.quick_key-n.ensures c.if-n-ne0.true).inside, c.requires.inside.payload, c.requires.inside.arena, c.well_formed)
+
+pub overflow_add-result-in-Is-2 : goal.overflow_add-result-in-Is-2
+overflow_add-result-in-Is-2 c = omega (arith, (c.quick_key-n.ensures c.if-n-ne0.true).inside, (c.quick_key-n.ensures c.if-n-ne0.true).long, c.requires.inside.payload, c.requires.inside.arena, c.well_formed)
+
+pub overflow_sub-result : goal.overflow_sub-result
+overflow_sub-result c = omega (arith, (c.quick_key-n.ensures c.if-n-ne0.true).long)
+
+pub returns-in-Is : goal.returns-in-Is
+returns-in-Is c = sym (sym (slot-rec c.args.s.now c.args.b c.args.i c.in-At.p (sym c.slot_at.ensures ∙ c.in-At.is)) ∙ short_head c.args.s.now c.args.b c.in-At.p c.quick_key-n.result c.in-Is.hist c.in-Is.val_at c.in-Is.val_len c.in-Is.remote c.in-Is.next c.requires.kind_value (c.quick_key-n.ensures c.if-n-ne0.true) (quick_is _ c.quick_value.ensures c.in-Is.is (val_no _ _ _ _ _)))
+
+pub head_by-requires : goal.head_by-requires
+head_by-requires c = (omega (arith, c.requires.inside.payload, c.requires.inside.arena), omega (arith, c.requires.inside.prefix, c.requires.inside.slots, c.requires.inside.records, c.requires.inside.payload))
+
+pub returns : goal.returns
+returns c = c.head_by.ensures c.args.b c.requires.kind_value refl refl ∙ slot-rec c.args.s.now c.args.b c.args.i c.in-At.p (sym c.slot_at.ensures ∙ c.in-At.is)

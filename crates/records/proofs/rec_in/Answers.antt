@@ -1,0 +1,39 @@
+-- `records::rec_in` meets its contract. Assumes nothing.
+use native.Mathlib.Omega.{arith}
+use mathlib.Core.Path.{sym, ◌∙◌}
+use borrow.Author.Tests.{le-leb, lt-leb, eq-eqb, ne_eqb}
+use Rattle.records.specs.Records.{rec_in}
+use Rattle.records.proofs.Inside.{KeyInside, key-inside}
+use Rattle.records.proofs.rec_in.Goals as goal
+
+pub returns-in_default : goal.returns-in_default
+unfolding rec_in
+returns-in_default c = simp (← c.key_in.ensures, c.in_default.is)
+
+key : (c : tie.After_known-told) → KeyInside c.before.before.before.before.before.args.b c.before.ver-at.given.0.0 c.before.ver-at.given.0.1.0 c.before.ver-at.given.0.1.1.0
+key c = key-inside c.before.before.before.before.before.args.s.now c.before.before.before.before.before.args.b c.before.before.before.before.before.args.p c.before.ver-at.given.0.0 c.before.ver-at.given.0.1.0 c.before.ver-at.given.0.1.1.0 c.before.before.before.before.before.requires (sym c.before.before.before.key_in.ensures ∙ c.before.ver-at.given.1)
+
+pub overflow_add-q : goal.overflow_add-q
+overflow_add-q c = omega (arith, (key c).rest, c.requires, c.well_formed)
+
+pub overflow_add-q-then-b-eq-INDEX : goal.overflow_add-q-then-b-eq-INDEX
+overflow_add-q-then-b-eq-INDEX c = omega (arith, (key c.before.before).rest, c.requires.payload, c.requires.arena, c.well_formed)
+
+pub returns-then-b-q : goal.returns-then-b-q
+unfolding rec_in
+returns-then-b-q c = simp (← c.key_in.ensures, c.in-Key.is, eq-eqb _ _ c.if-b-eq-INDEX.true, lt-leb _ _ c.if-b-q.true)
+
+pub overflow_add-result : goal.overflow_add-result
+overflow_add-result c = omega (arith, (key c.before.before.before.before).rest, c.requires.payload, c.requires.arena, c.well_formed)
+
+pub returns-then-b-eq-INDEX : goal.returns-then-b-eq-INDEX
+unfolding rec_in
+returns-then-b-eq-INDEX c = simp (← c.key_in.ensures, c.in-Key.is, eq-eqb _ _ c.if-b-eq-INDEX.true, le-leb _ _ c.if-b-q.false)
+
+pub returns-in_default-val_in : goal.returns-in_default-val_in
+unfolding rec_in
+returns-in_default-val_in c = simp (← c.key_in.ensures, c.in-Key.is, ne_eqb _ _ c.if-b-eq-INDEX.false, ← c.val_in.ensures, c.in_default-val_in.is)
+
+pub returns : goal.returns
+unfolding rec_in
+returns c = simp (← c.key_in.ensures, c.in-Key.is, ne_eqb _ _ c.if-b-eq-INDEX.false, ← c.val_in.ensures, c.in-Is.is)

@@ -1,0 +1,24 @@
+-- `walks::OldPlace::turned` meets its contract. Assumes nothing.
+use native.Mathlib.Omega.{arith}
+use mathlib.Core.Path.{sym, ◌∙◌}
+use borrow.Author.Tests.{eq-eqb, ne_eqb}
+use Rattle.pages.proofs.Olds.{history-inside}
+use Rattle.walks.proofs.Lying.{front-few}
+use Rattle.walks.specs.Turned.{turned_at}
+use Rattle.walks.proofs.OldPlace.turned.Goals as goal
+
+pub returns-then-self-page : goal.returns-then-self-page
+unfolding turned_at
+returns-then-self-page c = simp (ne_eqb _ _ c.if-self-page.true)
+
+pub returns-in_default : goal.returns-in_default
+unfolding turned_at
+returns-in_default c = simp (eq-eqb _ _ c.if-self-page.false, ← c.history_at.ensures, c.in_default.is)
+
+pub older_on-requires : goal.older_on-requires
+older_on-requires c = let h = history-inside c.args.s.now c.args.self.link c.in-Is.d (sym c.history_at.ensures ∙ c.in-Is.is) in
+    omega (arith, front-few c.args.s.now c.in-Is.d h.inside, c.well_formed)
+
+pub returns : goal.returns
+unfolding turned_at
+returns c = simp (eq-eqb _ _ c.if-self-page.false, ← c.history_at.ensures, c.in-Is.is, c.older_on.ensures)
