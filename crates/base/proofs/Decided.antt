@@ -4,6 +4,7 @@ use mathlib.Core.Path.{◌≡◌, ◌∙◌, sym}
 use mathlib.Core.List.{List}
 use Prim.Native.Nat.{ℕ}
 use contract.Lifetimes.{Lfts}
+use denote.MutBor.{MutBor}
 use denote.Ref.{Bor}
 use denote.Triple.Clauses.{AtExit}
 use Rattle.spans.specs.Only.{Decides, decides}
@@ -20,12 +21,12 @@ use Rattle.base.proofs.new_leaf.Reads as leaf
 pub calc_prefix_decided : (κs : Lfts 2) (lo hi : Bor (List ℕ)) (x : AtExit calc_fn.ended κs) → Decides (λ (r : ℕ). calc.Post κs (lo, (hi, tt)) r x) (λ (r : ℕ). r)
 calc_prefix_decided κs lo hi x = decides (λ (r : ℕ). r) (common lo.now hi.now)
 
-pub new_intl_decided : (κs : Lfts 4) (a : Bor (List ℕ)) (next : ℕ) (l lo hi : Bor (List ℕ)) (s : PageId) (group txid lsn checkpoint : ℕ) (r r' : Built) (x x' : AtExit index_fn.ended κs)
+pub new_intl_decided : (κs : Lfts 4) (a : MutBor (List ℕ)) (next : ℕ) (l lo hi : Bor (List ℕ)) (s : PageId) (group txid lsn checkpoint : ℕ) (r r' : Built) (x x' : AtExit index_fn.ended κs)
     → index.Post κs (a, (next, (l, (lo, (hi, (s, (group, (txid, (lsn, (checkpoint, tt)))))))))) r x
     → index.Post κs (a, (next, (l, (lo, (hi, (s, (group, (txid, (lsn, (checkpoint, tt)))))))))) r' x' → (r ≡ r') × (x.0.now ≡ x'.0.now)
 new_intl_decided κs a next l lo hi s group txid lsn checkpoint r r' x x' h k = (h.0 ∙ sym k.0, h.1 ∙ sym k.1)
 
-pub new_leaf_decided : (κs : Lfts 4) (a : Bor (List ℕ)) (next : ℕ) (l lo hi : Bor (List ℕ)) (s : PageId) (limit budget group txid lsn checkpoint : ℕ) (r r' : Built) (x x' : AtExit leaf_fn.ended κs)
+pub new_leaf_decided : (κs : Lfts 4) (a : MutBor (List ℕ)) (next : ℕ) (l lo hi : Bor (List ℕ)) (s : PageId) (limit budget group txid lsn checkpoint : ℕ) (r r' : Built) (x x' : AtExit leaf_fn.ended κs)
     → leaf.Post κs (a, (next, (l, (lo, (hi, (s, (limit, (budget, (group, (txid, (lsn, (checkpoint, tt)))))))))))) r x
     → leaf.Post κs (a, (next, (l, (lo, (hi, (s, (limit, (budget, (group, (txid, (lsn, (checkpoint, tt)))))))))))) r' x' → (r ≡ r') × (x.0.now ≡ x'.0.now)
 new_leaf_decided κs a next l lo hi s limit budget group txid lsn checkpoint r r' x x' h k = (h.0 ∙ sym k.0, h.1 ∙ sym k.1)

@@ -1,5 +1,6 @@
 // Cutting old versions into history pages: arithmetic on sizes only.
 #![tactic(auto)]
+
 ghost use Rattle.std.specs.Prelude.{◌≡◌};
 ghost use Rattle.build_paging.specs.Cuts.{fits};
 

@@ -1,6 +1,7 @@
 // The clerk lent: one thin call takes the clerk itself, moves its mark and returns an address. Under it stands the clerk by value, above it
 // a call with plain parameters, which others use.
 #![tactic(auto)]
+
 ghost use Rattle.std.specs.Prelude.{◌≡◌};
 ghost use Rattle.frames.specs.Clerks.{taken_of};
 ghost use Rattle.clerks.specs.Lent.{clerk_of};

@@ -4,6 +4,7 @@ use mathlib.Core.Path.{◌≡◌, ◌∙◌, sym}
 use mathlib.Core.List.{List}
 use Prim.Native.Nat.{ℕ}
 use contract.Lifetimes.{Lfts}
+use denote.MutBor.{MutBor}
 use denote.Ref.{Bor}
 use denote.Triple.Clauses.{AtExit}
 use Rattle.spans.specs.Only.{Decides, decides}
@@ -36,7 +37,7 @@ module _ (κs : Lfts 3) (a : Bor (List ℕ)) (next limit group lsn ckpt : ℕ) (
       → leaf.Post κs (a, (next, (limit, (group, (lsn, (ckpt, (ver, (k, (v, tt))))))))) r' x' → (r ≡ r') × (x.0.now ≡ x'.0.now)
   leaf_decided h h' = (h.0 ∙ sym h'.0, h.1 ∙ sym h'.1)
 
-module _ (κs : Lfts 2) (a : Bor (List ℕ)) (next txid group lsn ckpt : ℕ) (k : Bor (List ℕ)) (page : PageId) (r r' : Built) (x x' : AtExit index_fn.ended κs) where
+module _ (κs : Lfts 2) (a : MutBor (List ℕ)) (next txid group lsn ckpt : ℕ) (k : Bor (List ℕ)) (page : PageId) (r r' : Built) (x x' : AtExit index_fn.ended κs) where
   pub index_decided : index.Post κs (a, (next, (txid, (group, (lsn, (ckpt, (k, (page, tt)))))))) r x
       → index.Post κs (a, (next, (txid, (group, (lsn, (ckpt, (k, (page, tt)))))))) r' x' → (r ≡ r') × (x.0.now ≡ x'.0.now)
   index_decided h h' = (h.0 ∙ sym h'.0, h.1 ∙ sym h'.1)

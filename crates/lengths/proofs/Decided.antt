@@ -6,6 +6,7 @@ use mathlib.Core.Bool.{true}
 use Prim.Native.Nat.{ℕ}
 use lib.ListN.{length}
 use contract.Lifetimes.{Lfts}
+use denote.MutBor.{MutBor}
 use denote.Ref.{Bor}
 use denote.Triple.Clauses.{AtExit}
 use Rattle.spans.specs.Only.{Decides, decides}
@@ -26,6 +27,6 @@ pub size_decided : (x : ℕ) (e : AtExit size_fn.ended tt) → Decides (λ (r : 
 size_decided x e = decides (λ (r : ℕ). r) (length (uleb x))
 
 -- the count and the buffer afterwards
-pub write_decided : (κs : Lfts 1) (buf : Bor (List ℕ)) (at x r r' : ℕ) (e e' : AtExit write_fn.ended κs)
+pub write_decided : (κs : Lfts 1) (buf : MutBor (List ℕ)) (at x r r' : ℕ) (e e' : AtExit write_fn.ended κs)
     → write.Post κs (buf, (at, (x, tt))) r e → write.Post κs (buf, (at, (x, tt))) r' e' → (r ≡ r') × (e.0.now ≡ e'.0.now)
 write_decided κs buf at x r r' e e' h k = stored_decided r r' e.0.now e'.0.now h k

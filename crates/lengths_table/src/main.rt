@@ -1,6 +1,7 @@
 // Encodes each number of standard input, one a line, as a length; reads it back; and prints the bytes, which the file `stdout` holds as
 // GNU as wrote them. Then forms that are no shortest form of a u32, each of which the reader must refuse.
 #![tactic(auto)]
+
 ghost use Rattle.std.specs.Prelude.{◌≤◌};
 
 use lengths::Length;

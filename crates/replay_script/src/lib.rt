@@ -1,5 +1,6 @@
 // The language of the judge's vectors (rust/oracle/README.md): a command's words read, and the pieces of an answer printed.
 #![tactic(auto)]
+
 use frames::{Addr, Refusal};
 
 const OUT: i32 = 1;

@@ -1,5 +1,6 @@
 // Versions, keys and values as a page holds them: read from arbitrary bytes, and stored where they fit.
 #![tactic(auto)]
+
 ghost use Rattle.std.specs.Prelude.{◌≡◌, ◌+◌, ◌≤◌, true, leb, length};
 ghost use Rattle.spans.specs.Span.{put, Stored};
 ghost use Rattle.frames.specs.Limits.{max_key, max_value};

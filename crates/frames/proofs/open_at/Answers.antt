@@ -9,6 +9,7 @@ use Rattle.frames.specs.Layout.{slots_at, page_at, open_at}
 use Rattle.frames.proofs.Frames.{page_sizes}
 use Rattle.frames.proofs.Judged.{plain-page}
 use Rattle.frames.proofs.open_at.Goals as goal
+use Rattle.frames.proofs.open_at.Goals.{Then-plain}
 
 pub fields-x-requires : goal.fields-x-requires
 fields-x-requires c = omega (arith, leb-true (c.args.a.0 + slots_at) (length c.args.s.now) (sym c.room.ensures ∙ c.if-room.true))
@@ -24,15 +25,17 @@ plain-requires c = omega (arith, leb-true (c.args.a.0 + slots_at) (length c.args
 
 -- a page that `plain` lets pass is read
 
-page : (c : tie.Then2) → page_at c.before.before.before.before.before.before.before.args.s.now c.before.before.before.before.before.before.before.args.a ≡ PageRead.Page c.before.before.before.fields.result c.before.before.fields2.result
-page c = plain-page c.before.before.before.before.before.before.before.args.s.now c.before.before.before.before.before.before.before.args.a _ _ (sym c.before.before.before.before.before.room.ensures ∙ c.before.before.before.before.if1.true) c.before.before.before.fields.ensures c.before.before.fields2.ensures (c.before.plain.ensures c.if2.true)
+page : (c : Then-plain) → page_at c.args.s.now c.args.a ≡ PageRead.Page c.fields-x.result c.fields-h.result
+page c = plain-page c.args.s.now c.args.a _ _ (sym c.room.ensures ∙ c.if-room.true) c.fields-x.ensures c.fields-h.ensures (c.plain.ensures c.if-plain.true)
 
 pub body_of-requires : goal.body_of-requires
-body_of-requires c = omega (arith, page_sizes c.args.s.now c.args.a _ _ (page c), c.well_formed)
+body_of-requires c =
+    let z = page_sizes c.args.s.now c.args.a _ _ (page (goal.at.body_of-requires c).Then-plain) in
+    record { payload_size_bound = omega (arith, z, c.well_formed); size_bound = omega (arith, z, c.well_formed); hi_len_bound = omega (arith, z, c.well_formed) }
 
 pub returns-then-plain : goal.returns-then-plain
 unfolding open_at
-returns-then-plain c = simp (page c.before, c.body_of.ensures)
+returns-then-plain c = simp (page (goal.at.returns-then-plain c).Then-plain, c.body_of.ensures)
 
 pub returns : goal.returns
 returns c = c.any_at.ensures

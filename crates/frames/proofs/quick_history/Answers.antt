@@ -22,7 +22,7 @@ pub history-requires : goal.history-requires
 history-requires c = omega (arith, leb-true (c.args.a.0 + slots_at) (length c.args.s.now) (sym c.room.ensures ∙ c.if-room.true), c.well_formed)
 
 pub body_of-requires : goal.body_of-requires
-body_of-requires c = omega (arith, page_sizes c.args.s.now c.args.a _ _ (plain-page c.args.s.now c.args.a _ _ (sym c.room.ensures ∙ c.if-room.true) c.fields-x.ensures c.fields-h.ensures (c.history.ensures c.if-history.true).0), c.well_formed)
+body_of-requires c = record { payload_size_bound = omega (arith, page_sizes c.args.s.now c.args.a _ _ (plain-page c.args.s.now c.args.a _ _ (sym c.room.ensures ∙ c.if-room.true) c.fields-x.ensures c.fields-h.ensures (c.history.ensures c.if-history.true).0), c.well_formed); size_bound = omega (arith, page_sizes c.args.s.now c.args.a _ _ (plain-page c.args.s.now c.args.a _ _ (sym c.room.ensures ∙ c.if-room.true) c.fields-x.ensures c.fields-h.ensures (c.history.ensures c.if-history.true).0), c.well_formed); hi_len_bound = omega (arith, page_sizes c.args.s.now c.args.a _ _ (plain-page c.args.s.now c.args.a _ _ (sym c.room.ensures ∙ c.if-room.true) c.fields-x.ensures c.fields-h.ensures (c.history.ensures c.if-history.true).0), c.well_formed) }
 
 pub returns-then-history : goal.returns-then-history
 returns-then-history c = λ b e. history_open c.args.s.now c.args.a b _ _ (plain-page c.args.s.now c.args.a _ _ (sym c.room.ensures ∙ c.if-room.true) c.fields-x.ensures c.fields-h.ensures (c.history.ensures c.if-history.true).0) (c.history.ensures c.if-history.true).1 _ c.body_of.ensures e

@@ -37,6 +37,6 @@ overflow_add-result c = omega (arith, long c.args.h c.args.remote c.args.n, c.st
 pub returns : goal.returns
 unfolding front_bytes
 returns c = let a = c.args in (
-      omega (arith, long a.h a.remote a.n, c.store_hist-p.ensures.0),
-      stored a.buf.now _ _ _ a.at _ (flag_of a.h.count a.remote) _ a.n (hist_bytes a.h) c.flag_of-flag.ensures c.put_u8.ensures c.store_hist-p.ensures.1 c.store_hist-p.ensures.0 c.put_u32.ensures,
-    )
+  omega (arith, long a.h a.remote a.n, c.store_hist-p.ensures.0),
+  stored a.buf.now _ _ _ a.at _ (flag_of a.h.count a.remote) _ a.n (hist_bytes a.h) c.flag_of-flag.ensures c.put_u8.ensures c.store_hist-p.ensures.1 c.store_hist-p.ensures.0 c.put_u32.ensures,
+)
