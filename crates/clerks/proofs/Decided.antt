@@ -10,7 +10,7 @@ use prog.Routine.{Routine}
 use types.Logic.{Logic}
 use contract.Lifetimes.{Lfts}
 use contract.Monad.{Fun, fact}
-use denote.Ref.{Bor}
+use denote.MutBor.{MutBor}
 use denote.Triple.Clauses.{AtExit}
 use Rattle.spans.specs.Only.{Decides, decides}
 use Rattle.frames.specs.declared.Addr.{Addr}
@@ -24,7 +24,7 @@ use Rattle.clerks.specs.contracts.alloc_from as alloc_from
 abbrev Allocated : Clerk → ℕ → Addr → Clerk → Type 0
 Allocated c n r c' = (r ≡ (taken_of c n).addr) × (c' ≡ (taken_of c n).clerk)
 
-pub alloc_says : {M : Type 1} {𝓤 : Ura M} (𝓛 : Logic 𝓤) (mem : Memory → SProp 𝓤) (run : Routine → Fun 𝓤) (κs : Lfts 1) (c : Bor Clerk) (n : ℕ) (r : Addr) (s : AtExit alloc.ended κs)
+pub alloc_says : {M : Type 1} {𝓤 : Ura M} (𝓛 : Logic 𝓤) (mem : Memory → SProp 𝓤) (run : Routine → Fun 𝓤) (κs : Lfts 1) (c : MutBor Clerk) (n : ℕ) (r : Addr) (s : AtExit alloc.ended κs)
     → (alloc.clauses 𝓛 mem run κs (c, (n, tt))).ensures tt r s ≡ fact 𝓤 (Allocated c.now n r s.0.now)
 alloc_says 𝓛 mem run κs c n r s = refl
 

@@ -32,7 +32,7 @@ use Rattle.delta.proofs.index.Reads as child-at
 
 -- ---- the two calls: the answer, and the arena afterwards
 
-module _ (κs : Lfts 3) (a : Bor (List ℕ)) (next limit group lsn ckpt : ℕ) (ver : Ver) (k v : Bor (List ℕ)) (r r' : Built) (x x' : AtExit leaf_fn.ended κs) where
+module _ (κs : Lfts 3) (a : MutBor (List ℕ)) (next limit group lsn ckpt : ℕ) (ver : Ver) (k v : Bor (List ℕ)) (r r' : Built) (x x' : AtExit leaf_fn.ended κs) where
   pub leaf_decided : leaf.Post κs (a, (next, (limit, (group, (lsn, (ckpt, (ver, (k, (v, tt))))))))) r x
       → leaf.Post κs (a, (next, (limit, (group, (lsn, (ckpt, (ver, (k, (v, tt))))))))) r' x' → (r ≡ r') × (x.0.now ≡ x'.0.now)
   leaf_decided h h' = (h.0 ∙ sym h'.0, h.1 ∙ sym h'.1)

@@ -5,6 +5,7 @@ use mathlib.Core.List.{List}
 use mathlib.Core.Bool.{Bool}
 use Prim.Native.Nat.{ℕ}
 use contract.Lifetimes.{Lfts}
+use denote.MutBor.{MutBor}
 use denote.Ref.{Bor}
 use denote.Triple.Clauses.{AtExit}
 use Rattle.spans.specs.Only.{Decides, decides}
@@ -51,7 +52,7 @@ calc_size_decided has limit n e = decides (λ (r : ℕ). r) (size_of has limit n
 
 -- ---- writers: the count and the buffer afterwards
 
-module _ (buf : Bor (List ℕ)) (at r r' : ℕ) where
+module _ (buf : MutBor (List ℕ)) (at r r' : ℕ) where
   module _ (κs : Lfts 1) where
     pub write_ver_decided : (v : Ver) (e e' : AtExit write_ver_fn.ended κs) → write_ver.Post κs (buf, (at, (v, tt))) r e → write_ver.Post κs (buf, (at, (v, tt))) r' e' → (r ≡ r') × (e.0.now ≡ e'.0.now)
     write_ver_decided v e e' h k = stored_decided r r' e.0.now e'.0.now h k
@@ -69,7 +70,7 @@ module _ (buf : Bor (List ℕ)) (at r r' : ℕ) where
     pub leaf_key_decided : (v : Ver) (e e' : AtExit leaf_key_fn.ended κs) → leaf_key_lem.Post κs (buf, (at, (v, (x, tt)))) r e → leaf_key_lem.Post κs (buf, (at, (v, (x, tt)))) r' e' → (r ≡ r') × (e.0.now ≡ e'.0.now)
     leaf_key_decided v e e' h k = stored_decided r r' e.0.now e'.0.now h k
 
-    pub index_key_decided : (e e' : AtExit index_key_fn.ended κs) → index_key.Post κs (buf, (at, (x, tt))) r e → index_key.Post κs (buf, (at, (x, tt))) r' e' → (r ≡ r') × (e.0.now ≡ e'.0.now)
+    pub index_key_decided : (e e' : AtExit index_key_fn.ended κs) → index_key_lem.Post κs (buf, (at, (x, tt))) r e → index_key_lem.Post κs (buf, (at, (x, tt))) r' e' → (r ≡ r') × (e.0.now ≡ e'.0.now)
     index_key_decided e e' h k = stored_decided r r' e.0.now e'.0.now h k
 
     pub inline_decided : (g : HistRef) (e e' : AtExit inline_fn.ended κs) → inline.Post κs (buf, (at, (g, (x, tt)))) r e → inline.Post κs (buf, (at, (g, (x, tt)))) r' e' → (r ≡ r') × (e.0.now ≡ e'.0.now)

@@ -31,13 +31,13 @@ pub overflow_cast-t-2 : goal.overflow_cast-t-2
 overflow_cast-t-2 c = omega (arith, c.requires.room_le_max_size.1.0 c.if-room-eq0.false, c.requires.room_in_bounds, c.requires.room_le_max_size.0, c.requires.room_le_max_size.1.1, c.well_formed.0)
 
 pub put_u32-requires-2 : goal.put_u32-requires-2
-put_u32-requires-2 c = omega (arith, c.requires.room_le_max_size.1.0 c.if-room-eq0.false, c.requires.room_in_bounds, c.put_u32.auto.0)
+put_u32-requires-2 c = omega (arith, c.requires.room_le_max_size.1.0 c.if-room-eq0.false, c.requires.room_in_bounds, c.put_u32.auto.buf)
 
 pub overflow_sub-at : goal.overflow_sub-at
 overflow_sub-at c = omega (arith, c.requires.room_le_max_size.1.0 c.if-room-eq0.false, c.requires.room_in_bounds, c.requires.room_le_max_size.0, c.requires.room_le_max_size.1.1, c.well_formed.0)
 
 pub zeros-requires : goal.zeros-requires
-zeros-requires c = omega (arith, c.requires.room_le_max_size.1.0 c.if-room-eq0.false, c.requires.room_in_bounds, c.put_u32.auto.0, c.put_u32-2.auto.0)
+zeros-requires c = omega (arith, c.requires.room_le_max_size.1.0 c.if-room-eq0.false, c.requires.room_in_bounds, c.put_u32.auto.buf, c.put_u32-2.auto.buf)
 
 pub overflow_mul-result : goal.overflow_mul-result
 overflow_mul-result c = omega (arith, c.requires.room_le_max_size.1.0 c.if-room-eq0.false, c.requires.room_in_bounds, c.requires.room_le_max_size.0, c.requires.room_le_max_size.1.1, c.well_formed.0)

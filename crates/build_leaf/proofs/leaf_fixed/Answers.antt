@@ -43,7 +43,7 @@ pub hint_counts-requires : goal.hint_counts-requires
 hint_counts-requires c = let all = counts_asks c.args.a.now c.args.ground c.args.m c.args.t c.args.e c.args.remote c.args.lo.now c.args.hi.now c.requires.fixes c.requires.both_within _ c.leaf_head.ensures _ c.put_boundary.ensures _ c.put_boundary-2.ensures _ c.zeros.ensures in record { room_in_bounds = all.0; room_le_max_size = all.1; remotes_bound = all.2; aged_le_remotes = all.3 }
 
 pub shape_of-a : goal.shape_of-a
-shape_of-a c = omega (arith, c.leaf_head.auto.0, c.put_boundary.auto.0, c.put_boundary-2.auto.0, c.zeros.auto.0, c.hint_counts.auto.0)
+shape_of-a c = omega (arith, c.leaf_head.auto.a, c.put_boundary.auto.a, c.put_boundary-2.auto.a, c.zeros.auto.dst, c.hint_counts.auto.a)
 
 pub returns : goal.returns
 returns c = record {

@@ -27,7 +27,7 @@ pub overflow_sub-q : goal.overflow_sub-q
 overflow_sub-q c = omega (arith, (tail_fits (list_from c.args.list.now 5) c.args.a.now c.args.ground c.args.at c.args.m c.args.t c.args.lo.now c.args.hi.now c.args.e c.requires.ground_le_at c.requires.sane.1.0 c.requires.sane.1.1.0 c.requires.sane.1.1.1.1.0 c.requires.sane.1.1.1.1.1.0 c.requires.sane.1.1.1.1.1.1.0 c.requires.sane.1.1.1.1.1.1.1 _ refl _ refl _ c.leaf_open-o.ensures.a_after _ c.leaf_open-o.ensures.value _ _ c.pen_all-z.ensures.value c.pen_all-z.ensures.a_after).0)
 
 pub zeros-requires : goal.zeros-requires
-zeros-requires c = let f = tail_fits (list_from c.args.list.now 5) c.args.a.now c.args.ground c.args.at c.args.m c.args.t c.args.lo.now c.args.hi.now c.args.e c.requires.ground_le_at c.requires.sane.1.0 c.requires.sane.1.1.0 c.requires.sane.1.1.1.1.0 c.requires.sane.1.1.1.1.1.0 c.requires.sane.1.1.1.1.1.1.0 c.requires.sane.1.1.1.1.1.1.1 _ refl _ refl _ c.leaf_open-o.ensures.a_after _ c.leaf_open-o.ensures.value _ _ c.pen_all-z.ensures.value c.pen_all-z.ensures.a_after in omega (arith, f.0, f.1, c.leaf_open-o.auto.0, c.pen_all-z.auto.0)
+zeros-requires c = let f = tail_fits (list_from c.args.list.now 5) c.args.a.now c.args.ground c.args.at c.args.m c.args.t c.args.lo.now c.args.hi.now c.args.e c.requires.ground_le_at c.requires.sane.1.0 c.requires.sane.1.1.0 c.requires.sane.1.1.1.1.0 c.requires.sane.1.1.1.1.1.0 c.requires.sane.1.1.1.1.1.1.0 c.requires.sane.1.1.1.1.1.1.1 _ refl _ refl _ c.leaf_open-o.ensures.a_after _ c.leaf_open-o.ensures.value _ _ c.pen_all-z.ensures.value c.pen_all-z.ensures.a_after in omega (arith, f.0, f.1, c.leaf_open-o.auto.a, c.pen_all-z.auto.a)
 
 pub returns : goal.returns
 returns c = let all = leaf_done (list_from c.args.list.now 5) c.args.a.now c.args.ground c.args.at c.args.m c.args.t c.args.lo.now c.args.hi.now c.args.e c.requires.ground_le_at c.requires.sane.1.0 c.requires.sane.1.1.0 c.requires.sane.1.1.1.1.0 c.requires.sane.1.1.1.1.1.0 c.requires.sane.1.1.1.1.1.1.0 c.requires.sane.1.1.1.1.1.1.1 _ refl _ refl _ c.leaf_open-o.ensures.a_after _ c.leaf_open-o.ensures.value _ _ c.pen_all-z.ensures.value c.pen_all-z.ensures.a_after _ c.zeros.ensures in record { value = all.0; a_after = all.1 }

@@ -26,10 +26,10 @@ pub overflow_sub-end : goal.overflow_sub-end
 overflow_sub-end c = omega (arith, c.frame_len.ensures, frame-least c.args.r.size)
 
 pub zeros-requires : goal.zeros-requires
-zeros-requires c = omega (arith, c.requires.fits, c.frame_len.ensures, frame-least c.args.r.size, c.hist_head.auto.0)
+zeros-requires c = omega (arith, c.requires.fits, c.frame_len.ensures, frame-least c.args.r.size, c.hist_head.auto.a)
 
 pub put_u64-requires : goal.put_u64-requires
-put_u64-requires c = omega (arith, c.requires.hint, c.hist_head.auto.0, c.zeros.auto.0)
+put_u64-requires c = omega (arith, c.requires.hint, c.hist_head.auto.a, c.zeros.auto.dst)
 
 pub overflow_add-t : goal.overflow_add-t
 overflow_add-t c = omega (arith, c.requires.fits, c.requires.least, frame-least c.args.r.size, c.well_formed.0)

@@ -15,22 +15,22 @@ pub next-requires : goal.next-requires
 next-requires c = let all = (c.loop-k.invariant.1, (omega (arith, c.loop-k-test.true), ((omega (arith, c.less.ensures, c.whole_in-fit.ensures.upper_bound), omega (arith, c.less.ensures, c.whole_in-fit.ensures.result_bound, c.loop-k.invariant.0.place, c.loop-k.invariant.0.long)), omega (arith, c.loop-k.invariant.0.place, c.loop-k.invariant.0.few, c.requires)))) in record { known_older = all.0; room_nonzero = all.1; fit_le_room = all.2; room_bound = all.3 }
 
 pub overflow_mul-at : goal.overflow_mul-at
-overflow_mul-at c = (let q : Turns c.args.s.now (c.args.room - c.loop-k.k) c.loop-k.at c.loop-k.w c.loop-k.out (Turn.On c.in-On.n c.in-On.v c.in-On.seen) c.next.new.1.1.1.0 = subst (λ (z : Turn). Turns c.args.s.now (c.args.room - c.loop-k.k) c.loop-k.at c.loop-k.w c.loop-k.out z c.next.new.1.1.1.0) c.in-On.is c.next.ensures in omega (arith, q.0.few, c.requires))
+overflow_mul-at c = (let q : Turns c.args.s.now (c.args.room - c.loop-k.k) c.loop-k.at c.loop-k.w c.loop-k.out (Turn.On c.in-On.n c.in-On.v c.in-On.seen) c.next.new.out = subst (λ (z : Turn). Turns c.args.s.now (c.args.room - c.loop-k.k) c.loop-k.at c.loop-k.w c.loop-k.out z c.next.new.out) c.in-On.is c.next.ensures in omega (arith, q.0.few, c.requires))
 
 pub overflow_add-at : goal.overflow_add-at
-overflow_add-at c = (let q : Turns c.args.s.now (c.args.room - c.loop-k.k) c.loop-k.at c.loop-k.w c.loop-k.out (Turn.On c.in-On.n c.in-On.v c.in-On.seen) c.next.new.1.1.1.0 = subst (λ (z : Turn). Turns c.args.s.now (c.args.room - c.loop-k.k) c.loop-k.at c.loop-k.w c.loop-k.out z c.next.new.1.1.1.0) c.in-On.is c.next.ensures in omega (arith, q.0.few, c.loop-k.invariant.0.place, c.loop-k.invariant.0.few, c.requires))
+overflow_add-at c = (let q : Turns c.args.s.now (c.args.room - c.loop-k.k) c.loop-k.at c.loop-k.w c.loop-k.out (Turn.On c.in-On.n c.in-On.v c.in-On.seen) c.next.new.out = subst (λ (z : Turn). Turns c.args.s.now (c.args.room - c.loop-k.k) c.loop-k.at c.loop-k.w c.loop-k.out z c.next.new.out) c.in-On.is c.next.ensures in omega (arith, q.0.few, c.loop-k.invariant.0.place, c.loop-k.invariant.0.few, c.requires))
 
 pub overflow_add-k : goal.overflow_add-k
-overflow_add-k c = (let q : Turns c.args.s.now (c.args.room - c.loop-k.k) c.loop-k.at c.loop-k.w c.loop-k.out (Turn.On c.in-On.n c.in-On.v c.in-On.seen) c.next.new.1.1.1.0 = subst (λ (z : Turn). Turns c.args.s.now (c.args.room - c.loop-k.k) c.loop-k.at c.loop-k.w c.loop-k.out z c.next.new.1.1.1.0) c.in-On.is c.next.ensures in omega (arith, q.0.few, c.loop-k.invariant.0.few, c.requires))
+overflow_add-k c = (let q : Turns c.args.s.now (c.args.room - c.loop-k.k) c.loop-k.at c.loop-k.w c.loop-k.out (Turn.On c.in-On.n c.in-On.v c.in-On.seen) c.next.new.out = subst (λ (z : Turn). Turns c.args.s.now (c.args.room - c.loop-k.k) c.loop-k.at c.loop-k.w c.loop-k.out z c.next.new.out) c.in-On.is c.next.ensures in omega (arith, q.0.few, c.loop-k.invariant.0.few, c.requires))
 
 pub loop-k-smaller : goal.loop-k-smaller
-loop-k-smaller c = (let q : Turns c.args.s.now (c.args.room - c.loop-k.k) c.loop-k.at c.loop-k.w c.loop-k.out (Turn.On c.in-On.n c.in-On.v c.in-On.seen) c.next.new.1.1.1.0 = subst (λ (z : Turn). Turns c.args.s.now (c.args.room - c.loop-k.k) c.loop-k.at c.loop-k.w c.loop-k.out z c.next.new.1.1.1.0) c.in-On.is c.next.ensures in omega (arith, q.1.1, c.loop-k-test.true))
+loop-k-smaller c = (let q : Turns c.args.s.now (c.args.room - c.loop-k.k) c.loop-k.at c.loop-k.w c.loop-k.out (Turn.On c.in-On.n c.in-On.v c.in-On.seen) c.next.new.out = subst (λ (z : Turn). Turns c.args.s.now (c.args.room - c.loop-k.k) c.loop-k.at c.loop-k.w c.loop-k.out z c.next.new.out) c.in-On.is c.next.ensures in omega (arith, q.1.1, c.loop-k-test.true))
 
 pub loop-k-preserved : goal.loop-k-preserved
-loop-k-preserved c = (let q : Turns c.args.s.now (c.args.room - c.loop-k.k) c.loop-k.at c.loop-k.w c.loop-k.out (Turn.On c.in-On.n c.in-On.v c.in-On.seen) c.next.new.1.1.1.0 = subst (λ (z : Turn). Turns c.args.s.now (c.args.room - c.loop-k.k) c.loop-k.at c.loop-k.w c.loop-k.out z c.next.new.1.1.1.0) c.in-On.is c.next.ensures in (filling_join _ _ _ _ _ _ _ _ _ c.loop-k.invariant.0 _ _ _ _ q.0, q.1.0))
+loop-k-preserved c = (let q : Turns c.args.s.now (c.args.room - c.loop-k.k) c.loop-k.at c.loop-k.w c.loop-k.out (Turn.On c.in-On.n c.in-On.v c.in-On.seen) c.next.new.out = subst (λ (z : Turn). Turns c.args.s.now (c.args.room - c.loop-k.k) c.loop-k.at c.loop-k.w c.loop-k.out z c.next.new.out) c.in-On.is c.next.ensures in (filling_join _ _ _ _ _ _ _ _ _ c.loop-k.invariant.0 _ _ _ _ q.0, q.1.0))
 
 pub returns-in-Stop : goal.returns-in-Stop
-returns-in-Stop c = let all = (let q = subst (λ (z : Turn). Turns c.args.s.now (c.args.room - c.loop-k.k) c.loop-k.at c.loop-k.w c.loop-k.out z c.next.new.1.1.1.0) c.in-Stop.is c.next.ensures in filling_stop _ _ _ _ _ _ _ _ _ c.loop-k.invariant.0 _ _ q) in record { value = all.0; out_after = all.1 }
+returns-in-Stop c = let all = (let q = subst (λ (z : Turn). Turns c.args.s.now (c.args.room - c.loop-k.k) c.loop-k.at c.loop-k.w c.loop-k.out z c.next.new.out) c.in-Stop.is c.next.ensures in filling_stop _ _ _ _ _ _ _ _ _ c.loop-k.invariant.0 _ _ q) in record { value = all.0; out_after = all.1 }
 
 pub returns : goal.returns
 returns c = let all = filling_full _ _ _ _ _ _ _ _ _ c.loop-k.invariant.0 c.loop-k-test.false in record { value = all.0; out_after = all.1 }

@@ -9,4 +9,4 @@ pub loop-at-smaller : goal.loop-at-smaller
 loop-at-smaller c = omega (arith, c.find-e.ensures.from)
 
 pub loop-at-preserved : goal.loop-at-preserved
-loop-at-preserved c = (omega arith, omega (arith, c.turn-now.auto.1.0), omega (arith, c.turn-now.auto.1.1.0))
+loop-at-preserved c = (omega arith, omega (arith, c.turn-now.auto.arena), omega (arith, c.turn-now.auto.second))

@@ -26,10 +26,10 @@ pub put_u8-requires : goal.put_u8-requires
 put_u8-requires c = omega (arith, long c.args.h c.args.remote c.args.n)
 
 pub store_hist-p-requires : goal.store_hist-p-requires
-store_hist-p-requires c = omega (arith, long c.args.h c.args.remote c.args.n, c.put_u8.auto.0)
+store_hist-p-requires c = omega (arith, long c.args.h c.args.remote c.args.n, c.put_u8.auto.buf)
 
 pub put_u32-requires : goal.put_u32-requires
-put_u32-requires c = omega (arith, long c.args.h c.args.remote c.args.n, c.store_hist-p.ensures.0, c.store_hist-p.auto.0, c.put_u8.auto.0)
+put_u32-requires c = omega (arith, long c.args.h c.args.remote c.args.n, c.store_hist-p.ensures.0, c.store_hist-p.auto.buf, c.put_u8.auto.buf)
 
 pub overflow_add-result : goal.overflow_add-result
 overflow_add-result c = omega (arith, long c.args.h c.args.remote c.args.n, c.store_hist-p.ensures.0)

@@ -20,7 +20,7 @@ overflow_add-p c = let a = c.args in
 pub store_ver-requires : goal.store_ver-requires
 store_ver-requires c = let a = c.args in
     let l = length-leaf_front a.v a.n in
-    omega (arith, l, c.write-k.auto.0, stored-count true a.buf.now a.at (uleb (12 + a.n)) _ _ c.write-k.ensures refl (omega (arith, l)))
+    omega (arith, l, c.write-k.auto.buf, stored-count true a.buf.now a.at (uleb (12 + a.n)) _ _ c.write-k.ensures refl (omega (arith, l)))
 
 pub overflow_add-result : goal.overflow_add-result
 overflow_add-result c = let a = c.args in

@@ -32,7 +32,7 @@ pub copy-requires : goal.copy-requires
 copy-requires c = let a = c.args in
     let r = a.rest.now in
     let h = leb-true (a.at + (c.size.result + length r)) (length a.buf.now) (sym c.room.ensures ∙ c.if-room.true) in
-    omega (arith, h, c.size.ensures, c.write.auto.0, stored-count true a.buf.now a.at (uleb (length r)) _ _ c.write.ensures refl (omega (arith, h, c.size.ensures)))
+    omega (arith, h, c.size.ensures, c.write.auto.buf, stored-count true a.buf.now a.at (uleb (length r)) _ _ c.write.ensures refl (omega (arith, h, c.size.ensures)))
 
 pub returns-then-room : goal.returns-then-room
 unfolding index_key

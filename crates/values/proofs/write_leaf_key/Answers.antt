@@ -32,7 +32,7 @@ store_leaf_front-p-requires c = let a = c.args in
 pub copy-requires : goal.copy-requires
 copy-requires c = let a = c.args in
     let h = leb-true (a.at + (c.size.result + 12 + length a.rest.now)) (length a.buf.now) (sym c.room.ensures ∙ c.if-room.true) in
-    omega (arith, h, c.size.ensures, length-leaf_front a.v (length a.rest.now), c.store_leaf_front-p.ensures.0, c.store_leaf_front-p.auto.0)
+    omega (arith, h, c.size.ensures, length-leaf_front a.v (length a.rest.now), c.store_leaf_front-p.ensures.0, c.store_leaf_front-p.auto.buf)
 
 pub returns-then-room : goal.returns-then-room
 unfolding leaf_key

@@ -10,14 +10,14 @@ small true = omega arith
 small false = omega arith
 
 pub overflow_add-result-then-n-limit : goal.overflow_add-result-then-n-limit
-overflow_add-result-then-n-limit c = omega (arith, c.hist_size-front.ensures, small c.args.has_hist_lem)
+overflow_add-result-then-n-limit c = omega (arith, c.hist_size-front.ensures, small c.args.has_hist)
 
 pub returns-then-n-limit : goal.returns-then-n-limit
 unfolding size_of
 returns-then-n-limit c = simp (lt-ltb _ _ c.if-n-limit.true, c.hist_size-front.ensures)
 
 pub overflow_add-result-2 : goal.overflow_add-result-2
-overflow_add-result-2 c = omega (arith, c.hist_size-front.ensures, small c.args.has_hist_lem)
+overflow_add-result-2 c = omega (arith, c.hist_size-front.ensures, small c.args.has_hist)
 
 pub returns : goal.returns
 unfolding size_of

@@ -29,7 +29,7 @@ store_front-p-requires c = let a = c.args in
 pub copy-requires : goal.copy-requires
 copy-requires c = let a = c.args in
     let h = leb-true (a.at + (c.front_size.result + length a.v.now)) (length a.buf.now) (sym c.room.ensures ∙ c.if-room.true) in
-    omega (arith, h, c.front_size.ensures, length_front a.h false (length a.v.now), c.store_front-p.ensures.0, c.store_front-p.auto.0)
+    omega (arith, h, c.front_size.ensures, length_front a.h false (length a.v.now), c.store_front-p.ensures.0, c.store_front-p.auto.buf)
 
 pub returns-then-room : goal.returns-then-room
 unfolding inline_bytes

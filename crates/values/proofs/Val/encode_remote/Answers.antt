@@ -29,7 +29,7 @@ store_front-p-requires c = let a = c.args in
 pub put_u64-requires : goal.put_u64-requires
 put_u64-requires c = let a = c.args in
     let h = leb-true (a.at + (c.front_size-k.result + 8)) (length a.buf.now) (sym c.room.ensures ∙ c.if-room.true) in
-    omega (arith, h, c.front_size-k.ensures, length_front a.h true a.n, c.store_front-p.ensures.0, c.store_front-p.auto.0)
+    omega (arith, h, c.front_size-k.ensures, length_front a.h true a.n, c.store_front-p.ensures.0, c.store_front-p.auto.buf)
 
 pub returns-then-room : goal.returns-then-room
 unfolding remote_bytes
