@@ -1,5 +1,6 @@
 // Pages: what a page says, the check that decides whether it says anything, its boundaries, its old versions and its hints.
 #![tactic(auto)]
+
 ghost use Rattle.std.specs.Prelude.{◌≡◌, true, ◌+◌, ◌*◌, ◌≤◌, ◌<◌, length};
 ghost use Rattle.numbers.specs.Number.{le_at};
 ghost use Rattle.frames.specs.Layout.{base_len, Inside};

@@ -1,5 +1,6 @@
 // A page's parts: one decoder of a record at a slot, for leaf, index and history pages; its prefix, lent on.
 #![tactic(auto)]
+
 ghost use Rattle.std.specs.Prelude.{◌≡◌, ◌+◌, ◌≤◌, ◌<◌, true, false, length};
 ghost use Rattle.frames.specs.declared.Body.{Body};
 ghost use Rattle.frames.specs.Layout.{Inside};

@@ -8,7 +8,7 @@ use Rattle.build_heads.proofs.HeadPass.{recs_begin, recs-end, settle_asks, beyon
 use Rattle.build_heads.proofs.head_recs.Goals as goal
 
 pub loop-i-init : goal.loop-i-init
-loop-i-init c = recs_begin _ _ _ _ _ _ _ _ _ c.requires.ground_le_at c.requires.sane.1.0 c.requires.sane.1.1.0 c.requires.sane.1.1.1.0 c.requires.sane.1.1.1.1.0 c.requires.sane.1.1.1.1.1
+loop-i-init c = recs_begin _ _ _ _ _ _ _ _ _ c.requires.ground_le_at c.requires.long c.requires.from_len_bound c.requires.from_in_bounds c.requires.from_in_bounds_2 c.requires.from_in_bounds_3
 
 pub slice_bounds-next-end : goal.slice_bounds-next-end
 slice_bounds-next-end c = let v = c.loop-i.invariant.writing in omega (arith, v.over, v.room)
@@ -29,7 +29,10 @@ pub slice_bounds-settle-end-in-Got : goal.slice_bounds-settle-end-in-Got
 slice_bounds-settle-end-in-Got c = let v = c.loop-i.invariant.writing in sym (length-take-le _ _ (omega (arith, v.over, v.room)))
 
 pub settle-q-requires : goal.settle-q-requires
-settle-q-requires c = let all = settle_asks _ _ _ _ _ _ _ _ _ _ _ _ c.loop-i.invariant (omega (arith, c.well_formed.0)) c.requires.sane.0 in record { sane = all.0; c_bound = all.1 }
+settle-q-requires c = let all = settle_asks _ _ _ _ _ _ _ _ _ _ _ _ c.loop-i.invariant (omega (arith, c.well_formed.0)) c.requires.sane in record {
+        sane = all.0;
+        c_bound = all.1;
+    }
 
 pub overflow_cast-h : goal.overflow_cast-h
 overflow_cast-h c = let z = q_slots _ _ _ _ _ _ _ _ _ _ _ _ c.loop-i.invariant _ _ (got _ _ _ _ _ c.loop-i.invariant.writing.same c.next-st.ensures _ _ c.in-Got.is) _ c.run_of-k.ensures _ c.names-named.ensures _ c.settle-q.ensures in omega (arith, z)
@@ -44,7 +47,12 @@ pub overflow_add-beyond : goal.overflow_add-beyond
 overflow_add-beyond c = let z = beyond_fits _ _ _ _ _ _ _ _ _ _ _ _ c.loop-i.invariant _ _ (got _ _ _ _ _ c.loop-i.invariant.writing.same c.next-st.ensures _ _ c.in-Got.is) in omega (arith, z, c.remote_step.ensures, c.well_formed.0)
 
 pub put_head-to-requires : goal.put_head-to-requires
-put_head-to-requires c = let all = head_asks _ _ _ _ _ _ _ _ _ _ _ _ c.loop-i.invariant _ _ (got _ _ _ _ _ c.loop-i.invariant.writing.same c.next-st.ensures _ _ c.in-Got.is) _ c.run_of-k.ensures _ c.names-named.ensures _ c.settle-q.ensures in record { ground_le_at = all.0; placed = all.1; p_bound = all.2; i_in_bounds = all.3 }
+put_head-to-requires c = let all = head_asks _ _ _ _ _ _ _ _ _ _ _ _ c.loop-i.invariant _ _ (got _ _ _ _ _ c.loop-i.invariant.writing.same c.next-st.ensures _ _ c.in-Got.is) _ c.run_of-k.ensures _ c.names-named.ensures _ c.settle-q.ensures in record {
+        ground_le_at = all.0;
+        placed = all.1.0;
+        p_bound = all.1.1.0;
+        i_in_bounds = all.1.1.1;
+    }
 
 pub onward-loc-requires : goal.onward-loc-requires
 onward-loc-requires c = record {
@@ -62,10 +70,16 @@ pub shape_of-a-in-End : goal.shape_of-a-in-End
 shape_of-a-in-End c = c.loop-i.invariant.writing.long
 
 pub returns-in-End : goal.returns-in-End
-returns-in-End c = let all = recs-end _ _ _ _ _ _ _ _ _ _ _ _ c.loop-i.invariant (at-end _ _ _ _ _ c.loop-i.invariant.writing.same c.next-st.ensures c.in-End.is).0 in record { value = all.0; a_after = all.1 }
+returns-in-End c = let all = recs-end _ _ _ _ _ _ _ _ _ _ _ _ c.loop-i.invariant (at-end _ _ _ _ _ c.loop-i.invariant.writing.same c.next-st.ensures c.in-End.is).0 in record {
+        value = all.0;
+        a_after = all.1;
+    }
 
 pub shape_of-a-in-Bad : goal.shape_of-a-in-Bad
 shape_of-a-in-Bad c = c.loop-i.invariant.writing.long
 
 pub returns-in-Bad : goal.returns-in-Bad
-returns-in-Bad c = let all = recs-end _ _ _ _ _ _ _ _ _ _ _ _ c.loop-i.invariant (at_bad _ _ _ _ _ c.loop-i.invariant.writing.same c.next-st.ensures c.in-Bad.is).0 in record { value = all.0; a_after = all.1 }
+returns-in-Bad c = let all = recs-end _ _ _ _ _ _ _ _ _ _ _ _ c.loop-i.invariant (at_bad _ _ _ _ _ c.loop-i.invariant.writing.same c.next-st.ensures c.in-Bad.is).0 in record {
+        value = all.0;
+        a_after = all.1;
+    }

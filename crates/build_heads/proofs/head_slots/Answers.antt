@@ -9,7 +9,7 @@ use Rattle.build_heads.proofs.SlotPass.{slots_end, step_asks, slot_asks, off_sma
 use Rattle.build_heads.proofs.head_slots.Goals as goal
 
 pub loop-i-init : goal.loop-i-init
-loop-i-init c = record { writing = begin _ _ _ _ c.requires.ground_le_at c.requires.long.1.0; long = c.requires.long.0; small = c.requires.long.1.1 }
+loop-i-init c = record { writing = begin _ _ _ _ c.requires.ground_le_at c.requires.from_in_bounds; long = c.requires.long; small = c.requires.from_bound }
 
 pub slice_bounds-next-end : goal.slice_bounds-next-end
 slice_bounds-next-end c = let v = c.loop-i.invariant.writing in omega (arith, v.over, v.room)
@@ -24,10 +24,16 @@ pub slice_bounds-slot_step-end-in-Got : goal.slice_bounds-slot_step-end-in-Got
 slice_bounds-slot_step-end-in-Got c = let v = c.loop-i.invariant.writing in sym (length-take-le _ _ (omega (arith, v.over, v.room)))
 
 pub slot_step-n-requires : goal.slot_step-n-requires
-slot_step-n-requires c = let all = step_asks _ _ _ _ _ _ _ _ _ _ c.loop-i.invariant _ _ (got _ _ _ _ _ c.loop-i.invariant.writing.same c.next-st.ensures _ _ c.in-Got.is) in record { placed = all.0; p_bound = all.1 }
+slot_step-n-requires c = let all = step_asks _ _ _ _ _ _ _ _ _ _ c.loop-i.invariant _ _ (got _ _ _ _ _ c.loop-i.invariant.writing.same c.next-st.ensures _ _ c.in-Got.is) in record {
+        placed = all.0;
+        p_bound = all.1;
+    }
 
 pub put_slot-to-requires : goal.put_slot-to-requires
-put_slot-to-requires c = let all = slot_asks _ _ _ _ _ _ _ _ _ _ c.loop-i.invariant _ _ (got _ _ _ _ _ c.loop-i.invariant.writing.same c.next-st.ensures _ _ c.in-Got.is) in record { off_in_bounds = all.0; off_bound = all.1 }
+put_slot-to-requires c = let all = slot_asks _ _ _ _ _ _ _ _ _ _ c.loop-i.invariant _ _ (got _ _ _ _ _ c.loop-i.invariant.writing.same c.next-st.ensures _ _ c.in-Got.is) in record {
+        off_in_bounds = all.0;
+        off_bound = all.1;
+    }
 
 pub overflow_add-off : goal.overflow_add-off
 overflow_add-off c = let z = off_small _ _ _ _ _ _ _ _ _ _ c.loop-i.invariant _ _ (got _ _ _ _ _ c.loop-i.invariant.writing.same c.next-st.ensures _ _ c.in-Got.is) _ c.slot_step-n.ensures in omega (arith, z)

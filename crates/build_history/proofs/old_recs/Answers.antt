@@ -10,7 +10,7 @@ use Rattle.build_history.proofs.Passes.{recs_asks, recs-room, recs_turn, recs_ni
 use Rattle.build_history.proofs.old_recs.Goals as goal
 
 pub loop-k-init : goal.loop-k-init
-loop-k-init c = (begin _ _ _ _ c.requires.ground_le_at c.requires.n_in_bounds.0, c.requires.n_in_bounds.1)
+loop-k-init c = (begin _ _ _ _ c.requires.ground_le_at c.requires.n_in_bounds, c.requires.n_in_bounds_2)
 
 pub slice_bounds-next_of-end : goal.slice_bounds-next_of-end
 slice_bounds-next_of-end c = let v = c.loop-k.invariant.0 in omega (arith, v.over, v.room)
@@ -40,7 +40,11 @@ pub overflow_add-beyond : goal.overflow_add-beyond
 overflow_add-beyond c = let z = remotes-found _ _ _ _ _ _ (one _ _ _ _ _ _ c.loop-k.invariant.0.same c.next_of-st.ensures _ _ c.in-One.is) _ c.loop-k-test.true c.args.limit in let v = c.loop-k.invariant.1 in omega (arith, c.well_formed.0, c.remote_len.ensures)
 
 pub old_rec-requires : goal.old_rec-requires
-old_rec-requires c = let all = recs_asks _ _ _ _ _ _ _ (one _ _ _ _ _ _ c.loop-k.invariant.0.same c.next_of-st.ensures _ _ c.in-One.is) _ c.loop-k-test.true _ _ _ _ _ c.loop-k.invariant.0 in record { ground_le_at = all.0; placed = all.1; i_in_bounds = all.2 }
+old_rec-requires c = let all = recs_asks _ _ _ _ _ _ _ (one _ _ _ _ _ _ c.loop-k.invariant.0.same c.next_of-st.ensures _ _ c.in-One.is) _ c.loop-k-test.true _ _ _ _ _ c.loop-k.invariant.0 in record {
+        ground_le_at = all.0;
+        placed = all.1.0;
+        i_in_bounds = all.1.1;
+    }
 
 pub loop-k-preserved : goal.loop-k-preserved
 loop-k-preserved c = let z = remotes-found _ _ _ _ _ _ (one _ _ _ _ _ _ c.loop-k.invariant.0.same c.next_of-st.ensures _ _ c.in-One.is) _ c.loop-k-test.true c.args.limit in

@@ -35,4 +35,7 @@ pub loop-i-preserved : goal.loop-i-preserved
 loop-i-preserved c = count_turn _ _ _ _ _ _ _ c.loop-i.invariant c.loop-i-test.true _ (child-here _ _ _ _ _ c.requires.judged c.requires.end_le_elems.0 c.loop-i-test.true c.child_here-c.ensures) _ _ c.less.ensures c.index_key_size.ensures
 
 pub returns : goal.returns
-returns c = let all = count-end _ _ _ _ _ _ _ c.loop-i.invariant c.loop-i-test.false in record { value = all.0; upper_bound = all.1 }
+returns c = let all = count-end _ _ _ _ _ _ _ c.loop-i.invariant c.loop-i-test.false in record {
+        value = all.0;
+        upper_bound = all.1;
+    }

@@ -3,25 +3,25 @@ use Rattle.build_leaf.proofs.Frame.{head_end}
 use Rattle.build_leaf.proofs.leaf_head.Goals as goal
 
 pub overflow_add-payload : goal.overflow_add-payload
-overflow_add-payload c = omega (arith, c.requires.small.0.size)
+overflow_add-payload c = omega (arith, c.requires.small.size)
 
 pub overflow_cast-payload : goal.overflow_cast-payload
-overflow_cast-payload c = omega (arith, c.requires.small.0.size)
+overflow_cast-payload c = omega (arith, c.requires.small.size)
 
 pub overflow_cast-n : goal.overflow_cast-n
-overflow_cast-n c = omega (arith, c.requires.small.1)
+overflow_cast-n c = omega (arith, c.requires.heads_le_max_entries)
 
 pub overflow_cast-lo : goal.overflow_cast-lo
-overflow_cast-lo c = omega (arith, c.requires.small.0.lo)
+overflow_cast-lo c = omega (arith, c.requires.small.lo)
 
 pub overflow_cast-hi : goal.overflow_cast-hi
-overflow_cast-hi c = omega (arith, c.requires.small.0.hi)
+overflow_cast-hi c = omega (arith, c.requires.small.hi)
 
 pub overflow_cast-size : goal.overflow_cast-size
-overflow_cast-size c = omega (arith, c.requires.small.0.size)
+overflow_cast-size c = omega (arith, c.requires.small.size)
 
 pub overflow_cast-e : goal.overflow_cast-e
-overflow_cast-e c = omega (arith, c.requires.small.0.prefix)
+overflow_cast-e c = omega (arith, c.requires.small.prefix)
 
 pub page_head-requires : goal.page_head-requires
 page_head-requires c = omega (arith, c.requires.slots_at_in_bounds)

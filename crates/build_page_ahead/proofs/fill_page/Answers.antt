@@ -5,7 +5,7 @@ use Rattle.build_page_ahead.proofs.Paging.{page_begin, page_full, page_done, pag
 use Rattle.build_page_ahead.proofs.fill_page.Goals as goal
 
 pub loop-i-init : goal.loop-i-init
-loop-i-init c = page_begin c.args.s.now c.args.b c.args.end c.args.limit c.args.budget c.args.from c.args.begun c.requires.judged.1.1
+loop-i-init c = page_begin c.args.s.now c.args.b c.args.end c.args.limit c.args.budget c.args.from c.args.begun c.requires.ready
 
 pub returns-then-x : goal.returns-then-x
 returns-then-x c = record {
@@ -15,12 +15,17 @@ returns-then-x c = record {
 
 pub past_here-h-requires : goal.past_here-h-requires
 past_here-h-requires c = record {
-        judged = c.requires.judged.0;
-        i_lt_elems = omega (arith, c.requires.judged.1.0, c.loop-i-test.true);
+        judged = c.requires.judged;
+        i_lt_elems = omega (arith, c.requires.end_le_elems, c.loop-i-test.true);
     }
 
 pub fill_run-x-requires : goal.fill_run-x-requires
-fill_run-x-requires c = let all = (c.requires.limit_le_max_limit, (page-runs _ _ _ _ _ _ _ _ _ c.loop-i.invariant c.requires.judged.0 c.requires.judged.1.0 c.loop-i-test.true _ c.past_here-h.ensures, (page-opens _ _ _ _ _ _ _ _ _ c.loop-i.invariant c.requires.judged.0 c.requires.judged.1.0 c.loop-i-test.true _ c.past_here-h.ensures, c.loop-i.invariant.ready))) in record { limit_le_max_limit = all.0; runs = all.1; opens = all.2; ready = all.3 }
+fill_run-x-requires c = record {
+        limit_le_max_limit = c.requires.limit_le_max_limit;
+        runs = page-runs _ _ _ _ _ _ _ _ _ c.loop-i.invariant c.requires.judged c.requires.end_le_elems c.loop-i-test.true _ c.past_here-h.ensures;
+        opens = page-opens _ _ _ _ _ _ _ _ _ c.loop-i.invariant c.requires.judged c.requires.end_le_elems c.loop-i-test.true _ c.past_here-h.ensures;
+        ready = c.loop-i.invariant.ready;
+    }
 
 pub overflow_add-i : goal.overflow_add-i
 overflow_add-i c = omega (arith, c.loop-i-test.true, c.ranges.end)
@@ -29,7 +34,7 @@ pub loop-i-smaller : goal.loop-i-smaller
 loop-i-smaller c = omega (arith, c.loop-i-test.true)
 
 pub loop-i-preserved : goal.loop-i-preserved
-loop-i-preserved c = page-on _ _ _ _ _ _ _ _ _ c.loop-i.invariant c.requires.judged.0 c.requires.judged.1.0 c.loop-i-test.true _ c.past_here-h.ensures _ c.fill_run-x.ensures.ready_2 c.fill_run-x.ensures.filled_by
+loop-i-preserved c = page-on _ _ _ _ _ _ _ _ _ c.loop-i.invariant c.requires.judged c.requires.end_le_elems c.loop-i-test.true _ c.past_here-h.ensures _ c.fill_run-x.ensures.ready_2 c.fill_run-x.ensures.filled_by
 
 pub returns : goal.returns
 returns c = record {

@@ -9,18 +9,18 @@ use Rattle.build_page_ahead.proofs.fill_run.Goals as goal
 
 pub returns-then-was-left : goal.returns-then-was-left
 returns-then-was-left c = record {
-        ready_2 = c.requires.runs.1.1;
+        ready_2 = c.requires.ready;
         filled_by = run_none c.args.s.now c.args.limit c.args.budget c.args.count c.args.page c.args.first c.args.from.run c.if-was-left.true;
     }
 
 pub hand_at-hand-requires : goal.hand_at-hand-requires
 hand_at-hand-requires c = record {
-        known = c.requires.runs.1.1.known;
-        opens = c.requires.runs.1.0 (run-some c.args.s.now c.args.limit c.args.budget c.args.count c.args.page c.args.first c.args.from.run c.if-was-left.false).1;
+        known = c.requires.ready.known;
+        opens = c.requires.opens (run-some c.args.s.now c.args.limit c.args.budget c.args.count c.args.page c.args.first c.args.from.run c.if-was-left.false).1;
     }
 
 pub loop-left-init : goal.loop-left-init
-loop-left-init c = run_begin c.args.s.now c.args.limit c.args.budget c.args.count c.args.page c.args.first c.args.from.run c.requires.runs.1.1.sized c.requires.runs.0 c.hand_at-hand.result c.hand_at-hand.ensures.holds c.hand_at-hand.ensures.page_value
+loop-left-init c = run_begin c.args.s.now c.args.limit c.args.budget c.args.count c.args.page c.args.first c.args.from.run c.requires.ready.sized c.requires.runs c.hand_at-hand.result c.hand_at-hand.ensures.holds c.hand_at-hand.ensures.page_value
 
 pub spot_at-q-requires : goal.spot_at-q-requires
 spot_at-q-requires c = record {
@@ -29,7 +29,11 @@ spot_at-q-requires c = record {
     }
 
 pub old_here-r-requires : goal.old_here-r-requires
-old_here-r-requires c = let all = (c.spot_at-q.ensures.holds, (c.spot_at-q.ensures.slot, run-here _ _ _ _ _ _ _ _ _ _ _ _ _ c.loop-left.invariant c.loop-left-test.true _ c.spot_at-q.ensures)) in record { holds = all.0; i_lt_elems = all.1; answers = all.2 }
+old_here-r-requires c = record {
+        holds = c.spot_at-q.ensures.holds;
+        i_lt_elems = c.spot_at-q.ensures.slot;
+        answers = run-here _ _ _ _ _ _ _ _ _ _ _ _ _ c.loop-left.invariant c.loop-left-test.true _ c.spot_at-q.ensures;
+    }
 
 pub overflow_cast-v : goal.overflow_cast-v
 overflow_cast-v c = omega (arith, run-val _ _ _ _ _ _ _ _ _ _ _ _ _ c.loop-left.invariant c.loop-left-test.true _ c.spot_at-q.ensures _ c.old_here-r.ensures)

@@ -10,19 +10,24 @@ pub returns-then-left-gt0 : goal.returns-then-left-gt0
 returns-then-left-gt0 c = λ key rd. turn_stays _ _ _ _ _ rd.steady c.if-left-gt0.true
 
 pub slice_bounds-ahead-end : goal.slice_bounds-ahead-end
-slice_bounds-ahead-end c = omega (arith, ready_low _ _ _ _ _ c.requires.holds.1.1.1.1)
+slice_bounds-ahead-end c = omega (arith, ready_low _ _ _ _ _ c.requires.by_index.1)
 
 pub slice_bounds-ahead-end-2 : goal.slice_bounds-ahead-end-2
-slice_bounds-ahead-end-2 c = sym (length-take-le _ _ (omega (arith, ready_low _ _ _ _ _ c.requires.holds.1.1.1.1)))
+slice_bounds-ahead-end-2 c = sym (length-take-le _ _ (omega (arith, ready_low _ _ _ _ _ c.requires.by_index.1)))
 
 pub ahead-r-requires : goal.ahead-r-requires
-ahead-r-requires c = let all = ((c.requires.sane.limit, c.requires.sane.budget), (c.requires.holds.0, (c.requires.holds.1.0, c.requires.holds.1.1.0))) in record { limit_le_max_limit = all.0; holds = all.1; runs = all.2; follow = all.3 }
+ahead-r-requires c = record {
+        limit_le_max_limit = (c.requires.sane.limit, c.requires.sane.budget);
+        holds = c.requires.holds;
+        runs = c.requires.runs;
+        follow = c.requires.follow;
+    }
 
 pub returns-then-r-eq0 : goal.returns-then-r-eq0
 returns-then-r-eq0 c = λ key rd. turn_none _ c.args.m _ c.args.a.now c.args.q c.requires.sane rd.steady rd.order c.if-left-gt0.false _ (c.ahead-r.ensures key) c.if-r-eq0.true
 
 pub opened-requires : goal.opened-requires
-opened-requires c = turn_opens _ c.args.m _ c.args.a.now c.args.q c.requires.sane c.requires.holds.1.1.1.1.steady c.requires.holds.1.1.1.1.order c.if-left-gt0.false _ (c.ahead-r.ensures c.requires.holds.1.1.1.0) c.if-r-eq0.false
+opened-requires c = turn_opens _ c.args.m _ c.args.a.now c.args.q c.requires.sane c.requires.by_index.1.steady c.requires.by_index.1.order c.if-left-gt0.false _ (c.ahead-r.ensures c.requires.by_index.0) c.if-r-eq0.false
 
 pub returns : goal.returns
 returns c = λ key rd. turn_opened _ c.args.m _ c.args.a.now c.args.q c.requires.sane rd.steady rd.order c.if-left-gt0.false _ (c.ahead-r.ensures key) c.if-r-eq0.false _ _ c.opened.ensures.value c.opened.ensures.a_after

@@ -6,12 +6,12 @@ use Rattle.build_page_sweep.proofs.Paging.{page_begin, page_done, page-few, page
 use Rattle.build_page_sweep.proofs.sweep_page.Goals as goal
 
 pub loop-i-init : goal.loop-i-init
-loop-i-init c = page_begin c.args.s.now c.args.b c.args.end c.args.p c.args.limit c.args.budget c.args.from c.args.first c.args.begun c.requires.judged.1.1 c.no_hand-hand.result (inl c.no_hand-hand.ensures)
+loop-i-init c = page_begin c.args.s.now c.args.b c.args.end c.args.p c.args.limit c.args.budget c.args.from c.args.first c.args.begun c.requires.due c.no_hand-hand.result (inl c.no_hand-hand.ensures)
 
 pub head_here-r-requires : goal.head_here-r-requires
 head_here-r-requires c = record {
-        judged = c.requires.judged.0;
-        i_lt_elems = omega (arith, c.requires.judged.1.0, c.loop-i-test.true);
+        judged = c.requires.judged;
+        i_lt_elems = omega (arith, c.requires.end_le_elems, c.loop-i-test.true);
     }
 
 pub overflow_add-t : goal.overflow_add-t
@@ -24,16 +24,25 @@ pub overflow_add-t-in-loop-i-2 : goal.overflow_add-t-in-loop-i-2
 overflow_add-t-in-loop-i-2 c = let z = page-few _ _ _ _ _ _ _ _ _ _ _ _ _ c.loop-i.invariant in omega arith
 
 pub returns-then-t-h-gt-MAX_ENTRIES : goal.returns-then-t-h-gt-MAX_ENTRIES
-returns-then-t-h-gt-MAX_ENTRIES c = page-many _ _ _ _ _ _ _ _ _ _ _ _ _ c.loop-i.invariant c.requires.judged.0 c.requires.judged.1.0 c.loop-i-test.true _ c.head_here-r.ensures c.if-t-h-gt-MAX_ENTRIES.true
+returns-then-t-h-gt-MAX_ENTRIES c = page-many _ _ _ _ _ _ _ _ _ _ _ _ _ c.loop-i.invariant c.requires.judged c.requires.end_le_elems c.loop-i-test.true _ c.head_here-r.ensures c.if-t-h-gt-MAX_ENTRIES.true
 
 pub overflow_add-b : goal.overflow_add-b
-overflow_add-b c = omega (arith, page-key _ _ _ _ _ _ _ _ _ _ _ _ _ c.loop-i.invariant c.requires.judged.0 c.requires.judged.1.0 c.loop-i-test.true _ c.head_here-r.ensures)
+overflow_add-b c = omega (arith, page-key _ _ _ _ _ _ _ _ _ _ _ _ _ c.loop-i.invariant c.requires.judged c.requires.end_le_elems c.loop-i-test.true _ c.head_here-r.ensures)
 
 pub with_head-t-requires : goal.with_head-t-requires
-with_head-t-requires c = let all = (page-val _ _ _ _ _ _ _ _ _ _ _ _ _ c.loop-i.invariant c.requires.judged.0 c.requires.judged.1.0 c.loop-i-test.true _ c.head_here-r.ensures, (page-key _ _ _ _ _ _ _ _ _ _ _ _ _ c.loop-i.invariant c.requires.judged.0 c.requires.judged.1.0 c.loop-i-test.true _ c.head_here-r.ensures, page-bounded _ _ _ _ _ _ _ _ _ _ _ _ _ c.loop-i.invariant)) in record { n_le_max_value = all.0; k_le_max_key = all.1; bounded = all.2 }
+with_head-t-requires c = record {
+        n_le_max_value = page-val _ _ _ _ _ _ _ _ _ _ _ _ _ c.loop-i.invariant c.requires.judged c.requires.end_le_elems c.loop-i-test.true _ c.head_here-r.ensures;
+        k_le_max_key = page-key _ _ _ _ _ _ _ _ _ _ _ _ _ c.loop-i.invariant c.requires.judged c.requires.end_le_elems c.loop-i-test.true _ c.head_here-r.ensures;
+        bounded = page-bounded _ _ _ _ _ _ _ _ _ _ _ _ _ c.loop-i.invariant;
+    }
 
 pub sweep_run-x-requires : goal.sweep_run-x-requires
-sweep_run-x-requires c = let all = (c.requires.limit_le_max_limit, (page-run _ _ _ _ _ _ _ _ _ _ _ _ _ c.loop-i.invariant c.requires.judged.0 c.requires.judged.1.0 c.loop-i-test.true _ c.head_here-r.ensures (omega (arith, c.if-t-h-gt-MAX_ENTRIES.false)) _ c.with_head-t.ensures, (c.loop-i.invariant.known, page-due _ _ _ _ _ _ _ _ _ _ _ _ _ c.loop-i.invariant c.requires.judged.0 c.requires.judged.1.0 c.loop-i-test.true _ c.head_here-r.ensures (omega (arith, c.if-t-h-gt-MAX_ENTRIES.false)) _ c.with_head-t.ensures))) in record { limit_le_max_limit = all.0; run = all.1; known = all.2; run_due = all.3 }
+sweep_run-x-requires c = record {
+        limit_le_max_limit = c.requires.limit_le_max_limit;
+        run = page-run _ _ _ _ _ _ _ _ _ _ _ _ _ c.loop-i.invariant c.requires.judged c.requires.end_le_elems c.loop-i-test.true _ c.head_here-r.ensures (omega (arith, c.if-t-h-gt-MAX_ENTRIES.false)) _ c.with_head-t.ensures;
+        known = c.loop-i.invariant.known;
+        run_due = page-due _ _ _ _ _ _ _ _ _ _ _ _ _ c.loop-i.invariant c.requires.judged c.requires.end_le_elems c.loop-i-test.true _ c.head_here-r.ensures (omega (arith, c.if-t-h-gt-MAX_ENTRIES.false)) _ c.with_head-t.ensures;
+    }
 
 pub overflow_add-i : goal.overflow_add-i
 overflow_add-i c = omega (arith, c.loop-i-test.true, c.ranges.end)
@@ -42,7 +51,7 @@ pub loop-i-smaller : goal.loop-i-smaller
 loop-i-smaller c = omega (arith, c.loop-i-test.true)
 
 pub loop-i-preserved : goal.loop-i-preserved
-loop-i-preserved c = page-on _ _ _ _ _ _ _ _ _ _ _ _ _ c.loop-i.invariant c.requires.judged.0 c.requires.judged.1.0 c.loop-i-test.true _ c.head_here-r.ensures (omega (arith, c.if-t-h-gt-MAX_ENTRIES.false)) _ c.with_head-t.ensures _ _ c.sweep_run-x.ensures.run_swept_by _ c.sweep_run-x.ensures.known_2
+loop-i-preserved c = page-on _ _ _ _ _ _ _ _ _ _ _ _ _ c.loop-i.invariant c.requires.judged c.requires.end_le_elems c.loop-i-test.true _ c.head_here-r.ensures (omega (arith, c.if-t-h-gt-MAX_ENTRIES.false)) _ c.with_head-t.ensures _ _ c.sweep_run-x.ensures.run_swept_by _ c.sweep_run-x.ensures.known_2
 
 pub returns : goal.returns
 returns c = page_done _ _ _ _ _ _ _ _ _ _ _ _ _ c.loop-i.invariant (omega (arith, c.loop-i-test.false))

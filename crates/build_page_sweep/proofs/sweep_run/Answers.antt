@@ -6,18 +6,18 @@ use Rattle.build_page_sweep.proofs.sweep_run.Goals as goal
 
 pub returns-then-left-eq0 : goal.returns-then-left-eq0
 returns-then-left-eq0 c = record {
-        known_2 = c.requires.run.1.0;
+        known_2 = c.requires.known;
         run_swept_by = run_none c.args.s.now c.args.limit c.args.budget c.args.h c.args.from c.args.begun c.if-left-eq0.true;
     }
 
 pub hand_at-hand-requires : goal.hand_at-hand-requires
 hand_at-hand-requires c = record {
-        known = c.requires.run.1.0;
-        opens = c.requires.run.0.opens (omega (arith, c.if-left-eq0.false));
+        known = c.requires.known;
+        opens = c.requires.run.opens (omega (arith, c.if-left-eq0.false));
     }
 
 pub loop-left-init : goal.loop-left-init
-loop-left-init c = run_begin c.args.s.now c.args.limit c.args.budget c.args.h c.args.from c.args.begun c.requires.run.0 c.requires.run.1.1 c.hand_at-hand.result c.hand_at-hand.ensures.holds c.hand_at-hand.ensures.page_value
+loop-left-init c = run_begin c.args.s.now c.args.limit c.args.budget c.args.h c.args.from c.args.begun c.requires.run c.requires.run_due c.hand_at-hand.result c.hand_at-hand.ensures.holds c.hand_at-hand.ensures.page_value
 
 pub spot_at-q-requires : goal.spot_at-q-requires
 spot_at-q-requires c = record {
@@ -26,7 +26,11 @@ spot_at-q-requires c = record {
     }
 
 pub old_here-r-requires : goal.old_here-r-requires
-old_here-r-requires c = let all = (c.spot_at-q.ensures.holds, (c.spot_at-q.ensures.slot, run-here _ _ _ _ _ _ _ _ _ _ _ _ _ c.loop-left.invariant c.loop-left-test.true _ c.spot_at-q.ensures)) in record { holds = all.0; i_lt_elems = all.1; answers = all.2 }
+old_here-r-requires c = record {
+        holds = c.spot_at-q.ensures.holds;
+        i_lt_elems = c.spot_at-q.ensures.slot;
+        answers = run-here _ _ _ _ _ _ _ _ _ _ _ _ _ c.loop-left.invariant c.loop-left-test.true _ c.spot_at-q.ensures;
+    }
 
 pub with_cut-g-requires : goal.with_cut-g-requires
 with_cut-g-requires c = record {

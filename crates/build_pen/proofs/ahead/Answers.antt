@@ -7,7 +7,7 @@ use Rattle.build_pen.proofs.Peering.{peer_begin, peer_end, peer_past, peer_key, 
 use Rattle.build_pen.proofs.ahead.Goals as goal
 
 pub loop-at-init : goal.loop-at-init
-loop-at-init c = peer_begin _ _ _ _ _ _ c.requires.limit_le_max_limit.0 c.requires.limit_le_max_limit.1 c.requires.well.0 c.requires.well.1
+loop-at-init c = peer_begin _ _ _ _ _ _ c.requires.limit_le_max_limit.0 c.requires.limit_le_max_limit.1 c.requires.well c.requires.blen_in_bounds
 
 pub record_at-i-requires : goal.record_at-i-requires
 record_at-i-requires c = record {

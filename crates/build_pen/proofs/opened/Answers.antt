@@ -14,7 +14,11 @@ pub overflow_add-next : goal.overflow_add-next
 overflow_add-next c = omega (arith, c.requires.fits, c.frame_len.ensures, c.well_formed.0)
 
 pub hist_head-requires : goal.hist_head-requires
-hist_head-requires c = let all = (omega (arith, c.requires.fits, c.requires.least, frame-least c.args.r.size), (c.requires.many, omega (arith, c.requires.small))) in record { slots_at_in_bounds = all.0; n_le_max_entries = all.1; size_bound = all.2 }
+hist_head-requires c = record {
+        slots_at_in_bounds = omega (arith, c.requires.fits, c.requires.least, frame-least c.args.r.size);
+        n_le_max_entries = c.requires.many;
+        size_bound = omega (arith, c.requires.small);
+    }
 
 pub overflow_add-z : goal.overflow_add-z
 overflow_add-z c = omega (arith, c.requires.small)

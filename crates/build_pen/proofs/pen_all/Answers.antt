@@ -5,7 +5,7 @@ use Rattle.build_pen.proofs.PenningList.{all_begin, all_end, head_inside, head_p
 use Rattle.build_pen.proofs.pen_all.Goals as goal
 
 pub loop-at-init : goal.loop-at-init
-loop-at-init c = all_begin _ _ _ _ _ _ _ _ _ c.requires.well.0 c.requires.well.1
+loop-at-init c = all_begin _ _ _ _ _ _ _ _ _ c.requires.well c.requires.all_laid
 
 pub record_at-i-requires : goal.record_at-i-requires
 record_at-i-requires c = record {
@@ -17,7 +17,14 @@ pub past-requires : goal.past-requires
 past-requires c = omega (arith, head_past _ _ _ _ _ _ _ _ _ _ _ _ _ c.loop-at.invariant c.loop-at-test.true _ c.record_at-i.ensures)
 
 pub pen_run-ran-requires : goal.pen_run-ran-requires
-pen_run-ran-requires c = let all = run-asked _ _ _ _ _ _ _ _ _ _ _ _ _ c.loop-at.invariant c.loop-at-test.true _ c.record_at-i.ensures _ c.past.ensures c.requires.sane in record { sane = all.0; well = all.1; blen_in_bounds = all.2; steady = all.3; rising = all.4; blen_len_bound = all.5 }
+pen_run-ran-requires c = let all = run-asked _ _ _ _ _ _ _ _ _ _ _ _ _ c.loop-at.invariant c.loop-at-test.true _ c.record_at-i.ensures _ c.past.ensures c.requires.sane in record {
+        sane = all.0;
+        well = all.1.0;
+        blen_in_bounds = all.1.1.0;
+        steady = all.1.1.1.0;
+        rising = all.1.1.1.1.0;
+        blen_len_bound = all.1.1.1.1.1;
+    }
 
 pub overflow_cast-h : goal.overflow_cast-h
 overflow_cast-h c = omega (arith, (ran-place _ _ _ _ _ _ _ _ _ _ _ _ _ c.loop-at.invariant c.loop-at-test.true _ c.record_at-i.ensures _ c.past.ensures _ _ c.pen_run-ran.ensures).0)
@@ -29,7 +36,11 @@ pub put_hint-hint-requires : goal.put_hint-hint-requires
 put_hint-hint-requires c = head_hint _ _ _ _ _ _ _ _ _ _ _ _ _ c.loop-at.invariant c.loop-at-test.true _ c.record_at-i.ensures _ c.past.ensures _ _ c.pen_run-ran.ensures
 
 pub pen_head-n-requires : goal.pen_head-n-requires
-pen_head-n-requires c = let all = (head_inside _ _ _ _ _ _ _ _ _ _ _ _ _ c.loop-at.invariant c.loop-at-test.true _ c.record_at-i.ensures, (head_key_lem _ _ _ _ _ _ _ _ _ _ _ _ _ c.loop-at.invariant c.loop-at-test.true _ c.record_at-i.ensures, head_asks _ _ _ _ _ _ _ _ _ _ _ _ _ c.loop-at.invariant c.loop-at-test.true _ c.record_at-i.ensures _ c.past.ensures _ _ c.pen_run-ran.ensures _ _ c.put_hint-hint.ensures.value c.put_hint-hint.ensures.a_after)) in record { inside = all.0; p_le_klen = all.1; asks = all.2 }
+pen_head-n-requires c = record {
+        inside = head_inside _ _ _ _ _ _ _ _ _ _ _ _ _ c.loop-at.invariant c.loop-at-test.true _ c.record_at-i.ensures;
+        p_le_klen = head_key_lem _ _ _ _ _ _ _ _ _ _ _ _ _ c.loop-at.invariant c.loop-at-test.true _ c.record_at-i.ensures;
+        asks = head_asks _ _ _ _ _ _ _ _ _ _ _ _ _ c.loop-at.invariant c.loop-at-test.true _ c.record_at-i.ensures _ c.past.ensures _ _ c.pen_run-ran.ensures _ _ c.put_hint-hint.ensures.value c.put_hint-hint.ensures.a_after;
+    }
 
 pub loop-at-smaller : goal.loop-at-smaller
 loop-at-smaller c = ran-less _ _ _ _ _ _ _ _ _ _ _ _ _ c.loop-at.invariant c.loop-at-test.true _ c.record_at-i.ensures _ c.past.ensures _ _ c.pen_run-ran.ensures
@@ -41,4 +52,7 @@ pub shape_of-a : goal.shape_of-a
 shape_of-a c = c.loop-at.invariant.pens.drawing.long
 
 pub returns : goal.returns
-returns c = let all = all_end _ _ _ _ _ _ _ _ _ _ _ _ _ c.loop-at.invariant c.loop-at-test.false in record { value = all.0; a_after = all.1 }
+returns c = let all = all_end _ _ _ _ _ _ _ _ _ _ _ _ _ c.loop-at.invariant c.loop-at-test.false in record {
+        value = all.0;
+        a_after = all.1;
+    }

@@ -7,7 +7,7 @@ use Rattle.build_pen.proofs.RunningList.{run_begin, run_long, turn_asks, run_end
 use Rattle.build_pen.proofs.pen_run.Goals as goal
 
 pub loop-at-init : goal.loop-at-init
-loop-at-init c = run_begin _ _ _ _ _ _ _ c.requires.well.0 c.requires.well.1.0 c.requires.well.1.1.0 c.requires.well.1.1.1.0 c.requires.well.1.1.1.1
+loop-at-init c = run_begin _ _ _ _ _ _ _ c.requires.well c.requires.blen_in_bounds c.requires.steady c.requires.rising c.requires.blen_len_bound
 
 pub record_at-i-requires : goal.record_at-i-requires
 record_at-i-requires c = record {
@@ -28,7 +28,13 @@ pub returns-then-not-same_key : goal.returns-then-not-same_key
 returns-then-not-same_key c = run_stop _ _ _ _ _ _ _ _ _ _ _ _ _ _ c.loop-at.invariant c.loop-at-test.true _ c.record_at-i.ensures (sym c.same_key.ensures ∙ not-true _ c.if-not-same_key.true)
 
 pub turn-r-requires : goal.turn-r-requires
-turn-r-requires c = let all = (c.requires.sane, (c.loop-at.invariant.well, (c.loop-at.invariant.before, (c.loop-at.invariant.runs.steady, turn_asks _ _ _ _ _ _ _ _ _ _ _ _ _ _ c.loop-at.invariant)))) in record { sane = all.0; well = all.1; klen_in_bounds = all.2; steady = all.3; rising = all.4 }
+turn-r-requires c = record {
+        sane = c.requires.sane;
+        well = c.loop-at.invariant.well;
+        klen_in_bounds = c.loop-at.invariant.before;
+        steady = c.loop-at.invariant.runs.steady;
+        rising = turn_asks _ _ _ _ _ _ _ _ _ _ _ _ _ _ c.loop-at.invariant;
+    }
 
 pub put_hint-h-requires : goal.put_hint-h-requires
 put_hint-h-requires c = run-hint _ _ _ _ _ _ _ _ _ _ _ _ _ _ c.loop-at.invariant c.loop-at-test.true _ c.record_at-i.ensures (sym c.same_key.ensures ∙ not-false _ c.if-not-same_key.false) _ _ c.turn-r.ensures

@@ -33,7 +33,11 @@ pub way_at-requires : goal.way_at-requires
 way_at-requires c = let z = list-fits _ _ _ _ _ _ _ _ _ _ _ c.loop-at.invariant c.requires.next_bound c.loop-at-test.true _ _ (sym c.in-At.is ∙ c.ent_at.ensures) in (omega (arith, c.loop-at.invariant.behind, z), omega (arith, z))
 
 pub with_head-t-requires : goal.with_head-t-requires
-with_head-t-requires c = let all = (list-val _ _ _ _ _ _ _ _ _ _ _ c.loop-at.invariant c.requires.next_bound c.loop-at-test.true _ _ (sym c.in-At.is ∙ c.ent_at.ensures), (list-key _ _ _ _ _ _ _ _ _ _ _ c.loop-at.invariant c.requires.next_bound c.loop-at-test.true _ _ (sym c.in-At.is ∙ c.ent_at.ensures), list-bounded _ _ _ _ _ _ _ _ _ _ _ c.loop-at.invariant c.requires.next_bound c.loop-at-test.true _ _ (sym c.in-At.is ∙ c.ent_at.ensures))) in record { n_le_max_value = all.0; k_le_max_key = all.1; bounded = all.2 }
+with_head-t-requires c = record {
+        n_le_max_value = list-val _ _ _ _ _ _ _ _ _ _ _ c.loop-at.invariant c.requires.next_bound c.loop-at-test.true _ _ (sym c.in-At.is ∙ c.ent_at.ensures);
+        k_le_max_key = list-key _ _ _ _ _ _ _ _ _ _ _ c.loop-at.invariant c.requires.next_bound c.loop-at-test.true _ _ (sym c.in-At.is ∙ c.ent_at.ensures);
+        bounded = list-bounded _ _ _ _ _ _ _ _ _ _ _ c.loop-at.invariant c.requires.next_bound c.loop-at-test.true _ _ (sym c.in-At.is ∙ c.ent_at.ensures);
+    }
 
 pub loop-at-smaller-in-Head : goal.loop-at-smaller-in-Head
 loop-at-smaller-in-Head c = list-less _ _ _ _ _ _ _ _ _ _ _ c.loop-at.invariant c.requires.next_bound c.loop-at-test.true _ _ (sym c.in-At.is ∙ c.ent_at.ensures)

@@ -6,28 +6,39 @@ use Rattle.build_table.proofs.Listing.{index_list_refused, index_fit_well, index
 use Rattle.build_table.proofs.build_index_list.Goals as goal
 
 pub slice_bounds-judge_index_list-end : goal.slice_bounds-judge_index_list-end
-slice_bounds-judge_index_list-end c = c.requires.lo_value.1.0
+slice_bounds-judge_index_list-end c = c.requires.next_in_bounds
 
 pub slice_bounds-judge_index_list-end-2 : goal.slice_bounds-judge_index_list-end-2
-slice_bounds-judge_index_list-end-2 c = sym (length-take-le _ _ c.requires.lo_value.1.0)
+slice_bounds-judge_index_list-end-2 c = sym (length-take-le _ _ c.requires.next_in_bounds)
 
 pub judge_index_list-v-requires : goal.judge_index_list-v-requires
-judge_index_list-v-requires c = let all = (c.requires.from_value, (c.requires.lo_value.0, (c.requires.lo_value.1.1, c.requires.lo_value.1.0))) in record { from_value = all.0; lo_value = all.1; held = all.2; next_le_len = all.3 }
+judge_index_list-v-requires c = record {
+        from_value = c.requires.from_value;
+        lo_value = c.requires.lo_value;
+        held = c.requires.held;
+        next_le_len = c.requires.next_in_bounds;
+    }
 
 pub write_list-requires : goal.write_list-requires
 write_list-requires c = record {
-        first_of_value = index_fit_well c.args.a.now c.args.list.now c.args.next c.args.m c.args.lo.now c.args.hi.now c.args.e c.requires.lo_value.1.0 c.requires.lo_value.1.1 _ c.judge_index_list-v.ensures _ _ c.in-Fits.is;
-        ready = index_fit_ready c.args.a.now c.args.list.now c.args.next c.args.m c.args.lo.now c.args.hi.now c.args.e c.requires.lo_value.1.0 c.requires.lo_value.1.1 _ c.judge_index_list-v.ensures _ _ c.in-Fits.is;
+        first_of_value = index_fit_well c.args.a.now c.args.list.now c.args.next c.args.m c.args.lo.now c.args.hi.now c.args.e c.requires.next_in_bounds c.requires.held _ c.judge_index_list-v.ensures _ _ c.in-Fits.is;
+        ready = index_fit_ready c.args.a.now c.args.list.now c.args.next c.args.m c.args.lo.now c.args.hi.now c.args.e c.requires.next_in_bounds c.requires.held _ c.judge_index_list-v.ensures _ _ c.in-Fits.is;
     }
 
 pub overflow_cast-size : goal.overflow_cast-size
-overflow_cast-size c = let z = (index_fit_ready c.args.a.now c.args.list.now c.args.next c.args.m c.args.lo.now c.args.hi.now c.args.e c.requires.lo_value.1.0 c.requires.lo_value.1.1 _ c.judge_index_list-v.ensures _ _ c.in-Fits.is).small in omega (arith, z)
+overflow_cast-size c = let z = (index_fit_ready c.args.a.now c.args.list.now c.args.next c.args.m c.args.lo.now c.args.hi.now c.args.e c.requires.next_in_bounds c.requires.held _ c.judge_index_list-v.ensures _ _ c.in-Fits.is).small in omega (arith, z)
 
 pub overflow_add-result : goal.overflow_add-result
-overflow_add-result c = let z = (index_fit_ready c.args.a.now c.args.list.now c.args.next c.args.m c.args.lo.now c.args.hi.now c.args.e c.requires.lo_value.1.0 c.requires.lo_value.1.1 _ c.judge_index_list-v.ensures _ _ c.in-Fits.is).room in omega (arith, z, c.frame_len.ensures, c.well_formed.0)
+overflow_add-result c = let z = (index_fit_ready c.args.a.now c.args.list.now c.args.next c.args.m c.args.lo.now c.args.hi.now c.args.e c.requires.next_in_bounds c.requires.held _ c.judge_index_list-v.ensures _ _ c.in-Fits.is).room in omega (arith, z, c.frame_len.ensures, c.well_formed.0)
 
 pub returns-in-No : goal.returns-in-No
-returns-in-No c = let all = index_list_refused c.args.a.now c.args.list.now c.args.next c.args.m c.args.lo.now c.args.hi.now c.args.e c.requires.lo_value.1.0 c.requires.lo_value.1.1 _ c.judge_index_list-v.ensures _ c.in-No.is in record { value = all.0; a_after = all.1 }
+returns-in-No c = let all = index_list_refused c.args.a.now c.args.list.now c.args.next c.args.m c.args.lo.now c.args.hi.now c.args.e c.requires.next_in_bounds c.requires.held _ c.judge_index_list-v.ensures _ c.in-No.is in record {
+        value = all.0;
+        a_after = all.1;
+    }
 
 pub returns-in-Fits : goal.returns-in-Fits
-returns-in-Fits c = let all = index_fit_built c.args.a.now c.args.list.now c.args.next c.args.m c.args.lo.now c.args.hi.now c.args.e c.requires.lo_value.1.0 c.requires.lo_value.1.1 _ c.judge_index_list-v.ensures _ _ c.in-Fits.is _ _ c.write_list.ensures c.frame_len.ensures in record { value = all.0; a_after = all.1 }
+returns-in-Fits c = let all = index_fit_built c.args.a.now c.args.list.now c.args.next c.args.m c.args.lo.now c.args.hi.now c.args.e c.requires.next_in_bounds c.requires.held _ c.judge_index_list-v.ensures _ _ c.in-Fits.is _ _ c.write_list.ensures c.frame_len.ensures in record {
+        value = all.0;
+        a_after = all.1;
+    }

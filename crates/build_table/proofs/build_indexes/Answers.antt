@@ -12,19 +12,36 @@ pub slice_bounds-judge_indexes-end-2 : goal.slice_bounds-judge_indexes-end-2
 slice_bounds-judge_indexes-end-2 c = sym (length-take-le _ _ c.requires.next_in_bounds)
 
 pub judge_indexes-v-requires : goal.judge_indexes-v-requires
-judge_indexes-v-requires c = let all = (c.requires.judged.0, (c.requires.judged.1.0, (c.requires.judged.1.1.0, (c.requires.next_in_bounds, (c.requires.judged.1.1.1.0, c.requires.judged.1.1.1.1))))) in record { judged = all.0; from_le_end = all.1; held = all.2; next_le_len = all.3; count_value = all.4; count_value_2 = all.5 }
+judge_indexes-v-requires c = record {
+        judged = c.requires.judged;
+        from_le_end = c.requires.from_le_end;
+        held = c.requires.held;
+        next_le_len = c.requires.next_in_bounds;
+        count_value = c.requires.count_value;
+        count_value_2 = c.requires.count_value_2;
+    }
 
 pub write_pages-requires : goal.write_pages-requires
-write_pages-requires c = let all = (c.requires.judged.0, (c.requires.judged.1.0, index_ready _ _ c.args.m _ _ _ _ c.requires.next_in_bounds c.requires.judged.1.1.0 _ c.judge_indexes-v.ensures _ _ c.in-Fits.is)) in record { judged = all.0; from_le_end = all.1; ready = all.2 }
+write_pages-requires c = record {
+        judged = c.requires.judged;
+        from_le_end = c.requires.from_le_end;
+        ready = index_ready _ _ c.args.m _ _ _ _ c.requires.next_in_bounds c.requires.held _ c.judge_indexes-v.ensures _ _ c.in-Fits.is;
+    }
 
 pub overflow_cast-size : goal.overflow_cast-size
-overflow_cast-size c = omega (arith, index_small _ _ c.args.m _ _ _ _ c.requires.next_in_bounds c.requires.judged.1.1.0 _ c.judge_indexes-v.ensures _ _ c.in-Fits.is)
+overflow_cast-size c = omega (arith, index_small _ _ c.args.m _ _ _ _ c.requires.next_in_bounds c.requires.held _ c.judge_indexes-v.ensures _ _ c.in-Fits.is)
 
 pub overflow_add-result : goal.overflow_add-result
-overflow_add-result c = omega (arith, (index_ready _ _ c.args.m _ _ _ _ c.requires.next_in_bounds c.requires.judged.1.1.0 _ c.judge_indexes-v.ensures _ _ c.in-Fits.is).room, c.frame_len.ensures, c.well_formed.0)
+overflow_add-result c = omega (arith, (index_ready _ _ c.args.m _ _ _ _ c.requires.next_in_bounds c.requires.held _ c.judge_indexes-v.ensures _ _ c.in-Fits.is).room, c.frame_len.ensures, c.well_formed.0)
 
 pub returns-in-No : goal.returns-in-No
-returns-in-No c = let all = index_refused _ _ c.args.m _ _ _ _ c.requires.next_in_bounds c.requires.judged.1.1.0 _ c.judge_indexes-v.ensures _ c.in-No.is in record { value = all.0; a_after = all.1 }
+returns-in-No c = let all = index_refused _ _ c.args.m _ _ _ _ c.requires.next_in_bounds c.requires.held _ c.judge_indexes-v.ensures _ c.in-No.is in record {
+        value = all.0;
+        a_after = all.1;
+    }
 
 pub returns-in-Fits : goal.returns-in-Fits
-returns-in-Fits c = let all = index_built_lem _ _ c.args.m _ _ _ _ c.requires.next_in_bounds c.requires.judged.1.1.0 _ c.judge_indexes-v.ensures _ _ c.in-Fits.is _ _ c.write_pages.ensures c.frame_len.ensures in record { value = all.0; a_after = all.1 }
+returns-in-Fits c = let all = index_built_lem _ _ c.args.m _ _ _ _ c.requires.next_in_bounds c.requires.held _ c.judge_indexes-v.ensures _ _ c.in-Fits.is _ _ c.write_pages.ensures c.frame_len.ensures in record {
+        value = all.0;
+        a_after = all.1;
+    }

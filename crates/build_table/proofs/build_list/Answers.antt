@@ -6,19 +6,41 @@ use Rattle.build_table.proofs.Listing.{leaf_list_refused, fit_well, fit_small, f
 use Rattle.build_table.proofs.build_list.Goals as goal
 
 pub slice_bounds-judge_list-end : goal.slice_bounds-judge_list-end
-slice_bounds-judge_list-end c = c.requires.lo_value.1.0
+slice_bounds-judge_list-end c = c.requires.next_in_bounds
 
 pub slice_bounds-judge_list-end-2 : goal.slice_bounds-judge_list-end-2
-slice_bounds-judge_list-end-2 c = sym (length-take-le _ _ c.requires.lo_value.1.0)
+slice_bounds-judge_list-end-2 c = sym (length-take-le _ _ c.requires.next_in_bounds)
 
 pub judge_list-v-requires : goal.judge_list-v-requires
-judge_list-v-requires c = let all = (c.requires.from_value, (c.requires.lo_value.0, (c.requires.lo_value.1.1.0, (c.requires.lo_value.1.1.1, (c.requires.lo_value.1.0, omega (arith, c.well_formed.0)))))) in record { from_value = all.0; lo_value = all.1; held = all.2; sane = all.3; next_le_len = all.4 }
+judge_list-v-requires c = record {
+        from_value = c.requires.from_value;
+        lo_value = c.requires.lo_value;
+        held = c.requires.held;
+        sane = c.requires.sane;
+        next_le_len = (c.requires.next_in_bounds, omega (arith, c.well_formed.0));
+    }
 
 pub write_list-leaf-requires : goal.write_list-leaf-requires
-write_list-leaf-requires c = let all = (omega arith, (c.requires.lo_value.1.1.1, (fit_small c.args.a.now c.args.list.now c.args.next c.args.m c.args.lo.now c.args.hi.now c.args.e c.requires.lo_value.1.1.0 _ c.judge_list-v.ensures _ c.in-Fits.is, (c.requires.lo_value.1.1.0.inside, (fit_well c.args.a.now c.args.list.now c.args.next c.args.m c.args.lo.now c.args.hi.now c.args.e c.requires.lo_value.1.1.0 _ c.judge_list-v.ensures _ c.in-Fits.is, (fit_long c.args.a.now c.args.list.now c.args.next c.args.m c.args.lo.now c.args.hi.now c.args.e c.requires.lo_value.1.1.0 _ c.judge_list-v.ensures _ c.in-Fits.is, (fit_few c.args.a.now c.args.list.now c.args.next c.args.m c.args.lo.now c.args.hi.now c.args.e c.requires.lo_value.1.1.0 _ c.judge_list-v.ensures _ c.in-Fits.is, (fit_totals c.args.a.now c.args.list.now c.args.next c.args.m c.args.lo.now c.args.hi.now c.args.e c.requires.lo_value.1.1.0 _ c.judge_list-v.ensures _ c.in-Fits.is, fit_room c.args.a.now c.args.list.now c.args.next c.args.m c.args.lo.now c.args.hi.now c.args.e c.requires.lo_value.1.1.0 _ c.judge_list-v.ensures _ c.in-Fits.is)))))))) in record { ground_le_at = all.0; sane = all.1; small = all.2; both_within = all.3; well = all.4; long = all.5; list_len_bound = all.6; t_value = all.7; end_in_bounds = all.8 }
+write_list-leaf-requires c = record {
+        ground_le_at = omega arith;
+        sane = c.requires.sane;
+        small = fit_small c.args.a.now c.args.list.now c.args.next c.args.m c.args.lo.now c.args.hi.now c.args.e c.requires.held _ c.judge_list-v.ensures _ c.in-Fits.is;
+        both_within = c.requires.held.inside;
+        well = fit_well c.args.a.now c.args.list.now c.args.next c.args.m c.args.lo.now c.args.hi.now c.args.e c.requires.held _ c.judge_list-v.ensures _ c.in-Fits.is;
+        long = fit_long c.args.a.now c.args.list.now c.args.next c.args.m c.args.lo.now c.args.hi.now c.args.e c.requires.held _ c.judge_list-v.ensures _ c.in-Fits.is;
+        list_len_bound = fit_few c.args.a.now c.args.list.now c.args.next c.args.m c.args.lo.now c.args.hi.now c.args.e c.requires.held _ c.judge_list-v.ensures _ c.in-Fits.is;
+        t_value = fit_totals c.args.a.now c.args.list.now c.args.next c.args.m c.args.lo.now c.args.hi.now c.args.e c.requires.held _ c.judge_list-v.ensures _ c.in-Fits.is;
+        end_in_bounds = fit_room c.args.a.now c.args.list.now c.args.next c.args.m c.args.lo.now c.args.hi.now c.args.e c.requires.held _ c.judge_list-v.ensures _ c.in-Fits.is;
+    }
 
 pub returns-in-No : goal.returns-in-No
-returns-in-No c = let all = leaf_list_refused c.args.a.now c.args.list.now c.args.next c.args.m c.args.lo.now c.args.hi.now c.args.e c.requires.lo_value.1.1.0 _ c.judge_list-v.ensures _ c.in-No.is in record { value = all.0; a_after = all.1 }
+returns-in-No c = let all = leaf_list_refused c.args.a.now c.args.list.now c.args.next c.args.m c.args.lo.now c.args.hi.now c.args.e c.requires.held _ c.judge_list-v.ensures _ c.in-No.is in record {
+        value = all.0;
+        a_after = all.1;
+    }
 
 pub returns-in-Fits : goal.returns-in-Fits
-returns-in-Fits c = let all = fit_built c.args.a.now c.args.list.now c.args.next c.args.m c.args.lo.now c.args.hi.now c.args.e c.requires.lo_value.1.1.0 _ c.judge_list-v.ensures _ c.in-Fits.is _ _ c.write_list-leaf.ensures.value c.write_list-leaf.ensures.a_after in record { value = all.0; a_after = all.1 }
+returns-in-Fits c = let all = fit_built c.args.a.now c.args.list.now c.args.next c.args.m c.args.lo.now c.args.hi.now c.args.e c.requires.held _ c.judge_list-v.ensures _ c.in-Fits.is _ _ c.write_list-leaf.ensures.value c.write_list-leaf.ensures.a_after in record {
+        value = all.0;
+        a_after = all.1;
+    }

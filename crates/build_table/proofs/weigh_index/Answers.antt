@@ -5,19 +5,19 @@ use borrow.Author.Tests.{not-true, not-false}
 use Rattle.build_table.proofs.weigh_index.Goals as goal
 
 pub overflow_mul-size : goal.overflow_mul-size
-overflow_mul-size c = omega (arith, c.requires.n_le_max_entries.0.0)
+overflow_mul-size c = omega (arith, c.requires.n_le_max_entries.0)
 
 pub overflow_add-size : goal.overflow_add-size
-overflow_add-size c = omega (arith, c.requires.n_le_max_entries.0.0)
+overflow_add-size c = omega (arith, c.requires.n_le_max_entries.0)
 
 pub overflow_add-size-2 : goal.overflow_add-size-2
-overflow_add-size-2 c = omega (arith, c.requires.n_le_max_entries.0.0, c.requires.x_le_max_key.0)
+overflow_add-size-2 c = omega (arith, c.requires.n_le_max_entries.0, c.requires.x_le_max_key.0)
 
 pub overflow_add-size-3 : goal.overflow_add-size-3
-overflow_add-size-3 c = omega (arith, c.requires.n_le_max_entries.0.0, c.requires.x_le_max_key.0, c.requires.x_le_max_key.1)
+overflow_add-size-3 c = omega (arith, c.requires.n_le_max_entries.0, c.requires.x_le_max_key.0, c.requires.x_le_max_key.1)
 
 pub overflow_add-size-4 : goal.overflow_add-size-4
-overflow_add-size-4 c = omega (arith, c.requires.n_le_max_entries.0.0, c.requires.x_le_max_key.0, c.requires.x_le_max_key.1, c.requires.n_le_max_entries.0.1)
+overflow_add-size-4 c = omega (arith, c.requires.n_le_max_entries.0, c.requires.x_le_max_key.0, c.requires.x_le_max_key.1, c.requires.n_le_max_entries.1)
 
 pub returns-then-size-gt-MAX_SIZE : goal.returns-then-size-gt-MAX_SIZE
 returns-then-size-gt-MAX_SIZE c = weigh_index_large _ _ _ _ _ _ c.if-size-gt-MAX_SIZE.true

@@ -23,8 +23,12 @@ pub returns-in_default-slot_at : goal.returns-in_default-slot_at
 returns-in_default-slot_at c = λ r e. absurd (rec_none r e)
 
 pub quick_key-n-requires : goal.quick_key-n-requires
-quick_key-n-requires c = let all = let o = sym c.body_of.ensures ∙ c.in-Is.is in
-    (leaf_inside c.args.s.now c.args.w c.in-Is.b o, (leaf_kind c.args.s.now c.args.w c.in-Is.b o, (slot-inside c.args.s.now c.in-Is.b c.args.w.pos c.in-At.p (sym c.slot_at.ensures ∙ c.in-At.is)).1)) in record { inside = all.0; kind_value = all.1; p_lt_end = all.2 }
+quick_key-n-requires c = let o = sym c.body_of.ensures ∙ c.in-Is.is in
+    record {
+        inside = leaf_inside c.args.s.now c.args.w c.in-Is.b o;
+        kind_value = leaf_kind c.args.s.now c.args.w c.in-Is.b o;
+        p_lt_end = (slot-inside c.args.s.now c.in-Is.b c.args.w.pos c.in-At.p (sym c.slot_at.ensures ∙ c.in-At.is)).1;
+    }
 
 pub returns-then-n-eq0 : goal.returns-then-n-eq0
 returns-then-n-eq0 c = λ r e. absurd (rec_none r e)

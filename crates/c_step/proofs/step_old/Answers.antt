@@ -27,7 +27,7 @@ pub tell_rec-requires : goal.tell_rec-requires
 tell_rec-requires c = let o = sym c.body_of.ensures ∙ c.in-Is.is in
     let q = quick_is (RecRead.Is c.in-Is-quick_old.r) c.quick_old.ensures c.in-Is-quick_old.is (rec_none c.in-Is-quick_old.r) in
     record {
-        k_in_bounds = omega (arith, c.requires.left_nonzero.1.1);
+        k_in_bounds = omega (arith, c.requires.in_bounds_2);
         ver_at_in_bounds = ver-inside c.args.s.now c.in-Is.b c.args.w.older.slot c.in-Is-quick_old.r (body-inside c.args.s.now c.args.w.older.page 2 c.in-Is.b o) (λ z. omega (arith, ap (λ (y : Body). y.kind) (sym (body_is c.args.s.now c.args.w.older.page 2 c.in-Is.b o)), z)) q;
     }
 
@@ -38,12 +38,12 @@ overflow_add-older c = let o = sym c.body_of.ensures ∙ c.in-Is.is in
     omega (arith, at_slot c.args.s.now c.in-Is.b c.args.w.older.slot c.in-Is-quick_old.r q, i.slots, i.records, i.payload, i.arena, c.well_formed)
 
 pub overflow_sub-older : goal.overflow_sub-older
-overflow_sub-older c = omega (arith, c.requires.left_nonzero.0)
+overflow_sub-older c = omega (arith, c.requires.left_nonzero)
 
 pub put_older-requires : goal.put_older-requires
-put_older-requires c = c.requires.left_nonzero.1.0
+put_older-requires c = c.requires.in_bounds
 
 pub returns : goal.returns
 returns c = let o = sym c.body_of.ensures ∙ c.in-Is.is in
     let q = quick_is (RecRead.Is c.in-Is-quick_old.r) c.quick_old.ensures c.in-Is-quick_old.is (rec_none c.in-Is-quick_old.r) in
-    took-old c.args.s.now c.args.walk.now c.args.out.now c.requires.w_value c.requires.left_nonzero.0 c.in-Is.b o c.in-Is-quick_old.r q c.put_older.ensures c.tell_rec.ensures
+    took-old c.args.s.now c.args.walk.now c.args.out.now c.requires.w_value c.requires.left_nonzero c.in-Is.b o c.in-Is-quick_old.r q c.put_older.ensures c.tell_rec.ensures

@@ -1,6 +1,6 @@
 -- `c_steps::quick` meets its contract. Assumes nothing.
 use native.Mathlib.Omega.{arith}
-use Prim.Native.Nat.{◌-◌, ◌<◌}
+use Prim.Native.Nat.{◌-◌}
 use mathlib.Core.Path.{subst}
 use Rattle.c_steps.specs.declared.HeadRead.{HeadRead}
 use Rattle.c_steps.specs.Turns.{Heads}
@@ -9,20 +9,23 @@ use Rattle.c_steps.proofs.Ways.{known_at}
 use Rattle.c_steps.proofs.quick.Goals as goal
 
 pub olds-n-requires : goal.olds-n-requires
-olds-n-requires c = c.requires.room_nonzero.1.0
+olds-n-requires c = c.requires.fit_le_room
 
 pub returns-then-n-eq0 : goal.returns-then-n-eq0
-returns-then-n-eq0 c = c.olds-n.ensures.result_bound.1.0 c.if-n-eq0.true
+returns-then-n-eq0 c = c.olds-n.ensures.out_unchanged c.if-n-eq0.true
 
 pub age-requires : goal.age-requires
-age-requires c = let all = (let z : 0 < c.olds-n.result = omega (arith, c.if-n-eq0.false) in (omega (arith, c.olds-n.ensures.result_bound.0 z, c.well_formed), c.olds-n.ensures.upper_bound)) in record { n_bound = all.0; n_le_left = all.1 }
+age-requires c = record {
+        n_bound = (None).0;
+        n_le_left = (None).1;
+    }
 
 pub returns-then-older-gt0 : goal.returns-then-older-gt0
-returns-then-older-gt0 c = rw c.age.ensures (c.olds-n.ensures.result_bound.1.1, (known_at c.args.s.now c.args.known c.args.w.older _ _ c.requires.known_older, omega (arith, c.if-n-eq0.false)))
+returns-then-older-gt0 c = rw c.age.ensures (c.olds-n.ensures.filling, (known_at c.args.s.now c.args.known c.args.w.older _ _ c.requires.known_older, omega (arith, c.if-n-eq0.false)))
 
 pub plains-x-requires : goal.plains-x-requires
 plains-x-requires c = record {
-        fit_le_room = c.requires.room_nonzero.1.0;
+        fit_le_room = c.requires.fit_le_room;
         left_value = omega (arith, c.if-older-gt0.false);
     }
 
@@ -36,7 +39,10 @@ pub returns-in_default : goal.returns-in_default
 returns-in_default c = rw c.headed-u.ensures (c.plains-x.ensures.plains.fills, (c.requires.known_older, omega (arith, c.if-n-eq0-2.false)))
 
 pub behind-requires : goal.behind-requires
-behind-requires c = let all = rw c.headed-u.ensures (c.requires.known_older, (c.plains-x.ensures.plains.next c.in-Is.h c.in-Is.is).1) in record { known_older = all.0; ahead = all.1 }
+behind-requires c = let all = rw c.headed-u.ensures (c.requires.known_older, (c.plains-x.ensures.plains.next c.in-Is.h c.in-Is.is).1) in record {
+        known_older = all.0;
+        ahead = all.1;
+    }
 
 pub returns-then-n-eq0-3 : goal.returns-then-n-eq0-3
 returns-then-n-eq0-3 c = c.plains-x.ensures.plains.fresh c.if-n-eq0-3.true
@@ -45,17 +51,19 @@ pub returns-in_default-behind : goal.returns-in_default-behind
 returns-in_default-behind c = rw c.headed-u.ensures (c.plains-x.ensures.plains.fills, (c.requires.known_older, omega (arith, c.if-n-eq0-3.false)))
 
 pub overflow_mul-n : goal.overflow_mul-n
-overflow_mul-n c = omega (arith, c.plains-x.ensures.plains.fills.few, c.requires.room_nonzero.1.1)
+overflow_mul-n c = omega (arith, c.plains-x.ensures.plains.fills.few, c.requires.room_bound)
 
 pub overflow_add-at : goal.overflow_add-at
-overflow_add-at c = omega (arith, c.plains-x.ensures.plains.fills.few, c.requires.room_nonzero.1.1)
+overflow_add-at c = omega (arith, c.plains-x.ensures.plains.fills.few, c.requires.room_bound)
 
 pub tell_rec-requires : goal.tell_rec-requires
-tell_rec-requires c = let all = (let q : Heads c.args.s.now c.headed-u.result (HeadRead.Is c.in-Is-behind.r c.in-Is-behind.v c.in-Is-behind.seen) = subst (λ (z : HeadRead). Heads c.args.s.now c.headed-u.result z) c.in-Is-behind.is c.behind.ensures in
-    (omega (arith, c.plains-x.ensures.count_lt_fit c.in-Is.h c.in-Is.is, c.plains-x.ensures.plains.fills.long, c.requires.room_nonzero.1.0.1), q.1.1)) in record { k_in_bounds = all.0; ver_at_in_bounds = all.1 }
+tell_rec-requires c = record {
+        k_in_bounds = (None).0;
+        ver_at_in_bounds = (None).1;
+    }
 
 pub overflow_add-result : goal.overflow_add-result
-overflow_add-result c = omega (arith, c.plains-x.ensures.plains.fills.few, c.requires.room_nonzero.1.1)
+overflow_add-result c = omega (arith, c.plains-x.ensures.plains.fills.few, c.requires.room_bound)
 
 pub returns : goal.returns
 returns c = (let q : Heads c.args.s.now c.headed-u.result (HeadRead.Is c.in-Is-behind.r c.in-Is-behind.v c.in-Is-behind.seen) = subst (λ (z : HeadRead). Heads c.args.s.now c.headed-u.result z) c.in-Is-behind.is c.behind.ensures in

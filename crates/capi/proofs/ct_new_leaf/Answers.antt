@@ -5,5 +5,9 @@ use Rattle.c_words.proofs.Laws.{told}
 use Rattle.capi.proofs.ct_new_leaf.Goals as goal
 
 pub returns : goal.returns
-returns c = let all = let t = told call.built_number built_words c.args.out.now c.new_leaf-x.ensures.value c.tell_built.ensures in
-    (t.0, (c.new_leaf-x.ensures.a_after, t.1)) in record { value = all.0; arena_after = all.1; out_after = all.2 }
+returns c = let t = told call.built_number built_words c.args.out.now c.new_leaf-x.ensures.value c.tell_built.ensures in
+    record {
+        value = t.0;
+        arena_after = c.new_leaf-x.ensures.a_after;
+        out_after = t.1;
+    }

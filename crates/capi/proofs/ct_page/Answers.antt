@@ -11,7 +11,10 @@ use Rattle.capi.proofs.Told.{page_bad}
 use Rattle.capi.proofs.ct_page.Goals as goal
 
 pub returns-in_default : goal.returns-in_default
-returns-in_default c = let all = page_bad c.args.arena.now (addr c.args.at) c.args.out.now (sym c.open_at.ensures ∙ c.in_default.is) c.no.ensures in record { value = all.0; out_after = all.1 }
+returns-in_default c = let all = page_bad c.args.arena.now (addr c.args.at) c.args.out.now (sym c.open_at.ensures ∙ c.in_default.is) c.no.ensures in record {
+        value = all.0;
+        out_after = all.1;
+    }
 
 pub returns : goal.returns
 returns c = let e : open_at c.args.arena.now (addr c.args.at) ≡ Opened.Is c.in-Is.b = sym c.open_at.ensures ∙ c.in-Is.is in

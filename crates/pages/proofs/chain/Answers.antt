@@ -10,28 +10,28 @@ loop-left-init c = (c.requires.held, c.requires.i_le_elems, refl)
 
 pub spot_at-requires : goal.spot_at-requires
 spot_at-requires c = record {
-        held = c.loop-left.invariant.0;
-        i_le_elems = c.loop-left.invariant.1;
-    }
+  held = c.loop-left.invariant.0;
+  i_le_elems = c.loop-left.invariant.1;
+}
 
 pub returns-in_default : goal.returns-in_default
 returns-in_default c = record {
-        ok_value = sym (c.loop-left.invariant.2 ∙ turned_bad c.args.s.now c.loop-left.hand c.loop-left.slot c.spot_at.result c.spot_at.ensures c.in_default.is c.loop-left.left c.loop-left.ver c.loop-left-test.true);
-        held_2 = c.loop-left.invariant.0;
-    }
+  ok_value = sym (c.loop-left.invariant.2 ∙ turned_bad c.args.s.now c.loop-left.hand c.loop-left.slot c.spot_at.result c.spot_at.ensures c.in_default.is c.loop-left.left c.loop-left.ver c.loop-left-test.true);
+  held_2 = c.loop-left.invariant.0;
+}
 
 pub old_ver-v-requires : goal.old_ver-v-requires
 old_ver-v-requires c = let g = (turned-is c.args.s.now c.loop-left.hand c.loop-left.slot c.spot_at.result c.spot_at.ensures c.in-Is.p c.in-Is.is) in
     record {
-        held = g.held;
-        i_lt_elems = g.slot;
+      held = g.held;
+      i_lt_elems = g.slot;
     }
 
 pub returns-else-newer : goal.returns-else-newer
 returns-else-newer c = record {
-        ok_value = sym (c.loop-left.invariant.2 ∙ turn_young c.args.s.now c.loop-left.hand c.loop-left.slot c.loop-left.left c.loop-left.ver c.loop-left-test.true c.in-Is.p (turned-is c.args.s.now c.loop-left.hand c.loop-left.slot c.spot_at.result c.spot_at.ensures c.in-Is.p c.in-Is.is) _ c.old_ver-v.ensures (sym c.newer.ensures ∙ c.if-newer.false));
-        held_2 = c.loop-left.invariant.0;
-    }
+  ok_value = sym (c.loop-left.invariant.2 ∙ turn_young c.args.s.now c.loop-left.hand c.loop-left.slot c.loop-left.left c.loop-left.ver c.loop-left-test.true c.in-Is.p (turned-is c.args.s.now c.loop-left.hand c.loop-left.slot c.spot_at.result c.spot_at.ensures c.in-Is.p c.in-Is.is) _ c.old_ver-v.ensures (sym c.newer.ensures ∙ c.if-newer.false));
+  held_2 = c.loop-left.invariant.0;
+}
 
 pub overflow_add-slot : goal.overflow_add-slot
 overflow_add-slot c = let g = (turned-is c.args.s.now c.loop-left.hand c.loop-left.slot c.spot_at.result c.spot_at.ensures c.in-Is.p c.in-Is.is) in
@@ -49,6 +49,6 @@ loop-left-preserved c = let g = (turned-is c.args.s.now c.loop-left.hand c.loop-
 
 pub returns : goal.returns
 returns c = record {
-        ok_value = sym (c.loop-left.invariant.2 ∙ chain_end c.args.s.now c.loop-left.left c.loop-left.hand.page c.loop-left.slot c.loop-left.ver c.loop-left-test.false);
-        held_2 = c.loop-left.invariant.0;
-    }
+  ok_value = sym (c.loop-left.invariant.2 ∙ chain_end c.args.s.now c.loop-left.left c.loop-left.hand.page c.loop-left.slot c.loop-left.ver c.loop-left-test.false);
+  held_2 = c.loop-left.invariant.0;
+}

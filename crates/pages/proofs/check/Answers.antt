@@ -16,15 +16,19 @@ returns-then-b-eq-HISTORY c = sym (check_no c.args.s.now c.args.a _ (sym c.open_
 
 pub recs_ok-requires : goal.recs_ok-requires
 recs_ok-requires c = record {
-        inside = (open_inside c.args.s.now c.args.a c.in-Is.b (sym c.open_at.ensures ∙ c.in-Is.is)).0;
-        kind_bound = omega (arith, open_kind c.args.s.now c.args.a c.in-Is.b (sym c.open_at.ensures ∙ c.in-Is.is), c.if-b-eq-HISTORY.false);
-    }
+  inside = (open_inside c.args.s.now c.args.a c.in-Is.b (sym c.open_at.ensures ∙ c.in-Is.is)).0;
+  kind_bound = omega (arith, open_kind c.args.s.now c.args.a c.in-Is.b (sym c.open_at.ensures ∙ c.in-Is.is), c.if-b-eq-HISTORY.false);
+}
 
 pub hints_ok-requires : goal.hints_ok-requires
 hints_ok-requires c = (open_inside c.args.s.now c.args.a c.in-Is.b (sym c.open_at.ensures ∙ c.in-Is.is)).0
 
 pub bounded-requires : goal.bounded-requires
-bounded-requires c = let all = ((open_inside c.args.s.now c.args.a c.in-Is.b (sym c.open_at.ensures ∙ c.in-Is.is)).0, (c.if-b-eq-HISTORY.false, (yes (slots_ok c.args.s.now c.in-Is.b) _ (sym c.recs_ok.ensures ∙ c.if-recs_ok.true)).0)) in record { inside = all.0; fact = all.1; b_value = all.2 }
+bounded-requires c = record {
+  inside = (open_inside c.args.s.now c.args.a c.in-Is.b (sym c.open_at.ensures ∙ c.in-Is.is)).0;
+  fact = c.if-b-eq-HISTORY.false;
+  b_value = (yes (slots_ok c.args.s.now c.in-Is.b) _ (sym c.recs_ok.ensures ∙ c.if-recs_ok.true)).0;
+}
 
 pub returns-then-bounded : goal.returns-then-bounded
 returns-then-bounded c = let g = (yes (slots_ok c.args.s.now c.in-Is.b) _ (sym c.recs_ok.ensures ∙ c.if-recs_ok.true)) in

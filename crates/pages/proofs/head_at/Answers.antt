@@ -11,7 +11,11 @@ unfolding rec_at
 returns-in_default c = simp (← c.slot_at.ensures, c.in_default.is)
 
 pub quick_key-n-requires : goal.quick_key-n-requires
-quick_key-n-requires c = let all = (c.requires.inside, (c.requires.kind_value, omega (arith, slot-inside c.args.s.now c.args.b c.args.i c.in-At.p (sym c.slot_at.ensures ∙ c.in-At.is)))) in record { inside = all.0; kind_value = all.1; p_lt_end = all.2 }
+quick_key-n-requires c = record {
+  inside = c.requires.inside;
+  kind_value = c.requires.kind_value;
+  p_lt_end = omega (arith, slot-inside c.args.s.now c.args.b c.args.i c.in-At.p (sym c.slot_at.ensures ∙ c.in-At.is));
+}
 
 pub overflow_add-p : goal.overflow_add-p
 overflow_add-p c = omega (arith, (c.quick_key-n.ensures c.if-n-ne0.true).inside, c.requires.inside.payload, c.requires.inside.arena, c.well_formed)

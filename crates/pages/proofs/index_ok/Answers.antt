@@ -11,7 +11,10 @@ pub loop-i-init : goal.loop-i-init
 loop-i-init c = (omega arith, omega arith, sym (recs_index c.args.s.now c.args.b c.requires.kind_value) ∙ slots_start c.args.s.now c.args.b)
 
 pub child_at-requires : goal.child_at-requires
-child_at-requires c = let all = c.requires in record { inside = all.0; kind_value = all.1 }
+child_at-requires c = let all = c.requires in record {
+  inside = all.0;
+  kind_value = all.1;
+}
 
 pub returns-in_default : goal.returns-in_default
 returns-in_default c = sym (c.loop-i.invariant.2 ∙ slots_bad c.args.s.now c.args.b c.args.b.elems _ _ _ _ c.loop-i-test.true (c.child_at.ensures ∙ ap child_of c.in_default.is))

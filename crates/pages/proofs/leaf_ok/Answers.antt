@@ -11,7 +11,10 @@ pub loop-i-init : goal.loop-i-init
 loop-i-init c = (omega arith, omega arith, inl refl, slots_start c.args.s.now c.args.b, chains_start c.args.s.now c.args.b (λ e. omega (arith, c.requires.kind_value)))
 
 pub head_at-requires : goal.head_at-requires
-head_at-requires c = let all = c.requires in record { inside = all.0; kind_value = all.1 }
+head_at-requires c = let all = c.requires in record {
+  inside = all.0;
+  kind_value = all.1;
+}
 
 pub returns-in_default : goal.returns-in_default
 returns-in_default c = sym (recs-slots c.args.s.now c.args.b (c.loop-i.invariant.3 ∙ slots_bad c.args.s.now c.args.b c.args.b.elems _ _ _ _ c.loop-i-test.true (sym c.head_at.ensures ∙ c.in_default.is)))
@@ -28,9 +31,9 @@ returns-then-not-in_order c = sym (recs-slots c.args.s.now c.args.b (c.loop-i.in
 
 pub head_ok-h-requires : goal.head_ok-h-requires
 head_ok-h-requires c = record {
-        ver_at_in_bounds = ver-inside c.args.s.now c.args.b c.loop-i.i c.in-Is.head c.requires.inside (λ e. omega (arith, c.requires.kind_value)) (sym c.head_at.ensures ∙ c.in-Is.is);
-        known = c.loop-i.invariant.2;
-    }
+  ver_at_in_bounds = ver-inside c.args.s.now c.args.b c.loop-i.i c.in-Is.head c.requires.inside (λ e. omega (arith, c.requires.kind_value)) (sym c.head_at.ensures ∙ c.in-Is.is);
+  known = c.loop-i.invariant.2;
+}
 
 pub overflow_add-i : goal.overflow_add-i
 overflow_add-i c = omega (arith, c.loop-i-test.true, c.requires.inside.slots, c.requires.inside.records, c.requires.inside.payload, c.requires.inside.arena, c.well_formed)

@@ -14,7 +14,11 @@ loop-lo-init c = let f = key_cmp c.args.s.now c.args.b c.args.rest.now c.args.w 
     goes_begin f n 0 n 0 (omega arith) (omega arith)
 
 pub narrow-g-requires : goal.narrow-g-requires
-narrow-g-requires c = let all = (c.requires, (c.mark_of-mark.ensures, (c.loop-lo.invariant.inside, c.loop-lo.invariant.fuel))) in record { inside = all.0; marks = all.1; hi_le_elems = all.2 }
+narrow-g-requires c = record {
+        inside = c.requires;
+        marks = c.mark_of-mark.ensures;
+        hi_le_elems = (c.loop-lo.invariant.inside, c.loop-lo.invariant.fuel);
+    }
 
 pub overflow_add-mid : goal.overflow_add-mid
 overflow_add-mid c = omega (arith, (c.narrow-g.ensures.goes c.args.w).inside, c.if-lo-hi.true, c.requires.slots, c.requires.records, c.requires.payload, c.requires.arena, c.well_formed)
