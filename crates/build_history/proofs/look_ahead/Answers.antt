@@ -25,7 +25,7 @@ pub overflow_add-s-in-loop-i : goal.overflow_add-s-in-loop-i
 overflow_add-s-in-loop-i c = let z = look_fits _ _ _ _ _ _ _ _ _ c.loop-i.invariant _ _ (one _ _ _ _ _ _ refl c.next_of-st.ensures _ _ c.in-One.is) _ c.calc_size.ensures in omega arith
 
 pub returns-then-not-takes : goal.returns-then-not-takes
-returns-then-not-takes c = let all = look_full _ _ _ _ _ _ _ _ _ c.loop-i.invariant _ _ (one _ _ _ _ _ _ refl c.next_of-st.ensures _ _ c.in-One.is) _ c.calc_size.ensures (sym c.takes.ensures ∙ not-true _ c.if-not-takes.true) in record {
+returns-then-not-takes c = let all = look_full _ _ _ _ _ _ _ _ _ c.loop-i.invariant _ _ (one _ _ _ _ _ _ refl c.next_of-st.ensures _ _ c.in-One.is) _ c.calc_size.ensures (sym c.takes.ensures ∙ c.if-not-takes.true) in record {
         run_value = all.0;
         skipped = all.1;
     }
@@ -46,4 +46,4 @@ pub loop-i-smaller : goal.loop-i-smaller
 loop-i-smaller c = fewer _ _ _ _ _ _ (one _ _ _ _ _ _ refl c.next_of-st.ensures _ _ c.in-One.is)
 
 pub loop-i-preserved : goal.loop-i-preserved
-loop-i-preserved c = look_turn _ _ _ _ _ _ _ _ _ c.loop-i.invariant _ _ (one _ _ _ _ _ _ refl c.next_of-st.ensures _ _ c.in-One.is) _ c.calc_size.ensures _ c.remote_len-f.ensures (sym c.takes.ensures ∙ not-false _ c.if-not-takes.false)
+loop-i-preserved c = look_turn _ _ _ _ _ _ _ _ _ c.loop-i.invariant _ _ (one _ _ _ _ _ _ refl c.next_of-st.ensures _ _ c.in-One.is) _ c.calc_size.ensures _ c.remote_len-f.ensures (sym c.takes.ensures ∙ c.if-not-takes.false)
