@@ -89,12 +89,25 @@ pub fn begins_with(
 // ---- 6 and 10
 
 // Whether the entries rise, and lie between boundaries of which the lower is at hand.
-fn rises_below(list: &[u8], footing: &[u8], from: Cursor, lo: &[u8], hi: &[u8], e: Boundary) -> Risen
+fn rises_below(
+    list: &[u8],
+    footing: &[u8],
+    from: Cursor,
+    lo: &[u8],
+    hi: &[u8],
+    e: Boundary,
+) -> Risen
     requires { Within hi.now footing.now e }
     ensures { result ≡ risen_of lo.now (boundary_bytes hi.now footing.now e) (entries list.now footing.now from) }
 {
     if e.footing {
-        return build_sources::rises(list, footing, from, lo, spans::part_of(footing, e.at, e.len));
+        return build_sources::rises(
+            list,
+            footing,
+            from,
+            lo,
+            spans::part_of(footing, e.at, e.len),
+        );
     }
     build_sources::rises(list, footing, from, lo, spans::part_of(hi, e.at, e.len))
 }
@@ -289,7 +302,14 @@ pub fn build_leaves(
 
 // Why a list that its sweep, or the test of its first and last key, did not pass is refused: 3, 6, 7, 10; one with none of these faults has too many
 // entries.
-fn refused(list: &[u8], footing: &[u8], from: Cursor, lo: &[u8], hi: &[u8], e: Boundaries) -> Refusal
+fn refused(
+    list: &[u8],
+    footing: &[u8],
+    from: Cursor,
+    lo: &[u8],
+    hi: &[u8],
+    e: Boundaries,
+) -> Refusal
     requires { Held lo.now hi.now footing.now e }
     ensures { result ≡ refusal_of list.now footing.now from (bounds_of lo.now hi.now footing.now e) }
 {

@@ -1,5 +1,6 @@
 // The answers of the C interface: each told in its words, and its number returned.
 #![tactic(auto)]
+
 ghost use Rattle.std.specs.Prelude.{◌≡◌};
 ghost use Rattle.pages.specs.Refused.{bounds_number, hints_number};
 ghost use Rattle.sst.specs.Refused.{found_number, floor_number, bound_number};

@@ -75,7 +75,7 @@ all f g n v w r r' x x' p q = (p.0 ∙ sym q.0, (p.1.0 ∙ sym q.1.0, p.1.1 ∙ 
 pub calc_prefix_decided : (κs : Lfts 3) (lo hi : Bor (List ℕ)) (out : MutBor (List ℕ)) → Both (λ (r : ℕ) (x : AtExit calc_prefix_fn.ended κs). calc_prefix.Post κs (lo, (hi, (out, tt))) r x) (λ (x : AtExit calc_prefix_fn.ended κs). x.1.1.0.now)
 calc_prefix_decided κs lo hi out = both (λ (x : AtExit calc_prefix_fn.ended κs). x.1.1.0.now) _ _
 
-pub new_leaf_decided : (κs : Lfts 5) (a : Bor (List ℕ)) (next : ℕ) (l lo hi : Bor (List ℕ)) (sibling limit budget group txid lsn ckpt : ℕ) (out : Bor (List ℕ)) → All (λ (r : ℕ) (x : AtExit new_leaf_fn.ended κs). new_leaf.Post κs (a, (next, (l, (lo, (hi, (sibling, (limit, (budget, (group, (txid, (lsn, (ckpt, (out, tt))))))))))))) r x) (λ (x : AtExit new_leaf_fn.ended κs). x.0.now) (λ (x : AtExit new_leaf_fn.ended κs). x.1.1.1.1.1.1.1.1.1.1.1.1.0.now)
+pub new_leaf_decided : (κs : Lfts 5) (a : MutBor (List ℕ)) (next : ℕ) (l lo hi : Bor (List ℕ)) (sibling limit budget group txid lsn ckpt : ℕ) (out : MutBor (List ℕ)) → All (λ (r : ℕ) (x : AtExit new_leaf_fn.ended κs). new_leaf.Post κs (a, (next, (l, (lo, (hi, (sibling, (limit, (budget, (group, (txid, (lsn, (ckpt, (out, tt))))))))))))) r x) (λ (x : AtExit new_leaf_fn.ended κs). x.0.now) (λ (x : AtExit new_leaf_fn.ended κs). x.1.1.1.1.1.1.1.1.1.1.1.1.0.now)
 new_leaf_decided κs a next l lo hi sibling limit budget group txid lsn ckpt out = all (λ (x : AtExit new_leaf_fn.ended κs). x.0.now) (λ (x : AtExit new_leaf_fn.ended κs). x.1.1.1.1.1.1.1.1.1.1.1.1.0.now) _ _ _
 
 pub new_intl_decided : (κs : Lfts 5) (a : MutBor (List ℕ)) (next : ℕ) (l lo hi : Bor (List ℕ)) (sibling group txid lsn ckpt : ℕ) (out : MutBor (List ℕ)) → All (λ (r : ℕ) (x : AtExit new_intl_fn.ended κs). new_intl.Post κs (a, (next, (l, (lo, (hi, (sibling, (group, (txid, (lsn, (ckpt, (out, tt))))))))))) r x) (λ (x : AtExit new_intl_fn.ended κs). x.0.now) (λ (x : AtExit new_intl_fn.ended κs). x.1.1.1.1.1.1.1.1.1.1.0.now)

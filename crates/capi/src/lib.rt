@@ -1,6 +1,7 @@
 // The C interface: every public call of the port over slices and numbers, as include/cresttrestle.h names them. A call hands its slices
 // on, writes the words of the answer to `out` and returns the number of the refusal, 0 where there is none.
 #![tactic(auto)]
+
 ghost use Rattle.std.specs.Prelude.{◌≡◌, length};
 ghost use Rattle.frames.specs.Layout.{addr, page_id, open_at};
 ghost use Rattle.order.specs.Version.{ver_of};

@@ -9,19 +9,19 @@ use Rattle.c_answers.proofs.tell_bound.Goals as goal
 pub returns-in-At : goal.returns-in-At
 unfolding written
 returns-in-At c = let all = told bound_number bound_words _ (sym c.in-At.is) (refl, c.store_three.ensures) in record {
-        value = all.0;
-        out_after = all.1;
-    }
+  value = all.0;
+  out_after = all.1;
+}
 
 pub returns-in-PastEnd : goal.returns-in-PastEnd
 unfolding written
 returns-in-PastEnd c = let all = told bound_number bound_words _ (sym c.in-PastEnd.is) (refl, c.store_three-in-PastEnd.ensures) in record {
-        value = all.0;
-        out_after = all.1;
-    }
+  value = all.0;
+  out_after = all.1;
+}
 
 pub returns-in-Refused : goal.returns-in-Refused
 returns-in-Refused c = let all = told bound_number bound_words _ (sym c.in-Refused.is) (c.no.ensures, sym (written_none _)) in record {
-        value = all.0;
-        out_after = all.1;
-    }
+  value = all.0;
+  out_after = all.1;
+}

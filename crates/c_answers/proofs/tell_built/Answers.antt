@@ -9,12 +9,12 @@ use Rattle.c_answers.proofs.tell_built.Goals as goal
 pub returns-in-At : goal.returns-in-At
 unfolding written
 returns-in-At c = let all = told call.built_number built_words _ (sym c.in-At.is) (refl, c.store_two.ensures) in record {
-        value = all.0;
-        out_after = all.1;
-    }
+  value = all.0;
+  out_after = all.1;
+}
 
 pub returns-in-Refused : goal.returns-in-Refused
 returns-in-Refused c = let all = told call.built_number built_words _ (sym c.in-Refused.is) (c.no.ensures, sym (written_none _)) in record {
-        value = all.0;
-        out_after = all.1;
-    }
+  value = all.0;
+  out_after = all.1;
+}

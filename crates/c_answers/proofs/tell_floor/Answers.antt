@@ -10,19 +10,19 @@ use Rattle.c_answers.proofs.tell_floor.Goals as goal
 pub returns-in-Is : goal.returns-in-Is
 unfolding written
 returns-in-Is c = let all = told floor_number floor_words _ (sym c.in-Is.is) (refl, put_chain _ 0 _ _ c.store_two.ensures c.store_two-in-Is.ensures refl) in record {
-        value = all.0;
-        out_after = all.1;
-    }
+  value = all.0;
+  out_after = all.1;
+}
 
 pub returns-in-Nothing : goal.returns-in-Nothing
 unfolding written
 returns-in-Nothing c = let all = told floor_number floor_words _ (sym c.in-Nothing.is) (refl, put_chain _ 0 _ _ c.store_two-in-Nothing.ensures c.store_two-in-Nothing-2.ensures refl) in record {
-        value = all.0;
-        out_after = all.1;
-    }
+  value = all.0;
+  out_after = all.1;
+}
 
 pub returns-in-Refused : goal.returns-in-Refused
 returns-in-Refused c = let all = told floor_number floor_words _ (sym c.in-Refused.is) (c.no.ensures, sym (written_none _)) in record {
-        value = all.0;
-        out_after = all.1;
-    }
+  value = all.0;
+  out_after = all.1;
+}

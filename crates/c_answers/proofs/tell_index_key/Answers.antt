@@ -9,12 +9,12 @@ use Rattle.c_answers.proofs.tell_index_key.Goals as goal
 pub returns-in-Is : goal.returns-in-Is
 unfolding written
 returns-in-Is c = let all = told refused.index_key_number index_key_words _ (sym c.in-Is.is) (refl, c.store_two.ensures) in record {
-        value = all.0;
-        out_after = all.1;
-    }
+  value = all.0;
+  out_after = all.1;
+}
 
 pub returns-in-Refused : goal.returns-in-Refused
 returns-in-Refused c = let all = told refused.index_key_number index_key_words _ (sym c.in-Refused.is) (c.no.ensures, sym (written_none _)) in record {
-        value = all.0;
-        out_after = all.1;
-    }
+  value = all.0;
+  out_after = all.1;
+}

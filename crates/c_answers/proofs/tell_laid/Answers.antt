@@ -9,26 +9,26 @@ use Rattle.c_answers.proofs.tell_laid.Goals as goal
 pub returns-in-Delta : goal.returns-in-Delta
 unfolding written
 returns-in-Delta c = let all = told laid_number laid_words _ (sym c.in-Delta.is) (refl, c.store_three.ensures) in record {
-        value = all.0;
-        out_after = all.1;
-    }
+  value = all.0;
+  out_after = all.1;
+}
 
 pub returns-in-Page : goal.returns-in-Page
 unfolding written
 returns-in-Page c = let all = told laid_number laid_words _ (sym c.in-Page.is) (refl, c.store_three-in-Page.ensures) in record {
-        value = all.0;
-        out_after = all.1;
-    }
+  value = all.0;
+  out_after = all.1;
+}
 
 pub returns-in-Nothing : goal.returns-in-Nothing
 unfolding written
 returns-in-Nothing c = let all = told laid_number laid_words _ (sym c.in-Nothing.is) (refl, c.store_three-in-Nothing.ensures) in record {
-        value = all.0;
-        out_after = all.1;
-    }
+  value = all.0;
+  out_after = all.1;
+}
 
 pub returns-in-Refused : goal.returns-in-Refused
 returns-in-Refused c = let all = told laid_number laid_words _ (sym c.in-Refused.is) (c.no.ensures, sym (written_none _)) in record {
-        value = all.0;
-        out_after = all.1;
-    }
+  value = all.0;
+  out_after = all.1;
+}

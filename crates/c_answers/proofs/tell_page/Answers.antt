@@ -10,12 +10,12 @@ use Rattle.c_answers.proofs.tell_page.Goals as goal
 pub returns-in-Is : goal.returns-in-Is
 unfolding written
 returns-in-Is c = let all = told bounds_number (bounds_words c.args.kind c.args.elems) _ (sym c.in-Is.is) (refl, put_chain _ 0 _ _ (put_chain _ 0 _ _ c.store_three.ensures c.store_three-in-Is.ensures refl) c.store_three-in-Is-2.ensures refl) in record {
-        value = all.0;
-        out_after = all.1;
-    }
+  value = all.0;
+  out_after = all.1;
+}
 
 pub returns-in-Refused : goal.returns-in-Refused
 returns-in-Refused c = let all = told bounds_number (bounds_words c.args.kind c.args.elems) _ (sym c.in-Refused.is) (c.no.ensures, sym (written_none _)) in record {
-        value = all.0;
-        out_after = all.1;
-    }
+  value = all.0;
+  out_after = all.1;
+}

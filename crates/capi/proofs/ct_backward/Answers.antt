@@ -15,7 +15,7 @@ pub returns : goal.returns
 returns c = let all = let e = c.backward-x.ensures
     ∙ ap (λ (i : ℤ). backward_at c.args.arena.now (addr c.args.at) i (to_z w64 (of_z w64 c.args.end))) (to_z-of_z w64 c.args.start c.ranges.start)
     ∙ ap (λ (j : ℤ). backward_at c.args.arena.now (addr c.args.at) c.args.start j) (to_z-of_z w64 c.args.end c.ranges.end) in
-    told begun_number begun_words _ e c.tell_begun.ensures in record {
-        value = all.0;
-        walk_after = all.1;
+    told begun_number begun_words _ e (c.tell_begun.ensures.value, c.tell_begun.ensures.walk_after) in record {
+      value = all.0;
+      walk_after = all.1;
     }

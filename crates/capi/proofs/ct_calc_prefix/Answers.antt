@@ -9,6 +9,6 @@ use Rattle.capi.proofs.ct_calc_prefix.Goals as goal
 pub returns : goal.returns
 unfolding written
 returns c = record {
-        value = refl;
-        out_after = c.store.ensures ∙ ap (λ (n : ℕ). put c.args.out.now 0 (n ∷ [])) c.calc_prefix-n.ensures;
-    }
+  value = refl;
+  out_after = c.store.ensures ∙ ap (λ (n : ℕ). put c.args.out.now 0 (n ∷ [])) c.calc_prefix-n.ensures;
+}

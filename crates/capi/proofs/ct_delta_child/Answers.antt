@@ -5,7 +5,7 @@ use Rattle.c_words.proofs.Laws.{told}
 use Rattle.capi.proofs.ct_delta_child.Goals as goal
 
 pub returns : goal.returns
-returns c = let all = told refused.child_number child_words _ c.index-x.ensures c.tell_child.ensures in record {
-        value = all.0;
-        out_after = all.1;
-    }
+returns c = let all = told refused.child_number child_words _ c.index-x.ensures (c.tell_child.ensures.value, c.tell_child.ensures.out_after) in record {
+  value = all.0;
+  out_after = all.1;
+}

@@ -5,7 +5,7 @@ use Rattle.c_words.proofs.Laws.{told}
 use Rattle.capi.proofs.ct_delta_val.Goals as goal
 
 pub returns : goal.returns
-returns c = let all = told refused.value_number value_words _ c.val-x.ensures c.tell_value.ensures in record {
-        value = all.0;
-        out_after = all.1;
-    }
+returns c = let all = told refused.value_number value_words _ c.val-x.ensures (c.tell_value.ensures.value, c.tell_value.ensures.out_after) in record {
+  value = all.0;
+  out_after = all.1;
+}

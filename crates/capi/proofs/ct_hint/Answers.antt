@@ -5,7 +5,7 @@ use Rattle.c_words.proofs.Laws.{told}
 use Rattle.capi.proofs.ct_hint.Goals as goal
 
 pub returns : goal.returns
-returns c = let all = told (λ (x : Hint). 0) hint_words _ c.hint_at-x.ensures c.tell_hint.ensures in record {
-        value = all.0;
-        out_after = all.1;
-    }
+returns c = let all = told (λ (x : Hint). 0) hint_words _ c.hint_at-x.ensures (c.tell_hint.ensures.value, c.tell_hint.ensures.out_after) in record {
+  value = all.0;
+  out_after = all.1;
+}

@@ -5,7 +5,7 @@ use Rattle.c_words.proofs.Laws.{told}
 use Rattle.capi.proofs.ct_history_hints.Goals as goal
 
 pub returns : goal.returns
-returns c = let all = told hints_number hints_words _ c.history_hints-x.ensures c.tell_hints.ensures in record {
-        value = all.0;
-        out_after = all.1;
-    }
+returns c = let all = told hints_number hints_words _ c.history_hints-x.ensures (c.tell_hints.ensures.value, c.tell_hints.ensures.out_after) in record {
+  value = all.0;
+  out_after = all.1;
+}

@@ -9,7 +9,7 @@ use Rattle.c_words.proofs.Laws.{told}
 use Rattle.capi.proofs.ct_lower_bound.Goals as goal
 
 pub returns : goal.returns
-returns c = let all = told bound_number bound_words _ (c.lower_bound-x.ensures ∙ ap (λ (v : Ver). lower_at c.args.arena.now (addr c.args.at) c.args.key.now v) c.new.ensures) c.tell_bound.ensures in record {
-        value = all.0;
-        out_after = all.1;
-    }
+returns c = let all = told bound_number bound_words _ (c.lower_bound-x.ensures ∙ ap (λ (v : Ver). lower_at c.args.arena.now (addr c.args.at) c.args.key.now v) c.new.ensures) (c.tell_bound.ensures.value, c.tell_bound.ensures.out_after) in record {
+  value = all.0;
+  out_after = all.1;
+}

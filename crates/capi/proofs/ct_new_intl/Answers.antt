@@ -5,9 +5,9 @@ use Rattle.c_words.proofs.Laws.{told}
 use Rattle.capi.proofs.ct_new_intl.Goals as goal
 
 pub returns : goal.returns
-returns c = let t = told call.built_number built_words c.args.out.now c.new_intl-x.ensures.value c.tell_built.ensures in
+returns c = let t = told call.built_number built_words c.args.out.now c.new_intl-x.ensures.value (c.tell_built.ensures.value, c.tell_built.ensures.out_after) in
     record {
-        value = t.0;
-        arena_after = c.new_intl-x.ensures.a_after;
-        out_after = t.1;
+      value = t.0;
+      arena_after = c.new_intl-x.ensures.a_after;
+      out_after = t.1;
     }

@@ -5,7 +5,7 @@ use Rattle.c_words.proofs.Laws.{told}
 use Rattle.capi.proofs.ct_overlay.Goals as goal
 
 pub returns : goal.returns
-returns c = let all = told laid_number laid_words _ c.answer-x.ensures c.tell_laid.ensures in record {
-        value = all.0;
-        out_after = all.1;
-    }
+returns c = let all = told laid_number laid_words _ c.answer-x.ensures (c.tell_laid.ensures.value, c.tell_laid.ensures.out_after) in record {
+  value = all.0;
+  out_after = all.1;
+}

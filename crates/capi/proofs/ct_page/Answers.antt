@@ -12,14 +12,14 @@ use Rattle.capi.proofs.ct_page.Goals as goal
 
 pub returns-in_default : goal.returns-in_default
 returns-in_default c = let all = page_bad c.args.arena.now (addr c.args.at) c.args.out.now (sym c.open_at.ensures ∙ c.in_default.is) c.no.ensures in record {
-        value = all.0;
-        out_after = all.1;
-    }
+  value = all.0;
+  out_after = all.1;
+}
 
 pub returns : goal.returns
 returns c = let e : open_at c.args.arena.now (addr c.args.at) ≡ Opened.Is c.in-Is.b = sym c.open_at.ensures ∙ c.in-Is.is in
-    let t = told bounds_number (bounds_words _ _) c.args.out.now c.bounds_at-x.ensures c.tell_page.ensures in
+    let t = told bounds_number (bounds_words _ _) c.args.out.now c.bounds_at-x.ensures (c.tell_page.ensures.value, c.tell_page.ensures.out_after) in
     record {
-        value = t.0;
-        out_after = t.1 ∙ ap (λ (z : Opened). written (page_words z (bounds_at c.args.arena.now (addr c.args.at))) c.args.out.now) (sym e);
+      value = t.0;
+      out_after = t.1 ∙ ap (λ (z : Opened). written (page_words z (bounds_at c.args.arena.now (addr c.args.at))) c.args.out.now) (sym e);
     }
