@@ -2,8 +2,8 @@
 #![tactic(auto)]
 
 use frames::{Addr, Refusal};
-
-const OUT: i32 = 1;
+use std::io;
+use std::io::Write;
 
 // ---- a command's words
 
@@ -66,53 +66,52 @@ pub fn signed(l: &[u8], k: usize) -> i64 {
     9223372036854775807
 }
 
-// ---- an answer's pieces
+// ---- an answer's pieces; a failed write ends each, and some of it may be written
 
-pub fn say(b: &[u8]) {
-    io::write_all(OUT, b);
+pub fn say<W: Write>(out: &mut W, b: &[u8]) -> io::Result<()> {
+    out.write_all(b)
 }
 
-pub fn end_line() {
-    io::write_all(OUT, b"\n");
+pub fn end_line<W: Write>(out: &mut W) -> io::Result<()> {
+    out.write_all(b"\n")
 }
 
 // A number behind a space.
-pub fn say_number(n: u64) {
-    io::write_all(OUT, b" ");
-    io::print_decimal(OUT, n);
+pub fn say_number<W: Write>(out: &mut W, n: u64) -> io::Result<()> {
+    write!(out, " {n}")
 }
 
 // Bytes behind a space.
-pub fn say_bytes(b: &[u8]) {
-    io::write_all(OUT, b" ");
-    replay_text::print_runs(OUT, b);
+pub fn say_bytes<W: Write>(out: &mut W, b: &[u8]) -> io::Result<()> {
+    out.write_all(b" ")?;
+    replay_text::print_runs(out, b)
 }
 
-pub fn refused(r: Refusal) {
-    io::write_all(OUT, b"!");
-    say_number(frames::number(r) as u64);
-    end_line();
+pub fn refused<W: Write>(out: &mut W, r: Refusal) -> io::Result<()> {
+    out.write_all(b"!")?;
+    say_number(out, frames::number(r) as u64)?;
+    end_line(out)
 }
 
-pub fn nothing() {
-    io::write_all(OUT, b"none\n");
+pub fn nothing<W: Write>(out: &mut W) -> io::Result<()> {
+    out.write_all(b"none\n")
 }
 
-pub fn is_bytes(b: &[u8]) {
-    io::write_all(OUT, b"=");
-    say_bytes(b);
-    end_line();
+pub fn is_bytes<W: Write>(out: &mut W, b: &[u8]) -> io::Result<()> {
+    out.write_all(b"=")?;
+    say_bytes(out, b)?;
+    end_line(out)
 }
 
-pub fn is_number(n: u64) {
-    io::write_all(OUT, b"=");
-    say_number(n);
-    end_line();
+pub fn is_number<W: Write>(out: &mut W, n: u64) -> io::Result<()> {
+    out.write_all(b"=")?;
+    say_number(out, n)?;
+    end_line(out)
 }
 
-pub fn are_numbers(a: u64, b: u64) {
-    io::write_all(OUT, b"=");
-    say_number(a);
-    say_number(b);
-    end_line();
+pub fn are_numbers<W: Write>(out: &mut W, a: u64, b: u64) -> io::Result<()> {
+    out.write_all(b"=")?;
+    say_number(out, a)?;
+    say_number(out, b)?;
+    end_line(out)
 }

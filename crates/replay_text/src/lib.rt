@@ -1,8 +1,11 @@
 // Text for the programs: lines, words, decimal numbers and hexadecimal bytes (runs as hh*N.), read from a slice and printed.
 #![tactic(auto)]
 
-ghost use Rattle.std.specs.Prelude.{◌≤◌, ◌<◌, length};
+ghost use Rattle.std.specs.Prelude.{◌≤◌, ◌<◌, length, IfOk};
 ghost use Rattle.replay_text.specs.Ends.{Ends, Reaches, Behind, Within};
+
+use std::io;
+use std::io::{Read, Write};
 
 // A decimal number, and the place of the byte that ends it.
 #[derive(Clone, Copy)]
@@ -208,40 +211,55 @@ fn run_of(s: &[u8], at: usize) -> usize
     n
 }
 
-// Writes the bytes in hexadecimal, a run of four or more as hh*N., or - where there are none.
-pub fn print_runs(fd: i32, s: &[u8]) {
+// Writes the bytes in hexadecimal, a run of four or more as hh*N., or - where there are none. A failed write ends it; some may be written.
+pub fn print_runs<W: Write>(out: &mut W, s: &[u8]) -> io::Result<()> {
     if s.len() == 0 {
-        io::write_all(fd, b"-");
-        return;
+        return out.write_all(b"-");
     }
     let mut i = 0;
     while i < s.len() {
         let n = run_of(s, i);
-        io::print_hex(fd, wide(s[i]), 2);
+        print_byte(out, s[i])?;
         if n < 4 {
             i += 1;
         } else {
-            io::write_all(fd, b"*");
-            io::print_decimal(fd, n as u64);
-            io::write_all(fd, b".");
+            write!(out, "*{n}.")?;
             i += n;
         }
     }
+    Ok(())
 }
 
-// Writes the bytes in hexadecimal, two digits a byte, or - where there are none.
-pub fn print_bytes(fd: i32, s: &[u8]) {
+// Writes the bytes in hexadecimal, two digits a byte, or - where there are none. A failed write ends it; some may be written.
+pub fn print_bytes<W: Write>(out: &mut W, s: &[u8]) -> io::Result<()> {
     if s.len() == 0 {
-        io::write_all(fd, b"-");
-        return;
+        return out.write_all(b"-");
     }
     let mut i = 0;
     while i < s.len() {
-        io::print_hex(fd, wide(s[i]), 2);
+        print_byte(out, s[i])?;
         i += 1;
     }
+    Ok(())
 }
 
-fn wide(b: u8) -> u64 {
-    b as u64
+// Two hexadecimal digits.
+fn print_byte<W: Write>(out: &mut W, b: u8) -> io::Result<()> {
+    write!(out, "{b:02x}")
+}
+
+// Reads until buf is full or the input ends, and answers how many bytes stand at its front. A failed read ends it; buf then holds
+// anything.
+pub fn read_full<R: Read>(from: &mut R, buf: &mut [u8]) -> io::Result<usize>
+    ensures { IfOk result (λ n. n ≤ length buf.new) }
+{
+    let mut done = 0;
+    while done < buf.len() {
+        let n = from.read(&mut buf[done..])?;
+        if n == 0 {
+            return Ok(done);
+        }
+        done += n;
+    }
+    Ok(done)
 }

@@ -4,7 +4,5 @@ use Rattle.replay_readers.proofs.steps.Given as goal
 abbrev pub invariant-loop-k : goal.invariant-loop-k
 invariant-loop-k l = l.k ≤ 1000000
 
-
 abbrev pub decreases-loop-k : goal.decreases-loop-k
 decreases-loop-k l = 1000000 - l.k
-
