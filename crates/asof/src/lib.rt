@@ -1,5 +1,6 @@
 // A row as of a version: the newest record of a key that is no newer than it, head or history, across linked pages.
 #![tactic(auto)]
+
 ghost use Rattle.std.specs.Prelude.{◌≡◌, ◌+◌, ◌<◌, ◌≤◌, ◌^◌};
 ghost use Rattle.frames.specs.Layout.{Inside};
 ghost use Rattle.frames.specs.declared.Opened.{Opened};

@@ -1,6 +1,7 @@
 // A page's boundaries before it is built: where each lies, in a slice lent for it or in the arena below the next free address (merges
 // take theirs from pages), and the store of one.
 #![tactic(auto)]
+
 ghost use Rattle.std.specs.Prelude.{◌≡◌, ◌+◌, ◌≤◌, length, take};
 ghost use Rattle.spans.specs.Span.{put};
 ghost use Rattle.build_bounds.specs.Boundaries.{Within, boundary_bytes, boundary_of};

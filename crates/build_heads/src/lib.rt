@@ -1,5 +1,6 @@
 // Head records: a leaf key without the page's prefix, and the value with its history reference; the slots and records of all heads.
 #![tactic(auto)]
+
 ghost use Rattle.std.specs.Prelude.{◌≡◌, true, ◌+◌, ◌≤◌, length, take, drop};
 ghost use Rattle.spans.specs.Span.{put};
 ghost use Rattle.frames.specs.Limits.{max_entries, max_key, max_value};

@@ -1,6 +1,7 @@
 // History pages: old versions written page by page, each page with its remote frames behind it; remote frames of heads too. Each
 // function stores exactly its part of the image, from one address upward, and reads its entries through the source alone.
 #![tactic(auto)]
+
 ghost use Rattle.std.specs.Prelude.{◌≡◌, true, cond, ◌+◌, ◌≤◌, length, take};
 ghost use Rattle.spans.specs.Span.{part, put};
 ghost use Rattle.frames.specs.Layout.{slots_at};

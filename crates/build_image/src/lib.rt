@@ -1,6 +1,7 @@
 // What every build shares: what a call is told and answers, what numbers 1 and 2 ask, sizes and addresses as numbers, and a page's two
 // headers. The image itself is a definition (specs/Image.antt); the crates above write it.
 #![tactic(auto)]
+
 ghost use Rattle.std.specs.Prelude.{◌≡◌, ◌+◌, ◌≤◌, length};
 ghost use Rattle.spans.specs.Span.{put};
 ghost use Rattle.frames.specs.Layout.{slots_at};

@@ -1,6 +1,7 @@
 // A sound page's rows as entries: the heads of a leaf one by one, each with its old versions behind it. The history page is in hand, so that it is opened
 // once as long as heads name pages in order.
 #![tactic(auto)]
+
 ghost use Rattle.std.specs.Prelude.{◌≡◌, true, ◌+◌, ◌<◌};
 ghost use Rattle.build_rows.specs.Fields.{hist_at, behind_of, HistFits, bytes_at, BytesFit, Readable, KeyAt};
 ghost use Rattle.build_rows.specs.Judged.{Judged, HeadAt, PastAt, ChildAt};

@@ -2,6 +2,7 @@
 // a source knows the step's equation and the laws that follow from it, never the cursor, so a source that is added here (a part of a
 // page, more pages) changes no pass. `list` is the lent slice, `ground` the arena below the next free address.
 #![tactic(auto)]
+
 ghost use Rattle.std.specs.Prelude.{◌≡◌, ◌∷◌, ◌++◌, ◌+◌, ◌<◌, length, get_or};
 ghost use Rattle.order.specs.Order.{cmp_bytes, starts_with};
 ghost use Rattle.order.specs.Bounds.{spanned};

@@ -1,6 +1,7 @@
 // A list judged in one sweep, without writing: each entry is read once, set beside the one before, and added up; history pages are cut on the
 // way. A list that is refused goes by a second, light sweep, which finds the lowest number.
 #![tactic(auto)]
+
 ghost use Rattle.std.specs.Prelude.{◌≡◌, true, false, cond, ◌+◌, ◌≤◌, ◌<◌, length, ltb, eqb};
 ghost use Rattle.spans.specs.Span.{part_or};
 ghost use Rattle.order.specs.Version.{newer_than};

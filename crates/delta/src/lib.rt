@@ -1,6 +1,7 @@
 // Deltas: one change of a page as a frame of its own. A leaf delta holds a key with its version and a value, an index delta a key and a
 // page id. A call judges its input, then stores all its frames, the remote frame first; readers take any buffer and any address.
 #![tactic(auto)]
+
 ghost use Rattle.std.specs.Prelude.{◌≡◌, ◌+◌, ◌≤◌, length};
 ghost use Rattle.spans.specs.Span.{put};
 ghost use Rattle.frames.specs.Layout.{delta_key_at};

@@ -70,7 +70,7 @@ module _ (κs : Lfts 1) (s : Bor (List ℕ)) (a : Addr) where
 
 -- the bytes of a part are decided
 module _ (κs : Lfts 1) (s : Bor (List ℕ)) (a : Addr) where
-  pub lo_decided : (x : AtExit lo_fn.ended κs) → Decides (λ (r : Bor (List ℕ)). lo_at.Post κs (s, (a, tt)) r x) (λ (r : Bor (List ℕ)). r.now)
+  pub lo_decided : (x : AtExit lo_fn.ended κs) → Decides (λ (r : Bor (List ℕ)). lo_at_lem.Post κs (s, (a, tt)) r x) (λ (r : Bor (List ℕ)). r.now)
   lo_decided x = decides (λ (r : Bor (List ℕ)). r.now) (lo_at s.now a)
 
   pub hi_decided : (x : AtExit hi_fn.ended κs) → Decides (λ (r : Bor (List ℕ)). hi_at.Post κs (s, (a, tt)) r x) (λ (r : Bor (List ℕ)). r.now)

@@ -1,6 +1,7 @@
 // The head of a leaf page that has a probe as its key, by search's halving: its key alone is read. The overlay and the lookup as of a
 // version share it.
 #![tactic(auto)]
+
 ghost use Rattle.std.specs.Prelude.{◌≡◌};
 ghost use Rattle.frames.specs.Layout.{Inside};
 ghost use Rattle.search_head.specs.Head.{head_slot, head_in, head_at};

@@ -1,6 +1,7 @@
 // Walks over a page, forward and backward, each head followed by its older versions: by value, a step at a time.
 // The headers are judged when the walk is made; a step asks only that the page still lies in the lent arena.
 #![tactic(auto)]
+
 ghost use Rattle.std.specs.Prelude.{◌≡◌, ◌+◌, ◌*◌, ◌-◌, ◌≤◌, ◌<◌, ◌^◌, length};
 ghost use Rattle.spans.specs.Span.{part_or};
 ghost use Rattle.frames.specs.Layout.{base_len};

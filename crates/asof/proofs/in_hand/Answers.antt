@@ -17,9 +17,9 @@ newer_in-requires c = sym c.body_of.ensures ∙ c.in-Is.is
 
 pub further-here-requires : goal.further-here-requires
 further-here-requires c = record {
-        n_bound = c.newer_in.ensures.word;
-        n_le_left = c.newer_in.ensures.few;
-    }
+  n_bound = c.newer_in.ensures.word;
+  n_le_left = c.newer_in.ensures.few;
+}
 
 pub returns-then-here-eq0 : goal.returns-then-here-eq0
 returns-then-here-eq0 c = hand_on c.args.s.now c.args.v c.args.from c.in-Is.b (sym c.body_of.ensures ∙ c.in-Is.is) c.newer_in.result c.newer_in.ensures c.further-here.ensures
@@ -27,8 +27,8 @@ returns-then-here-eq0 c = hand_on c.args.s.now c.args.v c.args.from c.in-Is.b (s
 pub quick_old-requires : goal.quick_old-requires
 quick_old-requires c = let o = sym c.body_of.ensures ∙ c.in-Is.is in
     record {
-        inside = body-inside c.args.s.now c.args.from.page 2 c.in-Is.b o;
-        kind_value = ap (λ (y : Body). y.kind) (sym (body_is c.args.s.now c.args.from.page 2 c.in-Is.b o));
+      inside = body-inside c.args.s.now c.args.from.page 2 c.in-Is.b o;
+      kind_value = ap (λ (y : Body). y.kind) (sym (body_is c.args.s.now c.args.from.page 2 c.in-Is.b o));
     }
 
 pub returns-in_default-quick_old : goal.returns-in_default-quick_old

@@ -30,9 +30,9 @@ slice_bounds-settle-end-in-Got c = let v = c.loop-i.invariant.writing in sym (le
 
 pub settle-q-requires : goal.settle-q-requires
 settle-q-requires c = let all = settle_asks _ _ _ _ _ _ _ _ _ _ _ _ c.loop-i.invariant (omega (arith, c.well_formed.0)) c.requires.sane in record {
-        sane = all.0;
-        c_bound = all.1;
-    }
+  sane = all.0;
+  c_bound = all.1;
+}
 
 pub overflow_cast-h : goal.overflow_cast-h
 overflow_cast-h c = let z = q_slots _ _ _ _ _ _ _ _ _ _ _ _ c.loop-i.invariant _ _ (got _ _ _ _ _ c.loop-i.invariant.writing.same c.next-st.ensures _ _ c.in-Got.is) _ c.run_of-k.ensures _ c.names-named.ensures _ c.settle-q.ensures in omega (arith, z)
@@ -48,17 +48,17 @@ overflow_add-beyond c = let z = beyond_fits _ _ _ _ _ _ _ _ _ _ _ _ c.loop-i.inv
 
 pub put_head-to-requires : goal.put_head-to-requires
 put_head-to-requires c = let all = head_asks _ _ _ _ _ _ _ _ _ _ _ _ c.loop-i.invariant _ _ (got _ _ _ _ _ c.loop-i.invariant.writing.same c.next-st.ensures _ _ c.in-Got.is) _ c.run_of-k.ensures _ c.names-named.ensures _ c.settle-q.ensures in record {
-        ground_le_at = all.0;
-        placed = all.1.0;
-        p_bound = all.1.1.0;
-        i_in_bounds = all.1.1.1;
-    }
+  ground_le_at = all.0;
+  placed = all.1.0;
+  p_bound = all.1.1.0;
+  i_in_bounds = all.1.1.1;
+}
 
 pub onward-loc-requires : goal.onward-loc-requires
 onward-loc-requires c = record {
-        le_left = q_left _ _ _ _ _ _ _ _ _ _ _ _ c.loop-i.invariant _ _ (got _ _ _ _ _ c.loop-i.invariant.writing.same c.next-st.ensures _ _ c.in-Got.is) _ c.run_of-k.ensures _ c.names-named.ensures _ c.settle-q.ensures;
-        left_bound = q_slots _ _ _ _ _ _ _ _ _ _ _ _ c.loop-i.invariant _ _ (got _ _ _ _ _ c.loop-i.invariant.writing.same c.next-st.ensures _ _ c.in-Got.is) _ c.run_of-k.ensures _ c.names-named.ensures _ c.settle-q.ensures;
-    }
+  le_left = q_left _ _ _ _ _ _ _ _ _ _ _ _ c.loop-i.invariant _ _ (got _ _ _ _ _ c.loop-i.invariant.writing.same c.next-st.ensures _ _ c.in-Got.is) _ c.run_of-k.ensures _ c.names-named.ensures _ c.settle-q.ensures;
+  left_bound = q_slots _ _ _ _ _ _ _ _ _ _ _ _ c.loop-i.invariant _ _ (got _ _ _ _ _ c.loop-i.invariant.writing.same c.next-st.ensures _ _ c.in-Got.is) _ c.run_of-k.ensures _ c.names-named.ensures _ c.settle-q.ensures;
+}
 
 pub loop-i-smaller : goal.loop-i-smaller
 loop-i-smaller c = (got _ _ _ _ _ c.loop-i.invariant.writing.same c.next-st.ensures _ _ c.in-Got.is).falls
@@ -71,15 +71,15 @@ shape_of-a-in-End c = c.loop-i.invariant.writing.long
 
 pub returns-in-End : goal.returns-in-End
 returns-in-End c = let all = recs-end _ _ _ _ _ _ _ _ _ _ _ _ c.loop-i.invariant (at-end _ _ _ _ _ c.loop-i.invariant.writing.same c.next-st.ensures c.in-End.is).0 in record {
-        value = all.0;
-        a_after = all.1;
-    }
+  value = all.0;
+  a_after = all.1;
+}
 
 pub shape_of-a-in-Bad : goal.shape_of-a-in-Bad
 shape_of-a-in-Bad c = c.loop-i.invariant.writing.long
 
 pub returns-in-Bad : goal.returns-in-Bad
 returns-in-Bad c = let all = recs-end _ _ _ _ _ _ _ _ _ _ _ _ c.loop-i.invariant (at_bad _ _ _ _ _ c.loop-i.invariant.writing.same c.next-st.ensures c.in-Bad.is).0 in record {
-        value = all.0;
-        a_after = all.1;
-    }
+  value = all.0;
+  a_after = all.1;
+}

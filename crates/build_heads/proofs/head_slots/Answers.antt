@@ -25,15 +25,15 @@ slice_bounds-slot_step-end-in-Got c = let v = c.loop-i.invariant.writing in sym 
 
 pub slot_step-n-requires : goal.slot_step-n-requires
 slot_step-n-requires c = let all = step_asks _ _ _ _ _ _ _ _ _ _ c.loop-i.invariant _ _ (got _ _ _ _ _ c.loop-i.invariant.writing.same c.next-st.ensures _ _ c.in-Got.is) in record {
-        placed = all.0;
-        p_bound = all.1;
-    }
+  placed = all.0;
+  p_bound = all.1;
+}
 
 pub put_slot-to-requires : goal.put_slot-to-requires
 put_slot-to-requires c = let all = slot_asks _ _ _ _ _ _ _ _ _ _ c.loop-i.invariant _ _ (got _ _ _ _ _ c.loop-i.invariant.writing.same c.next-st.ensures _ _ c.in-Got.is) in record {
-        off_in_bounds = all.0;
-        off_bound = all.1;
-    }
+  off_in_bounds = all.0;
+  off_bound = all.1;
+}
 
 pub overflow_add-off : goal.overflow_add-off
 overflow_add-off c = let z = off_small _ _ _ _ _ _ _ _ _ _ c.loop-i.invariant _ _ (got _ _ _ _ _ c.loop-i.invariant.writing.same c.next-st.ensures _ _ c.in-Got.is) _ c.slot_step-n.ensures in omega (arith, z)

@@ -8,9 +8,9 @@ use Rattle.build_heads.proofs.put_head.Goals as goal
 
 pub returns-then-old : goal.returns-then-old
 returns-then-old c = let all = rec_none _ _ _ _ _ _ _ (old_of _ _ _ ∙ c.if-old.true) in record {
-        value = all.0;
-        a_after = all.1;
-    }
+  value = all.0;
+  a_after = all.1;
+}
 
 pub overflow_add-i : goal.overflow_add-i
 overflow_add-i c = omega (arith, c.requires.placed.ksmall)
@@ -26,17 +26,17 @@ overflow_add-n c = omega (arith, c.requires.placed.ksmall, c.key_len-k.ensures, 
 
 pub head_rec-requires : goal.head_rec-requires
 head_rec-requires c = record {
-        ground_le_at = c.requires.ground_le_at;
-        placed = c.requires.placed;
-        p_bound = c.requires.p_bound;
-        i_in_bounds = rec-room c.args.a.now c.args.at c.args.limit c.args.p c.args.remote c.args.h _ (old_of _ _ _ ∙ c.if-old.false) c.requires.i_in_bounds;
-    }
+  ground_le_at = c.requires.ground_le_at;
+  placed = c.requires.placed;
+  p_bound = c.requires.p_bound;
+  i_in_bounds = rec-room c.args.a.now c.args.at c.args.limit c.args.p c.args.remote c.args.h _ (old_of _ _ _ ∙ c.if-old.false) c.requires.i_in_bounds;
+}
 
 pub overflow_add-result : goal.overflow_add-result
 overflow_add-result c = let z = rec-long _ _ _ c.requires.placed c.args.limit c.args.p c.args.remote c.args.h _ _ _ c.key_len-k.ensures c.calc_size.ensures (some-any c.args.h.count) in let y = rec-room c.args.a.now c.args.at c.args.limit c.args.p c.args.remote c.args.h _ (old_of _ _ _ ∙ c.if-old.false) c.requires.i_in_bounds in omega (arith, z, y, c.well_formed.0)
 
 pub returns : goal.returns
 returns c = let all = rec_one _ _ _ _ _ _ _ (old_of _ _ _ ∙ c.if-old.false) _ _ (rec-long _ _ _ c.requires.placed c.args.limit c.args.p c.args.remote c.args.h _ _ _ c.key_len-k.ensures c.calc_size.ensures (some-any c.args.h.count)) c.head_rec.ensures in record {
-        value = all.0;
-        a_after = all.1;
-    }
+  value = all.0;
+  a_after = all.1;
+}

@@ -4,7 +4,7 @@ use Rattle.build_heads.proofs.Locating.{unnamed, stays, run_small, settled-end, 
 use Rattle.build_heads.proofs.settle.Goals as goal
 
 pub returns-then-not-named : goal.returns-then-not-named
-returns-then-not-named c = unnamed _ _ _ c.args.named _ (not-true c.args.named c.if-not-named.true)
+returns-then-not-named c = unnamed _ _ _ c.args.named _ (c.if-not-named.true)
 
 pub returns-then-left-gt0 : goal.returns-then-left-gt0
 returns-then-left-gt0 c = stays _ _ _ _ _ c.if-left-gt0.true

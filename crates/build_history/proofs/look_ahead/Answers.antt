@@ -11,9 +11,9 @@ loop-i-init c = look_begin _ _ _ _ _ c.requires.0 c.requires.1
 
 pub returns-in_default : goal.returns-in_default
 returns-in_default c = let all = look_end _ _ _ _ _ _ _ _ _ c.loop-i.invariant (no_one _ _ _ _ _ _ refl c.next_of-st.ensures c.in_default.is) in record {
-        run_value = all.0;
-        skipped = all.1;
-    }
+  run_value = all.0;
+  skipped = all.1;
+}
 
 pub overflow_cast-i : goal.overflow_cast-i
 overflow_cast-i c = let g = (one _ _ _ _ _ _ refl c.next_of-st.ensures _ _ c.in-One.is).placed.vsmall in omega arith
@@ -25,10 +25,10 @@ pub overflow_add-s-in-loop-i : goal.overflow_add-s-in-loop-i
 overflow_add-s-in-loop-i c = let z = look_fits _ _ _ _ _ _ _ _ _ c.loop-i.invariant _ _ (one _ _ _ _ _ _ refl c.next_of-st.ensures _ _ c.in-One.is) _ c.calc_size.ensures in omega arith
 
 pub returns-then-not-takes : goal.returns-then-not-takes
-returns-then-not-takes c = let all = look_full _ _ _ _ _ _ _ _ _ c.loop-i.invariant _ _ (one _ _ _ _ _ _ refl c.next_of-st.ensures _ _ c.in-One.is) _ c.calc_size.ensures (sym c.takes.ensures ∙ not-true _ c.if-not-takes.true) in record {
-        run_value = all.0;
-        skipped = all.1;
-    }
+returns-then-not-takes c = let all = look_full _ _ _ _ _ _ _ _ _ c.loop-i.invariant _ _ (one _ _ _ _ _ _ refl c.next_of-st.ensures _ _ c.in-One.is) _ c.calc_size.ensures (sym c.takes.ensures ∙ c.if-not-takes.true) in record {
+  run_value = all.0;
+  skipped = all.1;
+}
 
 pub overflow_add-n : goal.overflow_add-n
 overflow_add-n c = let v = c.loop-i.invariant in omega (arith, v.many, v.small)
@@ -46,4 +46,4 @@ pub loop-i-smaller : goal.loop-i-smaller
 loop-i-smaller c = fewer _ _ _ _ _ _ (one _ _ _ _ _ _ refl c.next_of-st.ensures _ _ c.in-One.is)
 
 pub loop-i-preserved : goal.loop-i-preserved
-loop-i-preserved c = look_turn _ _ _ _ _ _ _ _ _ c.loop-i.invariant _ _ (one _ _ _ _ _ _ refl c.next_of-st.ensures _ _ c.in-One.is) _ c.calc_size.ensures _ c.remote_len-f.ensures (sym c.takes.ensures ∙ not-false _ c.if-not-takes.false)
+loop-i-preserved c = look_turn _ _ _ _ _ _ _ _ _ c.loop-i.invariant _ _ (one _ _ _ _ _ _ refl c.next_of-st.ensures _ _ c.in-One.is) _ c.calc_size.ensures _ c.remote_len-f.ensures (sym c.takes.ensures ∙ c.if-not-takes.false)

@@ -7,10 +7,10 @@ overflow_add-at c = let z = rec-fits _ _ _ _ _ _ _ c.requires.ground_le_at c.req
 
 pub put_val-requires : goal.put_val-requires
 put_val-requires c = let all = rec_asks _ _ _ _ _ _ _ c.requires.ground_le_at c.requires.placed c.requires.i_in_bounds _ _ c.write_ver-k.ensures in record {
-        ground_le_at = all.0;
-        placed = all.1.0;
-        i_in_bounds = all.1.1;
-    }
+  ground_le_at = all.0;
+  placed = all.1.0;
+  i_in_bounds = all.1.1;
+}
 
 pub returns : goal.returns
 returns c = rec-end _ _ _ _ _ _ _ c.requires.ground_le_at c.requires.placed c.requires.i_in_bounds _ _ c.write_ver-k.ensures _ c.put_val.ensures

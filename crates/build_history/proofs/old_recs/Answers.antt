@@ -41,10 +41,10 @@ overflow_add-beyond c = let z = remotes-found _ _ _ _ _ _ (one _ _ _ _ _ _ c.loo
 
 pub old_rec-requires : goal.old_rec-requires
 old_rec-requires c = let all = recs_asks _ _ _ _ _ _ _ (one _ _ _ _ _ _ c.loop-k.invariant.0.same c.next_of-st.ensures _ _ c.in-One.is) _ c.loop-k-test.true _ _ _ _ _ c.loop-k.invariant.0 in record {
-        ground_le_at = all.0;
-        placed = all.1.0;
-        i_in_bounds = all.1.1;
-    }
+  ground_le_at = all.0;
+  placed = all.1.0;
+  i_in_bounds = all.1.1;
+}
 
 pub loop-k-preserved : goal.loop-k-preserved
 loop-k-preserved c = let z = remotes-found _ _ _ _ _ _ (one _ _ _ _ _ _ c.loop-k.invariant.0.same c.next_of-st.ensures _ _ c.in-One.is) _ c.loop-k-test.true c.args.limit in

@@ -7,10 +7,10 @@ overflow_add-v c = let z = near_fits _ _ _ _ _ _ _ _ c.requires.ground_le_at c.r
 
 pub copy_part-requires : goal.copy_part-requires
 copy_part-requires c = let all = near_asks _ _ _ _ _ _ _ _ c.requires.ground_le_at c.requires.placed c.requires.i_in_bounds c.if-n-limit.true _ _ c.write_front-k.ensures in record {
-        ground_le_at = all.0;
-        n_in_bounds = all.1.0;
-        n_in_bounds_2 = all.1.1;
-    }
+  ground_le_at = all.0;
+  n_in_bounds = all.1.0;
+  n_in_bounds_2 = all.1.1;
+}
 
 pub overflow_add-w : goal.overflow_add-w
 overflow_add-w c = let z = away-fits _ _ _ _ _ _ _ _ c.requires.ground_le_at c.requires.placed c.requires.i_in_bounds c.if-n-limit.false _ _ c.write_front-j.ensures in omega arith

@@ -9,10 +9,10 @@ put_u64-requires c = remote_room1 c.args.list.now c.args.a.now c.args.ground c.a
 
 pub copy_part-requires : goal.copy_part-requires
 copy_part-requires c = let all = remote_asks c.args.list.now c.args.a.now c.args.ground c.args.at c.args.inside c.args.from c.args.n c.args.m c.requires.ground_le_at c.requires.n_in_bounds c.requires.n_in_bounds_2 _ c.put_box.ensures _ c.put_u64.ensures in record {
-        ground_le_at = all.0;
-        n_in_bounds = all.1.0;
-        n_in_bounds_2 = all.1.1;
-    }
+  ground_le_at = all.0;
+  n_in_bounds = all.1.0;
+  n_in_bounds_2 = all.1.1;
+}
 
 pub zeros-requires : goal.zeros-requires
 zeros-requires c = remote-zeros c.args.list.now c.args.a.now c.args.ground c.args.at c.args.inside c.args.from c.args.n c.args.m c.requires.ground_le_at c.requires.n_in_bounds c.requires.n_in_bounds_2 _ c.put_box.ensures _ c.put_u64.ensures _ c.copy_part.ensures _ c.frame_len.ensures

@@ -4,29 +4,29 @@ use Rattle.build_history.proofs.remote_frame_of.Goals as goal
 
 pub returns-then-n-m : goal.returns-then-n-m
 returns-then-n-m c = let all = near_ret _ _ _ _ c.requires.placed _ _ c.if-n-m.true in record {
-        value = all.0;
-        a_after = all.1;
-    }
+  value = all.0;
+  a_after = all.1;
+}
 
 pub returns-then-kept-ne0 : goal.returns-then-kept-ne0
 returns-then-kept-ne0 c = let all = kept_ret _ _ _ _ c.requires.placed _ _ c.if-n-m.false c.if-kept-ne0.true in record {
-        value = all.0;
-        a_after = all.1;
-    }
+  value = all.0;
+  a_after = all.1;
+}
 
 pub remote_frame-requires : goal.remote_frame-requires
 remote_frame-requires c = record {
-        ground_le_at = c.requires.ground_le_at;
-        n_le_max_value = (remote_asks _ _ _ _ c.requires.placed c.args.a.now c.args.at c.if-n-m.false c.if-kept-ne0.false c.requires.i_in_bounds).0;
-        n_in_bounds = (remote_asks _ _ _ _ c.requires.placed c.args.a.now c.args.at c.if-n-m.false c.if-kept-ne0.false c.requires.i_in_bounds).1.0;
-        n_in_bounds_2 = (remote_asks _ _ _ _ c.requires.placed c.args.a.now c.args.at c.if-n-m.false c.if-kept-ne0.false c.requires.i_in_bounds).1.1;
-    }
+  ground_le_at = c.requires.ground_le_at;
+  n_le_max_value = (remote_asks _ _ _ _ c.requires.placed c.args.a.now c.args.at c.if-n-m.false c.if-kept-ne0.false c.requires.i_in_bounds).0;
+  n_in_bounds = (remote_asks _ _ _ _ c.requires.placed c.args.a.now c.args.at c.if-n-m.false c.if-kept-ne0.false c.requires.i_in_bounds).1.0;
+  n_in_bounds_2 = (remote_asks _ _ _ _ c.requires.placed c.args.a.now c.args.at c.if-n-m.false c.if-kept-ne0.false c.requires.i_in_bounds).1.1;
+}
 
 pub overflow_add-result : goal.overflow_add-result
 overflow_add-result c = let z = remote_fit _ _ c.args.i _ c.requires.placed c.args.a.now c.args.at c.if-n-m.false c.if-kept-ne0.false c.requires.i_in_bounds in omega (arith, c.frame_len.ensures)
 
 pub returns : goal.returns
 returns c = let all = remote_ret _ _ _ _ c.requires.placed _ _ c.if-n-m.false c.if-kept-ne0.false _ _ c.frame_len.ensures c.remote_frame.ensures in record {
-        value = all.0;
-        a_after = all.1;
-    }
+  value = all.0;
+  a_after = all.1;
+}

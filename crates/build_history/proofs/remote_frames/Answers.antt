@@ -6,9 +6,9 @@ returns-then-len-eq0 c = frames_none _ _ _ _ _ c.requires.len_value c.if-len-eq0
 
 pub each_remote_frame-requires : goal.each_remote_frame-requires
 each_remote_frame-requires c = record {
-        ground_le_at = c.requires.ground_le_at;
-        n_in_bounds = c.requires.n_in_bounds;
-    }
+  ground_le_at = c.requires.ground_le_at;
+  n_in_bounds = c.requires.n_in_bounds;
+}
 
 pub returns : goal.returns
 returns c = c.each_remote_frame.ensures

@@ -23,17 +23,17 @@ shape_of-a-then-r-eq0 c = c.loop-m.invariant.writing.long
 
 pub returns-then-r-eq0 : goal.returns-then-r-eq0
 returns-then-r-eq0 c = let all = hist_done _ _ _ _ _ _ _ _ _ c.requires.sane c.loop-m.invariant _ c.look_ahead-s.ensures.run_value c.if-r-eq0.true in record {
-        value = all.0;
-        a_after = all.1;
-    }
+  value = all.0;
+  a_after = all.1;
+}
 
 pub hist_page-to-requires : goal.hist_page-to-requires
 hist_page-to-requires c = let all = page_asks _ _ _ _ _ _ _ _ _ c.requires.sane c.loop-m.invariant _ c.look_ahead-s.ensures.run_value c.if-r-eq0.false in record {
-        ground_le_at = all.0;
-        sane = all.1.0;
-        r_value = all.1.1.0;
-        from_in_bounds = all.1.1.1;
-    }
+  ground_le_at = all.0;
+  sane = all.1.0;
+  r_value = all.1.1.0;
+  from_in_bounds = all.1.1.1;
+}
 
 pub loop-m-smaller : goal.loop-m-smaller
 loop-m-smaller c = hist_less _ _ _ _ _ _ _ _ _ c.requires.sane c.loop-m.invariant _ c.look_ahead-s.ensures.run_value c.if-r-eq0.false _ _ c.hist_page-to.ensures.value c.hist_page-to.ensures.a_after _ c.look_ahead-s.ensures.skipped

@@ -47,7 +47,7 @@ overflow_add-c-in-loop-left c = let z = run-size _ _ _ _ _ _ _ _ _ _ _ _ _ c.loo
 pub returns-then-not-takes : goal.returns-then-not-takes
 returns-then-not-takes c = record {
         ready_2 = run_stopped _ _ _ _ _ _ _ _ _ _ _ _ _ c.loop-left.invariant c.loop-left-test.true _ c.spot_at-q.ensures;
-        filled_by = run_stop _ _ _ _ _ _ _ _ _ _ _ _ _ c.loop-left.invariant c.loop-left-test.true _ c.spot_at-q.ensures _ c.old_here-r.ensures c.requires.limit_le_max_limit.0 _ c.calc_size.ensures (sym c.takes.ensures ∙ not-true _ c.if-not-takes.true) _ c.hand_at-hand.ensures.page_value _ (open_page c.args.from.run (run-some c.args.s.now c.args.limit c.args.budget c.args.count c.args.page c.args.first c.args.from.run c.if-was-left.false).0);
+        filled_by = run_stop _ _ _ _ _ _ _ _ _ _ _ _ _ c.loop-left.invariant c.loop-left-test.true _ c.spot_at-q.ensures _ c.old_here-r.ensures c.requires.limit_le_max_limit.0 _ c.calc_size.ensures (sym c.takes.ensures ∙ c.if-not-takes.true) _ c.hand_at-hand.ensures.page_value _ (open_page c.args.from.run (run-some c.args.s.now c.args.limit c.args.budget c.args.count c.args.page c.args.first c.args.from.run c.if-was-left.false).0);
     }
 
 pub overflow_add-n : goal.overflow_add-n
@@ -63,7 +63,7 @@ pub overflow_add-f : goal.overflow_add-f
 overflow_add-f c = let v = c.loop-left.invariant.sized in omega (arith, v.many, v.small, v.away, run-remote _ _ _ _ _ _ _ _ _ _ _ _ _ c.loop-left.invariant c.loop-left-test.true _ c.spot_at-q.ensures _ c.old_here-r.ensures c.requires.limit_le_max_limit.0 _ c.calc_size.ensures _ c.remote_len-f.ensures)
 
 pub loop-left-preserved : goal.loop-left-preserved
-loop-left-preserved c = run_on _ _ _ _ _ _ _ _ _ _ _ _ _ c.loop-left.invariant c.loop-left-test.true _ c.spot_at-q.ensures _ c.old_here-r.ensures c.requires.limit_le_max_limit.0 _ c.calc_size.ensures _ c.remote_len-f.ensures c.requires.limit_le_max_limit.1 (sym c.takes.ensures ∙ not-false _ c.if-not-takes.false)
+loop-left-preserved c = run_on _ _ _ _ _ _ _ _ _ _ _ _ _ c.loop-left.invariant c.loop-left-test.true _ c.spot_at-q.ensures _ c.old_here-r.ensures c.requires.limit_le_max_limit.0 _ c.calc_size.ensures _ c.remote_len-f.ensures c.requires.limit_le_max_limit.1 (sym c.takes.ensures ∙ c.if-not-takes.false)
 
 pub returns : goal.returns
 returns c = record {

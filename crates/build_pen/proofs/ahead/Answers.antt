@@ -31,7 +31,7 @@ pub overflow_add-s-then-same_key : goal.overflow_add-s-then-same_key
 overflow_add-s-then-same_key c = let z = peer_fits _ _ _ _ _ _ _ _ _ _ _ _ c.loop-at.invariant c.loop-at-test.true _ c.record_at-i.ensures (sym c.same_key.ensures ∙ c.if-same_key.true) _ c.calc_size.ensures in omega arith
 
 pub returns-then-not-takes : goal.returns-then-not-takes
-returns-then-not-takes c = peer_full _ _ _ _ _ _ _ _ _ _ _ _ c.loop-at.invariant c.loop-at-test.true _ c.record_at-i.ensures (sym c.same_key.ensures ∙ c.if-same_key.true) _ c.calc_size.ensures (sym c.takes.ensures ∙ not-true _ c.if-not-takes.true)
+returns-then-not-takes c = peer_full _ _ _ _ _ _ _ _ _ _ _ _ c.loop-at.invariant c.loop-at-test.true _ c.record_at-i.ensures (sym c.same_key.ensures ∙ c.if-same_key.true) _ c.calc_size.ensures (sym c.takes.ensures ∙ c.if-not-takes.true)
 
 pub overflow_add-n : goal.overflow_add-n
 overflow_add-n c = let v = c.loop-at.invariant.looks in omega (arith, v.many, v.small)
@@ -49,7 +49,7 @@ pub loop-at-smaller-then-same_key : goal.loop-at-smaller-then-same_key
 loop-at-smaller-then-same_key c = rw c.past-next.ensures (peer_less _ _ _ _ _ _ _ _ _ _ _ _ c.loop-at.invariant c.loop-at-test.true _ c.record_at-i.ensures)
 
 pub loop-at-preserved-then-same_key : goal.loop-at-preserved-then-same_key
-loop-at-preserved-then-same_key c = rw c.past-next.ensures (peer_turn _ _ _ _ _ _ _ _ _ _ _ _ c.loop-at.invariant c.loop-at-test.true _ c.record_at-i.ensures (sym c.same_key.ensures ∙ c.if-same_key.true) _ c.calc_size.ensures _ c.remote_len-f.ensures (sym c.takes.ensures ∙ not-false _ c.if-not-takes.false))
+loop-at-preserved-then-same_key c = rw c.past-next.ensures (peer_turn _ _ _ _ _ _ _ _ _ _ _ _ c.loop-at.invariant c.loop-at-test.true _ c.record_at-i.ensures (sym c.same_key.ensures ∙ c.if-same_key.true) _ c.calc_size.ensures _ c.remote_len-f.ensures (sym c.takes.ensures ∙ c.if-not-takes.false))
 
 pub loop-at-smaller : goal.loop-at-smaller
 loop-at-smaller c = rw c.past-next.ensures (peer_less _ _ _ _ _ _ _ _ _ _ _ _ c.loop-at.invariant c.loop-at-test.true _ c.record_at-i.ensures)

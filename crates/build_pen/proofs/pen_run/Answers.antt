@@ -25,7 +25,7 @@ pub shape_of-a-then-not-same_key : goal.shape_of-a-then-not-same_key
 shape_of-a-then-not-same_key c = run_long _ _ _ _ _ _ _ _ _ _ _ _ _ _ c.loop-at.invariant
 
 pub returns-then-not-same_key : goal.returns-then-not-same_key
-returns-then-not-same_key c = run_stop _ _ _ _ _ _ _ _ _ _ _ _ _ _ c.loop-at.invariant c.loop-at-test.true _ c.record_at-i.ensures (sym c.same_key.ensures ∙ not-true _ c.if-not-same_key.true)
+returns-then-not-same_key c = run_stop _ _ _ _ _ _ _ _ _ _ _ _ _ _ c.loop-at.invariant c.loop-at-test.true _ c.record_at-i.ensures (sym c.same_key.ensures ∙ c.if-not-same_key.true)
 
 pub turn-r-requires : goal.turn-r-requires
 turn-r-requires c = record {
@@ -37,31 +37,31 @@ turn-r-requires c = record {
     }
 
 pub put_hint-h-requires : goal.put_hint-h-requires
-put_hint-h-requires c = run-hint _ _ _ _ _ _ _ _ _ _ _ _ _ _ c.loop-at.invariant c.loop-at-test.true _ c.record_at-i.ensures (sym c.same_key.ensures ∙ not-false _ c.if-not-same_key.false) _ _ c.turn-r.ensures
+put_hint-h-requires c = run-hint _ _ _ _ _ _ _ _ _ _ _ _ _ _ c.loop-at.invariant c.loop-at-test.true _ c.record_at-i.ensures (sym c.same_key.ensures ∙ c.if-not-same_key.false) _ _ c.turn-r.ensures
 
 pub overflow_add-l : goal.overflow_add-l
-overflow_add-l c = omega (arith, run-page _ _ _ _ _ _ _ _ _ _ _ _ _ _ c.loop-at.invariant c.loop-at-test.true _ c.record_at-i.ensures (sym c.same_key.ensures ∙ not-false _ c.if-not-same_key.false) _ _ c.turn-r.ensures _ _ c.put_hint-h.ensures.value c.put_hint-h.ensures.a_after, c.well_formed.0)
+overflow_add-l c = omega (arith, run-page _ _ _ _ _ _ _ _ _ _ _ _ _ _ c.loop-at.invariant c.loop-at-test.true _ c.record_at-i.ensures (sym c.same_key.ensures ∙ c.if-not-same_key.false) _ _ c.turn-r.ensures _ _ c.put_hint-h.ensures.value c.put_hint-h.ensures.a_after, c.well_formed.0)
 
 pub pen_old-k-requires : goal.pen_old-k-requires
 pen_old-k-requires c = record {
         inside = run_inside _ _ _ _ _ _ _ _ _ _ _ _ _ _ c.loop-at.invariant c.loop-at-test.true _ c.record_at-i.ensures;
-        asks = run_asks _ _ _ _ _ _ _ _ _ _ _ _ _ _ c.loop-at.invariant c.loop-at-test.true _ c.record_at-i.ensures (sym c.same_key.ensures ∙ not-false _ c.if-not-same_key.false) _ _ c.turn-r.ensures _ _ c.put_hint-h.ensures.value c.put_hint-h.ensures.a_after;
+        asks = run_asks _ _ _ _ _ _ _ _ _ _ _ _ _ _ c.loop-at.invariant c.loop-at-test.true _ c.record_at-i.ensures (sym c.same_key.ensures ∙ c.if-not-same_key.false) _ _ c.turn-r.ensures _ _ c.put_hint-h.ensures.value c.put_hint-h.ensures.a_after;
     }
 
 pub overflow_add-q : goal.overflow_add-q
-overflow_add-q c = omega (arith, run-slot _ _ _ _ _ _ _ _ _ _ _ _ _ _ c.loop-at.invariant c.loop-at-test.true _ c.record_at-i.ensures (sym c.same_key.ensures ∙ not-false _ c.if-not-same_key.false) _ _ c.turn-r.ensures, run-left _ _ _ _ _ _ _ _ _ _ _ _ _ _ c.loop-at.invariant c.loop-at-test.true _ c.record_at-i.ensures (sym c.same_key.ensures ∙ not-false _ c.if-not-same_key.false) _ _ c.turn-r.ensures)
+overflow_add-q c = omega (arith, run-slot _ _ _ _ _ _ _ _ _ _ _ _ _ _ c.loop-at.invariant c.loop-at-test.true _ c.record_at-i.ensures (sym c.same_key.ensures ∙ c.if-not-same_key.false) _ _ c.turn-r.ensures, run-left _ _ _ _ _ _ _ _ _ _ _ _ _ _ c.loop-at.invariant c.loop-at-test.true _ c.record_at-i.ensures (sym c.same_key.ensures ∙ c.if-not-same_key.false) _ _ c.turn-r.ensures)
 
 pub overflow_sub-q : goal.overflow_sub-q
-overflow_sub-q c = omega (arith, run-left _ _ _ _ _ _ _ _ _ _ _ _ _ _ c.loop-at.invariant c.loop-at-test.true _ c.record_at-i.ensures (sym c.same_key.ensures ∙ not-false _ c.if-not-same_key.false) _ _ c.turn-r.ensures)
+overflow_sub-q c = omega (arith, run-left _ _ _ _ _ _ _ _ _ _ _ _ _ _ c.loop-at.invariant c.loop-at-test.true _ c.record_at-i.ensures (sym c.same_key.ensures ∙ c.if-not-same_key.false) _ _ c.turn-r.ensures)
 
 pub overflow_add-run : goal.overflow_add-run
-overflow_add-run c = omega (arith, run-count _ _ _ _ _ _ _ _ _ _ _ _ _ _ c.loop-at.invariant c.loop-at-test.true _ c.record_at-i.ensures (sym c.same_key.ensures ∙ not-false _ c.if-not-same_key.false) _ _ c.turn-r.ensures)
+overflow_add-run c = omega (arith, run-count _ _ _ _ _ _ _ _ _ _ _ _ _ _ c.loop-at.invariant c.loop-at-test.true _ c.record_at-i.ensures (sym c.same_key.ensures ∙ c.if-not-same_key.false) _ _ c.turn-r.ensures)
 
 pub loop-at-smaller : goal.loop-at-smaller
 loop-at-smaller c = rw c.past-next.ensures (run-less _ _ _ _ _ _ _ _ _ _ _ _ _ _ c.loop-at.invariant c.loop-at-test.true _ c.record_at-i.ensures)
 
 pub loop-at-preserved : goal.loop-at-preserved
-loop-at-preserved c = rw c.past-next.ensures (run_turn _ _ _ _ _ _ _ _ _ _ _ _ _ _ c.loop-at.invariant c.loop-at-test.true _ c.record_at-i.ensures (sym c.same_key.ensures ∙ not-false _ c.if-not-same_key.false) _ _ c.turn-r.ensures _ _ c.put_hint-h.ensures.value c.put_hint-h.ensures.a_after _ _ c.pen_old-k.ensures.value c.pen_old-k.ensures.a_after _ _ c.first_of-page.ensures c.first_of-slot.ensures)
+loop-at-preserved c = rw c.past-next.ensures (run_turn _ _ _ _ _ _ _ _ _ _ _ _ _ _ c.loop-at.invariant c.loop-at-test.true _ c.record_at-i.ensures (sym c.same_key.ensures ∙ c.if-not-same_key.false) _ _ c.turn-r.ensures _ _ c.put_hint-h.ensures.value c.put_hint-h.ensures.a_after _ _ c.pen_old-k.ensures.value c.pen_old-k.ensures.a_after _ _ c.first_of-page.ensures c.first_of-slot.ensures)
 
 pub shape_of-a : goal.shape_of-a
 shape_of-a c = run_long _ _ _ _ _ _ _ _ _ _ _ _ _ _ c.loop-at.invariant

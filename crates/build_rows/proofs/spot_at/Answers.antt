@@ -8,9 +8,9 @@ returns-then-slot-hand c = spot_own c.args.s.now c.args.hand c.args.slot c.requi
 
 pub hand_at-requires : goal.hand_at-requires
 hand_at-requires c = record {
-        known = inr c.requires.holds;
-        opens = link-opens c.args.s.now c.args.hand c.args.slot c.requires.holds c.if-slot-hand.false c.requires.answers;
-    }
+  known = inr c.requires.holds;
+  opens = link-opens c.args.s.now c.args.hand c.args.slot c.requires.holds c.if-slot-hand.false c.requires.answers;
+}
 
 pub returns : goal.returns
 returns c = spot_linked c.args.s.now c.args.hand c.args.slot c.hand_at.result c.requires.holds c.if-slot-hand.false c.hand_at.ensures.holds c.hand_at.ensures.page_value

@@ -1,4 +1,3 @@
-
 use Rattle.build_sources.proofs.first_of.Goals as goal
 
 pub returns : goal.returns

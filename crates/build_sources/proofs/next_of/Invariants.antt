@@ -5,7 +5,5 @@ use Rattle.build_sources.proofs.next_of.Given as goal
 abbrev pub invariant-loop-i : goal.invariant-loop-i
 invariant-loop-i l = only l.want (entries l.list l.ground l.c) ≡ only l.want (entries l.list l.ground l.initial.c)
 
-
 abbrev pub decreases-loop-i : goal.decreases-loop-i
 decreases-loop-i l = left_of l.list l.ground l.c
-

@@ -1,4 +1,3 @@
-
 use Rattle.build_sources.proofs.open_pages.Goals as goal
 
 pub returns : goal.returns

@@ -10,7 +10,7 @@ pub loop-i-init : goal.loop-i-init
 loop-i-init c = rising_begin _ _ _ _
 
 pub returns-then-not-is_above : goal.returns-then-not-is_above
-returns-then-not-is_above c = risen_stop _ _ _ _ _ _ _ c.loop-i.invariant _ _ _ _ (got _ _ _ _ _ refl c.next-st.ensures _ _ c.in-Got.is) (sym c.is_above.ensures ∙ not-true _ c.if-not-is_above.true)
+returns-then-not-is_above c = risen_stop _ _ _ _ _ _ _ c.loop-i.invariant _ _ _ _ (got _ _ _ _ _ refl c.next-st.ensures _ _ c.in-Got.is) (sym c.is_above.ensures ∙ c.if-not-is_above.true)
 
 pub overflow_add-n : goal.overflow_add-n
 overflow_add-n c = omega (arith, c.well_formed, c.loop-i.invariant.left, left-long c.args.list.now c.args.ground.now c.args.from, (got _ _ _ _ _ refl c.next-st.ensures _ _ c.in-Got.is).falls)
@@ -19,7 +19,7 @@ pub loop-i-smaller : goal.loop-i-smaller
 loop-i-smaller c = (got _ _ _ _ _ refl c.next-st.ensures _ _ c.in-Got.is).falls
 
 pub loop-i-preserved : goal.loop-i-preserved
-loop-i-preserved c = risen_turn _ _ _ _ _ _ _ c.loop-i.invariant _ _ (got _ _ _ _ _ refl c.next-st.ensures _ _ c.in-Got.is) (sym c.is_above.ensures ∙ not-false _ c.if-not-is_above.false)
+loop-i-preserved c = risen_turn _ _ _ _ _ _ _ c.loop-i.invariant _ _ (got _ _ _ _ _ refl c.next-st.ensures _ _ c.in-Got.is) (sym c.is_above.ensures ∙ c.if-not-is_above.false)
 
 pub returns-in-End : goal.returns-in-End
 returns-in-End c = risen_end _ _ _ _ _ _ _ c.loop-i.invariant _ _ _ c.ends_in.ensures (at-end _ _ _ _ _ refl c.next-st.ensures c.in-End.is).0

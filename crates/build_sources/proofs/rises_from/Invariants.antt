@@ -6,7 +6,5 @@ use Rattle.build_sources.proofs.rises_from.Given as goal
 abbrev pub invariant-loop-i : goal.invariant-loop-i
 invariant-loop-i l = Rising l.list l.ground (entry_of l.list l.ground l.initial.last) l.initial.c (entry_of l.list l.ground l.last) l.c l.n
 
-
 abbrev pub decreases-loop-i : goal.decreases-loop-i
 decreases-loop-i l = left_of l.list l.ground l.c
-

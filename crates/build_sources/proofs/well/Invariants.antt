@@ -5,7 +5,5 @@ use Rattle.build_sources.proofs.well.Given as goal
 abbrev pub invariant-loop-d : goal.invariant-loop-d
 invariant-loop-d l = well_formed l.list l.ground l.c ≡ well_formed l.list l.ground l.initial.c
 
-
 abbrev pub decreases-loop-d : goal.decreases-loop-d
 decreases-loop-d l = left_of l.list l.ground l.c
-

@@ -22,7 +22,7 @@ pub order_at-requires : goal.order_at-requires
 order_at-requires c = let z = index_fits _ _ _ _ _ _ _ _ c.loop-at.invariant c.loop-at-test.true _ _ (sym c.in-At.is ∙ c.index_ent.ensures) in (omega (arith, c.loop-at.invariant.behind, z), omega (arith, z))
 
 pub returns-then-not-is_less : goal.returns-then-not-is_less
-returns-then-not-is_less c = index_falls _ _ _ _ _ _ _ _ c.loop-at.invariant c.loop-at-test.true _ _ (sym c.in-At.is ∙ c.index_ent.ensures) _ c.order_at.ensures _ c.is_less.ensures (not-true _ c.if-not-is_less.true)
+returns-then-not-is_less c = index_falls _ _ _ _ _ _ _ _ c.loop-at.invariant c.loop-at-test.true _ _ (sym c.in-At.is ∙ c.index_ent.ensures) _ c.order_at.ensures _ c.is_less.ensures (c.if-not-is_less.true)
 
 pub overflow_cast-less : goal.overflow_cast-less
 overflow_cast-less c = let z = index_key_lem _ _ _ _ _ _ _ _ c.loop-at.invariant c.loop-at-test.true _ _ (sym c.in-At.is ∙ c.index_ent.ensures) in omega (arith, z, c.less.ensures)
@@ -46,7 +46,7 @@ pub loop-at-smaller : goal.loop-at-smaller
 loop-at-smaller c = index_less _ _ _ _ _ _ _ _ c.loop-at.invariant c.loop-at-test.true _ _ (sym c.in-At.is ∙ c.index_ent.ensures)
 
 pub loop-at-preserved : goal.loop-at-preserved
-loop-at-preserved c = index_on _ _ _ _ _ _ _ _ c.loop-at.invariant c.loop-at-test.true _ _ (sym c.in-At.is ∙ c.index_ent.ensures) _ c.order_at.ensures _ c.is_less.ensures _ _ c.less.ensures c.index_key_size.ensures (not-false _ c.if-not-is_less.false) c.if-n-ge-MAX_ENTRIES.false
+loop-at-preserved c = index_on _ _ _ _ _ _ _ _ c.loop-at.invariant c.loop-at-test.true _ _ (sym c.in-At.is ∙ c.index_ent.ensures) _ c.order_at.ensures _ c.is_less.ensures _ _ c.less.ensures c.index_key_size.ensures (c.if-not-is_less.false) c.if-n-ge-MAX_ENTRIES.false
 
 pub returns : goal.returns
 returns c = index_whole _ _ _ _ _ _ _ _ c.loop-at.invariant c.loop-at-test.false

@@ -34,10 +34,10 @@ way_at-requires c = let z = list-fits _ _ _ _ _ _ _ _ _ _ _ c.loop-at.invariant 
 
 pub with_head-t-requires : goal.with_head-t-requires
 with_head-t-requires c = record {
-        n_le_max_value = list-val _ _ _ _ _ _ _ _ _ _ _ c.loop-at.invariant c.requires.next_bound c.loop-at-test.true _ _ (sym c.in-At.is ∙ c.ent_at.ensures);
-        k_le_max_key = list-key _ _ _ _ _ _ _ _ _ _ _ c.loop-at.invariant c.requires.next_bound c.loop-at-test.true _ _ (sym c.in-At.is ∙ c.ent_at.ensures);
-        bounded = list-bounded _ _ _ _ _ _ _ _ _ _ _ c.loop-at.invariant c.requires.next_bound c.loop-at-test.true _ _ (sym c.in-At.is ∙ c.ent_at.ensures);
-    }
+  n_le_max_value = list-val _ _ _ _ _ _ _ _ _ _ _ c.loop-at.invariant c.requires.next_bound c.loop-at-test.true _ _ (sym c.in-At.is ∙ c.ent_at.ensures);
+  k_le_max_key = list-key _ _ _ _ _ _ _ _ _ _ _ c.loop-at.invariant c.requires.next_bound c.loop-at-test.true _ _ (sym c.in-At.is ∙ c.ent_at.ensures);
+  bounded = list-bounded _ _ _ _ _ _ _ _ _ _ _ c.loop-at.invariant c.requires.next_bound c.loop-at-test.true _ _ (sym c.in-At.is ∙ c.ent_at.ensures);
+}
 
 pub loop-at-smaller-in-Head : goal.loop-at-smaller-in-Head
 loop-at-smaller-in-Head c = list-less _ _ _ _ _ _ _ _ _ _ _ c.loop-at.invariant c.requires.next_bound c.loop-at-test.true _ _ (sym c.in-At.is ∙ c.ent_at.ensures)
@@ -47,15 +47,15 @@ loop-at-preserved-in-Head c = list_head _ _ _ _ _ _ _ _ _ _ _ c.loop-at.invarian
 
 pub with_cut-g-requires : goal.with_cut-g-requires
 with_cut-g-requires c = record {
-        limit_le_max_limit = (c.requires.limit_le_max_limit.0, list-val _ _ _ _ _ _ _ _ _ _ _ c.loop-at.invariant c.requires.next_bound c.loop-at-test.true _ _ (sym c.in-At.is ∙ c.ent_at.ensures));
-        slim = list_slim _ _ _ _ _ _ _ _ _ _ _ c.loop-at.invariant c.requires.next_bound;
-    }
+  limit_le_max_limit = (c.requires.limit_le_max_limit.0, list-val _ _ _ _ _ _ _ _ _ _ _ c.loop-at.invariant c.requires.next_bound c.loop-at-test.true _ _ (sym c.in-At.is ∙ c.ent_at.ensures));
+  slim = list_slim _ _ _ _ _ _ _ _ _ _ _ c.loop-at.invariant c.requires.next_bound;
+}
 
 pub with_old-t-requires : goal.with_old-t-requires
 with_old-t-requires c = record {
-        n_le_max_value = list-val _ _ _ _ _ _ _ _ _ _ _ c.loop-at.invariant c.requires.next_bound c.loop-at-test.true _ _ (sym c.in-At.is ∙ c.ent_at.ensures);
-        bounded = list-bounded _ _ _ _ _ _ _ _ _ _ _ c.loop-at.invariant c.requires.next_bound c.loop-at-test.true _ _ (sym c.in-At.is ∙ c.ent_at.ensures);
-    }
+  n_le_max_value = list-val _ _ _ _ _ _ _ _ _ _ _ c.loop-at.invariant c.requires.next_bound c.loop-at-test.true _ _ (sym c.in-At.is ∙ c.ent_at.ensures);
+  bounded = list-bounded _ _ _ _ _ _ _ _ _ _ _ c.loop-at.invariant c.requires.next_bound c.loop-at-test.true _ _ (sym c.in-At.is ∙ c.ent_at.ensures);
+}
 
 pub loop-at-smaller : goal.loop-at-smaller
 loop-at-smaller c = list-less _ _ _ _ _ _ _ _ _ _ _ c.loop-at.invariant c.requires.next_bound c.loop-at-test.true _ _ (sym c.in-At.is ∙ c.ent_at.ensures)

@@ -26,7 +26,7 @@ pub overflow_cast-size : goal.overflow_cast-size
 overflow_cast-size c = omega (arith, c.if-size-gt-MAX_SIZE.false)
 
 pub returns-then-not-room : goal.returns-then-not-room
-returns-then-not-room c = weigh_index_full _ _ _ _ _ _ c.if-size-gt-MAX_SIZE.false _ c.frame_len.ensures _ c.room.ensures (not-true _ c.if-not-room.true)
+returns-then-not-room c = weigh_index_full _ _ _ _ _ _ c.if-size-gt-MAX_SIZE.false _ c.frame_len.ensures _ c.room.ensures (c.if-not-room.true)
 
 pub returns : goal.returns
-returns c = weigh_index_fits _ _ _ _ _ _ c.if-size-gt-MAX_SIZE.false _ c.frame_len.ensures _ c.room.ensures (not-false _ c.if-not-room.false)
+returns c = weigh_index_fits _ _ _ _ _ _ c.if-size-gt-MAX_SIZE.false _ c.frame_len.ensures _ c.room.ensures (c.if-not-room.false)

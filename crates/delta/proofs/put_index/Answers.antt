@@ -25,9 +25,9 @@ overflow_cast-k c = omega (arith, c.index_key_size-k.ensures, index_key_most (le
 pub put_head-requires : goal.put_head-requires
 unfolding index_frame
 put_head-requires c = record {
-        delta_key_at_in_bounds = frame_head_room c.args.a.now c.args.at c.args.m 2 (index_key c.args.key.now) (le 8 c.args.page.0) _ _ (index_key-size_lem c.args.key.now ∙ sym c.index_key_size-k.ensures) (length-le 8 c.args.page.0) c.requires.page_in_bounds _ c.frame_len.ensures;
-        v_bound = omega (arith, c.index_key_size-k.ensures, index_key_most (length c.args.key.now));
-    }
+  delta_key_at_in_bounds = frame_head_room c.args.a.now c.args.at c.args.m 2 (index_key c.args.key.now) (le 8 c.args.page.0) _ _ (index_key-size_lem c.args.key.now ∙ sym c.index_key_size-k.ensures) (length-le 8 c.args.page.0) c.requires.page_in_bounds _ c.frame_len.ensures;
+  v_bound = omega (arith, c.index_key_size-k.ensures, index_key_most (length c.args.key.now));
+}
 
 pub overflow_add-q : goal.overflow_add-q
 unfolding index_frame

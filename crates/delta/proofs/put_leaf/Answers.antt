@@ -24,9 +24,9 @@ overflow_cast-k c = omega (arith, c.leaf_key_size-k.ensures, leaf_key_most (leng
 pub put_head-requires : goal.put_head-requires
 unfolding leaf_frame
 put_head-requires c = record {
-        delta_key_at_in_bounds = frame_head_room c.args.a.now c.args.at c.args.m 1 (leaf_key c.args.ver c.args.key.now) (value_of c.args.m.limit c.args.remote c.args.v.now) _ _ (leaf_key-size_lem c.args.ver c.args.key.now ∙ sym c.leaf_key_size-k.ensures) (length-value c.args.m.limit c.args.remote c.args.v.now ∙ sym c.calc_size-n.ensures) c.requires.v_in_bounds _ c.frame_len.ensures;
-        v_bound = omega (arith, c.leaf_key_size-k.ensures, leaf_key_most (length c.args.key.now), c.calc_size-n.ensures, (size-some c.args.m.limit (length c.args.v.now)).1);
-    }
+  delta_key_at_in_bounds = frame_head_room c.args.a.now c.args.at c.args.m 1 (leaf_key c.args.ver c.args.key.now) (value_of c.args.m.limit c.args.remote c.args.v.now) _ _ (leaf_key-size_lem c.args.ver c.args.key.now ∙ sym c.leaf_key_size-k.ensures) (length-value c.args.m.limit c.args.remote c.args.v.now ∙ sym c.calc_size-n.ensures) c.requires.v_in_bounds _ c.frame_len.ensures;
+  v_bound = omega (arith, c.leaf_key_size-k.ensures, leaf_key_most (length c.args.key.now), c.calc_size-n.ensures, (size-some c.args.m.limit (length c.args.v.now)).1);
+}
 
 pub overflow_add-q : goal.overflow_add-q
 unfolding leaf_frame
@@ -35,9 +35,9 @@ overflow_add-q c = omega (arith, frame-fits c.args.a.now c.args.at c.args.m 1 (l
 pub put_value-requires : goal.put_value-requires
 unfolding leaf_frame
 put_value-requires c = record {
-        v_len_bound = c.requires.key_len_bound.1;
-        v_in_bounds = frame-val-room c.args.a.now c.args.at c.args.m 1 (leaf_key c.args.ver c.args.key.now) (value_of c.args.m.limit c.args.remote c.args.v.now) _ _ (leaf_key-size_lem c.args.ver c.args.key.now ∙ sym c.leaf_key_size-k.ensures) (length-value c.args.m.limit c.args.remote c.args.v.now ∙ sym c.calc_size-n.ensures) c.requires.v_in_bounds _ c.frame_len.ensures _ c.put_head.ensures _ (stored_bytes _ _ _ _ _ _ c.write_leaf_key-w.ensures (le-leb _ _ c.requires.key_len_bound.0) (frame-key-room c.args.a.now c.args.at c.args.m 1 (leaf_key c.args.ver c.args.key.now) (value_of c.args.m.limit c.args.remote c.args.v.now) _ _ (leaf_key-size_lem c.args.ver c.args.key.now ∙ sym c.leaf_key_size-k.ensures) (length-value c.args.m.limit c.args.remote c.args.v.now ∙ sym c.calc_size-n.ensures) c.requires.v_in_bounds _ c.frame_len.ensures _ c.put_head.ensures));
-    }
+  v_len_bound = c.requires.key_len_bound.1;
+  v_in_bounds = frame-val-room c.args.a.now c.args.at c.args.m 1 (leaf_key c.args.ver c.args.key.now) (value_of c.args.m.limit c.args.remote c.args.v.now) _ _ (leaf_key-size_lem c.args.ver c.args.key.now ∙ sym c.leaf_key_size-k.ensures) (length-value c.args.m.limit c.args.remote c.args.v.now ∙ sym c.calc_size-n.ensures) c.requires.v_in_bounds _ c.frame_len.ensures _ c.put_head.ensures _ (stored_bytes _ _ _ _ _ _ c.write_leaf_key-w.ensures (le-leb _ _ c.requires.key_len_bound.0) (frame-key-room c.args.a.now c.args.at c.args.m 1 (leaf_key c.args.ver c.args.key.now) (value_of c.args.m.limit c.args.remote c.args.v.now) _ _ (leaf_key-size_lem c.args.ver c.args.key.now ∙ sym c.leaf_key_size-k.ensures) (length-value c.args.m.limit c.args.remote c.args.v.now ∙ sym c.calc_size-n.ensures) c.requires.v_in_bounds _ c.frame_len.ensures _ c.put_head.ensures));
+}
 
 pub overflow_add-e : goal.overflow_add-e
 unfolding leaf_frame

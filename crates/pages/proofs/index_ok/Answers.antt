@@ -11,9 +11,9 @@ pub loop-i-init : goal.loop-i-init
 loop-i-init c = (omega arith, omega arith, sym (recs_index c.args.s.now c.args.b c.requires.kind_value) ∙ slots_start c.args.s.now c.args.b)
 
 pub child_at-requires : goal.child_at-requires
-child_at-requires c = let all = c.requires in record {
-  inside = all.0;
-  kind_value = all.1;
+child_at-requires c = record {
+  inside = c.requires.inside;
+  kind_value = c.requires.kind_value;
 }
 
 pub returns-in_default : goal.returns-in_default

@@ -11,9 +11,9 @@ pub loop-i-init : goal.loop-i-init
 loop-i-init c = (omega arith, omega arith, inl refl, slots_start c.args.s.now c.args.b, chains_start c.args.s.now c.args.b (λ e. omega (arith, c.requires.kind_value)))
 
 pub head_at-requires : goal.head_at-requires
-head_at-requires c = let all = c.requires in record {
-  inside = all.0;
-  kind_value = all.1;
+head_at-requires c = record {
+  inside = c.requires.inside;
+  kind_value = c.requires.kind_value;
 }
 
 pub returns-in_default : goal.returns-in_default
@@ -27,7 +27,7 @@ in_order-requires c = let k = (at-inside c.args.s.now c.args.b c.loop-i.i c.in-I
     (c.loop-i.invariant.1, omega (arith, k.rest, c.requires.inside.payload, c.requires.inside.arena))
 
 pub returns-then-not-in_order : goal.returns-then-not-in_order
-returns-then-not-in_order c = sym (recs-slots c.args.s.now c.args.b (c.loop-i.invariant.3 ∙ slots_fall c.args.s.now c.args.b c.args.b.elems _ _ _ _ c.loop-i-test.true c.in-Is.head (sym c.head_at.ensures ∙ c.in-Is.is) c.if-head-want.false (sym c.in_order.ensures ∙ not-true _ c.if-not-in_order.true)))
+returns-then-not-in_order c = sym (recs-slots c.args.s.now c.args.b (c.loop-i.invariant.3 ∙ slots_fall c.args.s.now c.args.b c.args.b.elems _ _ _ _ c.loop-i-test.true c.in-Is.head (sym c.head_at.ensures ∙ c.in-Is.is) c.if-head-want.false (sym c.in_order.ensures ∙ c.if-not-in_order.true)))
 
 pub head_ok-h-requires : goal.head_ok-h-requires
 head_ok-h-requires c = record {
@@ -43,7 +43,7 @@ loop-i-smaller c = omega (arith, c.loop-i-test.true)
 
 pub loop-i-preserved : goal.loop-i-preserved
 loop-i-preserved c = let k = (at-inside c.args.s.now c.args.b c.loop-i.i c.in-Is.head c.requires.inside (sym c.head_at.ensures ∙ c.in-Is.is)).0 in
-    (omega (arith, c.loop-i-test.true), omega (arith, k.rest, c.requires.inside.payload, c.requires.inside.arena), c.head_ok-h.ensures.known_2, c.loop-i.invariant.3 ∙ slots_more c.args.s.now c.args.b c.args.b.elems _ _ _ _ c.loop-i-test.true c.in-Is.head (sym c.head_at.ensures ∙ c.in-Is.is) c.if-head-want.false (sym c.in_order.ensures ∙ not-false _ c.if-not-in_order.false), rw c.multi_of-m.ensures (c.loop-i.invariant.4 ∙ chains_more c.args.s.now c.args.b c.args.b.elems _ _ c.loop-i-test.true c.in-Is.head (sym c.head_at.ensures ∙ c.in-Is.is) (sym c.head_ok-h.ensures.ok_value ∙ c.if-h.true)))
+    (omega (arith, c.loop-i-test.true), omega (arith, k.rest, c.requires.inside.payload, c.requires.inside.arena), c.head_ok-h.ensures.known_2, c.loop-i.invariant.3 ∙ slots_more c.args.s.now c.args.b c.args.b.elems _ _ _ _ c.loop-i-test.true c.in-Is.head (sym c.head_at.ensures ∙ c.in-Is.is) c.if-head-want.false (sym c.in_order.ensures ∙ c.if-not-in_order.false), rw c.multi_of-m.ensures (c.loop-i.invariant.4 ∙ chains_more c.args.s.now c.args.b c.args.b.elems _ _ c.loop-i-test.true c.in-Is.head (sym c.head_at.ensures ∙ c.in-Is.is) (sym c.head_ok-h.ensures.ok_value ∙ c.if-h.true)))
 
 pub returns-else-h : goal.returns-else-h
 returns-else-h c = sym (recs-chains c.args.s.now c.args.b (c.loop-i.invariant.4 ∙ chains_broken c.args.s.now c.args.b c.args.b.elems _ _ c.loop-i-test.true c.in-Is.head (sym c.head_at.ensures ∙ c.in-Is.is) (sym c.head_ok-h.ensures.ok_value ∙ c.if-h.false)))

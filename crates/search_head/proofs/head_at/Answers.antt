@@ -10,8 +10,8 @@ pub head_in-requires : goal.head_in-requires
 head_in-requires c = let e : outcome_at c.args.s.now c.args.a c.args.probe.now leaves ≡ Outcome.Stands c.in-Stands.b c.in-Stands.h = cc in
     let k = (outcome_ready c.args.s.now c.args.a c.args.probe.now leaves c.in-Stands.b c.in-Stands.h e).0 in
     record {
-        inside = k.inside;
-        kind_value = leaf_kind c.in-Stands.b.kind k.right;
+      inside = k.inside;
+      kind_value = leaf_kind c.in-Stands.b.kind k.right;
     }
 
 pub returns-in-Bad : goal.returns-in-Bad

@@ -14,9 +14,9 @@ fits_prefix-requires c = c.requires
 
 pub halve_page-requires : goal.halve_page-requires
 halve_page-requires c = record {
-        inside = c.requires;
-        prefix_len_in_bounds = fits-long c.args.s.now c.args.b c.args.probe.now c.requires (sym c.fits_prefix.ensures ∙ c.if-fits_prefix.true);
-    }
+  inside = c.requires;
+  prefix_len_in_bounds = fits-long c.args.s.now c.args.b c.args.probe.now c.requires (sym c.fits_prefix.ensures ∙ c.if-fits_prefix.true);
+}
 
 pub returns-then-fits_prefix : goal.returns-then-fits_prefix
 returns-then-fits_prefix c = let k : right_kind c.args.b.kind c.args.w ≡ true = unfold right_kind in c.if-w-b.true in

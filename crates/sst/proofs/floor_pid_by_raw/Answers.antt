@@ -19,8 +19,8 @@ floor_in-requires c = let q : ended_in c.args.s.now c.in-Is.b c.args.probe.now i
     let e : outcome_at c.args.s.now c.args.a c.args.probe.now indexes ≡ Outcome.Stands c.in-Is.b c.in-Stands.h = outcome_ended c.args.s.now c.args.a c.args.probe.now indexes c.in-Is.b (Ended.Stands c.in-Stands.h) (sym c.open_at.ensures ∙ c.in-Is.is) q in
     let k = (outcome_ready c.args.s.now c.args.a c.args.probe.now indexes c.in-Is.b c.in-Stands.h e).0 in
     record {
-        inside = k.inside;
-        kind_value = index_kind c.in-Is.b.kind k.right;
+      inside = k.inside;
+      kind_value = index_kind c.in-Is.b.kind k.right;
     }
 
 pub returns-in-Bad : goal.returns-in-Bad

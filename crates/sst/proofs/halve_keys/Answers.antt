@@ -15,10 +15,10 @@ loop-lo-init c = let f = key_cmp c.args.s.now c.args.b c.args.rest.now c.args.w 
 
 pub narrow-g-requires : goal.narrow-g-requires
 narrow-g-requires c = record {
-        inside = c.requires;
-        marks = c.mark_of-mark.ensures;
-        hi_le_elems = (c.loop-lo.invariant.inside, c.loop-lo.invariant.fuel);
-    }
+  inside = c.requires;
+  marks = c.mark_of-mark.ensures;
+  hi_le_elems = (c.loop-lo.invariant.inside, c.loop-lo.invariant.fuel);
+}
 
 pub overflow_add-mid : goal.overflow_add-mid
 overflow_add-mid c = omega (arith, (c.narrow-g.ensures.goes c.args.w).inside, c.if-lo-hi.true, c.requires.slots, c.requires.records, c.requires.payload, c.requires.arena, c.well_formed)
@@ -28,9 +28,9 @@ overflow_add-reads c = omega (arith, (c.narrow-g.ensures.goes c.args.w).fuel, c.
 
 pub met_at-requires : goal.met_at-requires
 met_at-requires c = record {
-        inside = c.requires;
-        met = c.narrow-g.ensures.met;
-    }
+  inside = c.requires;
+  met = c.narrow-g.ensures.met;
+}
 
 pub overflow_add-lo : goal.overflow_add-lo
 overflow_add-lo c = omega (arith, (c.narrow-g.ensures.goes c.args.w).inside, c.if-lo-hi.true, c.requires.slots, c.requires.records, c.requires.payload, c.requires.arena, c.well_formed)

@@ -15,9 +15,9 @@ overflow_add-mid c = omega (arith, (c.loop-lo.invariant leaves).inside, c.loop-l
 
 pub marked_at-requires : goal.marked_at-requires
 marked_at-requires c = record {
-        inside = c.requires.inside;
-        i_lt_elems = (omega (arith, (c.loop-lo.invariant leaves).inside, c.loop-lo-test.true), c.requires.marks.small);
-    }
+  inside = c.requires.inside;
+  i_lt_elems = (omega (arith, (c.loop-lo.invariant leaves).inside, c.loop-lo-test.true), c.requires.marks.small);
+}
 
 pub returns-in_default : goal.returns-in_default
 returns-in_default c = record { goes = c.loop-lo.invariant; met = none_met c.args.s.now c.args.b c.args.rest.now (mid c.loop-lo.lo c.loop-lo.hi) }

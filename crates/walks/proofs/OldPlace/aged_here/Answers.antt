@@ -15,8 +15,8 @@ ver_at-requires c = (key_lies c.args.s.now c.args.self.page c.args.self.slot _ _
 pub after-requires : goal.after-requires
 after-requires c = let k = key_lies c.args.s.now c.args.self.page c.args.self.slot _ _ _ (sym c.key_old.ensures ∙ c.in-Key.is) in
     record {
-        slot_bound = omega (arith, k.slot, k.few, c.well_formed);
-        left_nonzero = c.requires;
+      slot_bound = omega (arith, k.slot, k.few, c.well_formed);
+      left_nonzero = c.requires;
     }
 
 pub returns : goal.returns

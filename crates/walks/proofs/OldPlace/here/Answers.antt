@@ -19,8 +19,8 @@ after-requires c = let g = read-inside c.args.s.now c.args.self.page 2 c.args.se
     let h = at_slot c.args.s.now (body_in c.args.self.page 2) c.args.self.slot c.in-Is.r g.1 in
     let i = g.0 in
     record {
-        slot_bound = omega (arith, h, i.records, i.payload, i.arena, c.well_formed);
-        left_nonzero = c.requires;
+      slot_bound = omega (arith, h, i.records, i.payload, i.arena, c.well_formed);
+      left_nonzero = c.requires;
     }
 
 pub returns : goal.returns

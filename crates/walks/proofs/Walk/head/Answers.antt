@@ -24,8 +24,8 @@ on-requires c = let g = read-inside c.args.s.now c.args.self.page (kind_of_way c
     let i = g.0 in
     let h = at_slot c.args.s.now (body_in c.args.self.page (kind_of_way c.args.self.way)) c.args.self.pos c.in-Is.r g.1 in
     record {
-        pos_bound = omega (arith, h, i.records, i.payload, i.arena, c.well_formed);
-        heads_nonzero = c.requires;
+      pos_bound = omega (arith, h, i.records, i.payload, i.arena, c.well_formed);
+      heads_nonzero = c.requires;
     }
 
 pub returns-then-self-eq-INDEX : goal.returns-then-self-eq-INDEX
@@ -48,8 +48,8 @@ on-requires-2 c = let g = read-inside c.args.s.now c.args.self.page (kind_of_way
     let i = g.0 in
     let h = at_slot c.args.s.now (body_in c.args.self.page (kind_of_way c.args.self.way)) c.args.self.pos c.in-Is.r g.1 in
     record {
-        pos_bound = omega (arith, h, i.records, i.payload, i.arena, c.well_formed);
-        heads_nonzero = c.requires;
+      pos_bound = omega (arith, h, i.records, i.payload, i.arena, c.well_formed);
+      heads_nonzero = c.requires;
     }
 
 pub returns : goal.returns
