@@ -68,16 +68,22 @@ pub fn signed(l: &[u8], k: usize) -> i64 {
 
 // ---- an answer's pieces; a failed write ends each, and some of it may be written
 
-pub fn say<W: Write>(out: &mut W, b: &[u8]) -> io::Result<()> {
+pub fn say<W: Write>(out: &mut W, b: &[u8]) -> io::Result<()>
+    ensures { OnOk result (Appends (W.contents out.old) (W.contents out.new) (b.now)) }
+{
     out.write_all(b)
 }
 
-pub fn end_line<W: Write>(out: &mut W) -> io::Result<()> {
+pub fn end_line<W: Write>(out: &mut W) -> io::Result<()>
+    ensures { OnOk result (Appends (W.contents out.old) (W.contents out.new) (codes "\n")) }
+{
     out.write_all(b"\n")
 }
 
 // A number behind a space.
-pub fn say_number<W: Write>(out: &mut W, n: u64) -> io::Result<()> {
+pub fn say_number<W: Write>(out: &mut W, n: u64) -> io::Result<()>
+    ensures { OnOk result (Appends (W.contents out.old) (W.contents out.new) (number_text n)) }
+{
     write!(out, " {n}")
 }
 
@@ -87,13 +93,17 @@ pub fn say_bytes<W: Write>(out: &mut W, b: &[u8]) -> io::Result<()> {
     replay_text::print_runs(out, b)
 }
 
-pub fn refused<W: Write>(out: &mut W, r: Refusal) -> io::Result<()> {
+pub fn refused<W: Write>(out: &mut W, r: Refusal) -> io::Result<()>
+    ensures { OnOk result (Appends (W.contents out.old) (W.contents out.new) (refused_text (number r))) }
+{
     out.write_all(b"!")?;
     say_number(out, frames::number(r) as u64)?;
     end_line(out)
 }
 
-pub fn nothing<W: Write>(out: &mut W) -> io::Result<()> {
+pub fn nothing<W: Write>(out: &mut W) -> io::Result<()>
+    ensures { OnOk result (Appends (W.contents out.old) (W.contents out.new) (codes "none\n")) }
+{
     out.write_all(b"none\n")
 }
 
@@ -103,13 +113,17 @@ pub fn is_bytes<W: Write>(out: &mut W, b: &[u8]) -> io::Result<()> {
     end_line(out)
 }
 
-pub fn is_number<W: Write>(out: &mut W, n: u64) -> io::Result<()> {
+pub fn is_number<W: Write>(out: &mut W, n: u64) -> io::Result<()>
+    ensures { OnOk result (Appends (W.contents out.old) (W.contents out.new) (codes "=" ++ (number_text n ++ codes "\n"))) }
+{
     out.write_all(b"=")?;
     say_number(out, n)?;
     end_line(out)
 }
 
-pub fn are_numbers<W: Write>(out: &mut W, a: u64, b: u64) -> io::Result<()> {
+pub fn are_numbers<W: Write>(out: &mut W, a: u64, b: u64) -> io::Result<()>
+    ensures { OnOk result (Appends (W.contents out.old) (W.contents out.new) (codes "=" ++ (number_text a ++ (number_text b ++ codes "\n")))) }
+{
     out.write_all(b"=")?;
     say_number(out, a)?;
     say_number(out, b)?;

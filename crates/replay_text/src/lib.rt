@@ -1,8 +1,10 @@
 // Text for the programs: lines, words, decimal numbers and hexadecimal bytes (runs as hh*N.), read from a slice and printed.
 #![tactic(auto)]
 
-ghost use Rattle.std.specs.Prelude.{◌≤◌, ◌<◌, length, IfOk};
+ghost use Rattle.std.specs.Prelude.{◌≤◌, ◌<◌, length, take, IfOk, OnOk};
+ghost use Rattle.std.specs.Io.KnownBytes.{Appends, Consumes, IsAtEnd};
 ghost use Rattle.replay_text.specs.Ends.{Ends, Reaches, Behind, Within};
+ghost use Rattle.replay_text.specs.Text.{hex_of, bytes_text};
 
 use std::io;
 use std::io::{Read, Write};
@@ -231,7 +233,9 @@ pub fn print_runs<W: Write>(out: &mut W, s: &[u8]) -> io::Result<()> {
 }
 
 // Writes the bytes in hexadecimal, two digits a byte, or - where there are none. A failed write ends it; some may be written.
-pub fn print_bytes<W: Write>(out: &mut W, s: &[u8]) -> io::Result<()> {
+pub fn print_bytes<W: Write>(out: &mut W, s: &[u8]) -> io::Result<()>
+    ensures { OnOk result (Appends (W.contents out.old) (W.contents out.new) (bytes_text s.now)) }
+{
     if s.len() == 0 {
         return out.write_all(b"-");
     }
@@ -244,14 +248,18 @@ pub fn print_bytes<W: Write>(out: &mut W, s: &[u8]) -> io::Result<()> {
 }
 
 // Two hexadecimal digits.
-fn print_byte<W: Write>(out: &mut W, b: u8) -> io::Result<()> {
+fn print_byte<W: Write>(out: &mut W, b: u8) -> io::Result<()>
+    ensures { OnOk result (Appends (W.contents out.old) (W.contents out.new) (hex_of b)) }
+{
     write!(out, "{b:02x}")
 }
 
 // Reads until buf is full or the input ends, and answers how many bytes stand at its front. A failed read ends it; buf then holds
 // anything.
 pub fn read_full<R: Read>(from: &mut R, buf: &mut [u8]) -> io::Result<usize>
-    ensures { IfOk result (λ n. n ≤ length buf.new) }
+    ensures bound { IfOk result (λ n. n ≤ length buf.new) }
+    ensures bytes { IfOk result (λ n. Consumes (R.remaining from.old) (R.remaining from.new) (take n buf.new)) }
+    ensures end { IfOk result (λ n. n < length buf.new → IsAtEnd (R.remaining from.new)) }
 {
     let mut done = 0;
     while done < buf.len() {
