@@ -1,6 +1,11 @@
 // The language of the judge's vectors (rust/oracle/README.md): a command's words read, and the pieces of an answer printed.
 #![tactic(auto)]
 
+ghost use Rattle.std.specs.Prelude.{◌++◌, codes, OnOk};
+ghost use Rattle.std.specs.Io.KnownBytes.{Appends};
+ghost use Rattle.frames.specs.Refusals.{number_of};
+ghost use Rattle.replay_script.specs.Pieces.{number_text, refused_text};
+
 use frames::{Addr, Refusal};
 use std::io;
 use std::io::Write;
@@ -94,7 +99,7 @@ pub fn say_bytes<W: Write>(out: &mut W, b: &[u8]) -> io::Result<()> {
 }
 
 pub fn refused<W: Write>(out: &mut W, r: Refusal) -> io::Result<()>
-    ensures { OnOk result (Appends (W.contents out.old) (W.contents out.new) (refused_text (number r))) }
+    ensures { OnOk result (Appends (W.contents out.old) (W.contents out.new) (refused_text (number_of r))) }
 {
     out.write_all(b"!")?;
     say_number(out, frames::number(r) as u64)?;
