@@ -4,6 +4,7 @@
 ghost use Rattle.std.specs.Prelude.{◌++◌, codes, OnOk};
 ghost use Rattle.std.specs.Io.KnownBytes.{Appends};
 ghost use Rattle.frames.specs.Refusals.{number_of};
+ghost use Rattle.replay_text.specs.Text.{runs_text};
 ghost use Rattle.replay_script.specs.Pieces.{number_text, refused_text};
 
 use frames::{Addr, Refusal};
@@ -93,7 +94,9 @@ pub fn say_number<W: Write>(out: &mut W, n: u64) -> io::Result<()>
 }
 
 // Bytes behind a space.
-pub fn say_bytes<W: Write>(out: &mut W, b: &[u8]) -> io::Result<()> {
+pub fn say_bytes<W: Write>(out: &mut W, b: &[u8]) -> io::Result<()>
+    ensures { OnOk result (Appends (W.contents out.old) (W.contents out.new) (codes " " ++ runs_text b.now)) }
+{
     out.write_all(b" ")?;
     replay_text::print_runs(out, b)
 }
@@ -112,7 +115,9 @@ pub fn nothing<W: Write>(out: &mut W) -> io::Result<()>
     out.write_all(b"none\n")
 }
 
-pub fn is_bytes<W: Write>(out: &mut W, b: &[u8]) -> io::Result<()> {
+pub fn is_bytes<W: Write>(out: &mut W, b: &[u8]) -> io::Result<()>
+    ensures { OnOk result (Appends (W.contents out.old) (W.contents out.new) (codes "=" ++ ((codes " " ++ runs_text b.now) ++ codes "\n"))) }
+{
     out.write_all(b"=")?;
     say_bytes(out, b)?;
     end_line(out)

@@ -1,10 +1,10 @@
 // Text for the programs: lines, words, decimal numbers and hexadecimal bytes (runs as hh*N.), read from a slice and printed.
 #![tactic(auto)]
 
-ghost use Rattle.std.specs.Prelude.{◌≤◌, ◌<◌, length, take, IfOk, OnOk};
+ghost use Rattle.std.specs.Prelude.{◌≤◌, ◌<◌, ◌≡◌, ◌+◌, length, take, drop, slice_index, IfOk, OnOk};
 ghost use Rattle.std.specs.Io.KnownBytes.{Appends, Consumes, IsAtEnd};
 ghost use Rattle.replay_text.specs.Ends.{Ends, Reaches, Behind, Within};
-ghost use Rattle.replay_text.specs.Text.{hex_of, bytes_text};
+ghost use Rattle.replay_text.specs.Text.{hex_of, bytes_text, run_length, runs_text};
 
 use std::io;
 use std::io::{Read, Write};
@@ -200,7 +200,8 @@ pub fn bytes_at(s: &[u8], at: usize, dst: &mut [u8]) -> usize
 // How many bytes from at on are the same as the one there.
 fn run_of(s: &[u8], at: usize) -> usize
     requires { at < length s.now }
-    ensures { Within s.now at result }
+    ensures within { Within s.now at result }
+    ensures count { result ≡ 1 + run_length (slice_index s.now at) (drop (at + 1) s.now) }
 {
     let b = s[at];
     let mut n = 1;
@@ -214,7 +215,9 @@ fn run_of(s: &[u8], at: usize) -> usize
 }
 
 // Writes the bytes in hexadecimal, a run of four or more as hh*N., or - where there are none. A failed write ends it; some may be written.
-pub fn print_runs<W: Write>(out: &mut W, s: &[u8]) -> io::Result<()> {
+pub fn print_runs<W: Write>(out: &mut W, s: &[u8]) -> io::Result<()>
+    ensures { OnOk result (Appends (W.contents out.old) (W.contents out.new) (runs_text s.now)) }
+{
     if s.len() == 0 {
         return out.write_all(b"-");
     }
