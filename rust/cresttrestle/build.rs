@@ -1,4 +1,4 @@
-//! Links libcapi.a, the proved library as `rt staticlib capi` writes it.
+//! Links libcapi.a, the proved library as `tools/archive` writes it.
 
 use std::path::{Path, PathBuf};
 
@@ -14,7 +14,7 @@ fn main() {
     println!("cargo::rerun-if-changed={}", lib.display());
     if !lib.is_file() {
         println!(
-            "cargo::error={} is missing: run `rt staticlib capi` at the top of the repository, or name the folder that holds libcapi.a in {DIR}",
+            "cargo::error={} is missing: run `tools/archive` at the top of the repository, or name the folder that holds libcapi.a in {DIR}",
             lib.display()
         );
         return;

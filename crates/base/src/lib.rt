@@ -1,6 +1,7 @@
 // Building: a leaf or index page from a list of entries, judged on its whole input and then written from the next free address on, as one
 // store.
 #![tactic(auto)]
+
 ghost use Rattle.std.specs.Prelude.{◌≡◌};
 ghost use Rattle.build_image.specs.Prefix.{common};
 ghost use Rattle.build_image.specs.Call.{call_of};

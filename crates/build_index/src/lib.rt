@@ -1,6 +1,7 @@
 // Index pages: measured, and written as one store. A list's entries are written in one loop (`write_list`), and so are the children of a page
 // (`write_pages`, a loop a page); any other source's by passes, which read them through the source alone.
 #![tactic(auto)]
+
 ghost use Rattle.std.specs.Prelude.{◌≡◌, [], ◌++◌, true, ◌+◌, ◌-◌, ◌*◌, ◌≤◌, length, take, drop};
 ghost use Rattle.spans.specs.Span.{part, put};
 ghost use Rattle.numbers.specs.Number.{be_at};

@@ -1,6 +1,7 @@
 // The whole leaf: history pages, the leaf's frame with its hints, the heads' remote frames. What no entry tells is stored first; the entries, of a record
 // list or of leaves, are written by the pen.
 #![tactic(auto)]
+
 ghost use Rattle.std.specs.Prelude.{◌≡◌, ◌++◌, true, ◌+◌, ◌-◌, ◌*◌, ◌≤◌, length, take};
 ghost use Rattle.spans.specs.Span.{put};
 ghost use Rattle.frames.specs.Layout.{frame_len, box_len, slots_at};

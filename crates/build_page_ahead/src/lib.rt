@@ -1,5 +1,6 @@
 // Looking ahead over pages: the history page that comes next, of the old versions that are left of a run and of those of the heads that follow in sound leaves.
 #![tactic(auto)]
+
 ghost use Rattle.std.specs.Prelude.{◌≡◌, ◌-◌, ◌≤◌, ◌<◌};
 ghost use Rattle.frames.specs.Limits.{max_budget, max_limit};
 ghost use Rattle.law_rows.specs.Rows.{leaf_entries};

@@ -1,6 +1,7 @@
 // The pen over pages: the entries of two leaves, or of a part of one, written side by side, each kind of byte by a cursor of its own. They are read below
 // the next free address of the arena that is written.
 #![tactic(auto)]
+
 ghost use Rattle.std.specs.Prelude.{◌≡◌, List, ◌++◌, ℕ, ◌+◌, ◌-◌, ◌≤◌, ◌<◌, length, take, drop};
 ghost use Rattle.spans.specs.Span.{put};
 ghost use Rattle.build_sources.specs.Source.{olds};

@@ -1,6 +1,7 @@
 // A leaf's heads with their old versions judged in one sweep, without writing: each is read once and added up; history pages are cut on the way. The
 // leaf was checked, and its keys rise.
 #![tactic(auto)]
+
 ghost use Rattle.std.specs.Prelude.{◌-◌, ◌≤◌};
 ghost use Rattle.frames.specs.Limits.{max_budget, max_limit};
 ghost use Rattle.law_rows.specs.Rows.{leaf_entries};

@@ -1,6 +1,7 @@
 // The pen: a record list's entries written side by side, each kind of byte by a cursor of its own, while the list is read once (and its old
 // versions once more, page by page, for their sizes).
 #![tactic(auto)]
+
 ghost use Rattle.std.specs.Prelude.{◌≡◌, true, false, cond, [], ◌+◌, ◌-◌, ◌≤◌, ◌<◌, length, eqb};
 ghost use Rattle.spans.specs.Span.{part, put};
 ghost use Rattle.frames.specs.Limits.{max_budget, max_entries, max_limit};

@@ -107,7 +107,7 @@ module _ (limit p : ℕ) where
   pub heads_are : (t : Tally) (es : List Entry) → (tally_of limit p t es).heads ≡ t.heads + length (heads es)
   unfolding tally_of only
   heads_are t [] = omega arith
-  heads_are t (e ∷ es) = heads_are _ es ∙ heads_by t e (heads es) e.old (length e.key) (length e.val) e.kept
+  heads_are t (e ∷ es) = heads_are (with_one limit p t e.old (length e.key) (length e.val) e.kept) es ∙ heads_by t e (heads es) e.old (length e.key) (length e.val) e.kept
 
   olds_by : (t : Tally) (e : Entry) (os : List Entry) (b : Bool) (k n kept : ℕ)
       → (with_one limit p t b k n kept).olds + length os ≡ t.olds + length (cond b (e ∷ os) os)
@@ -118,7 +118,7 @@ module _ (limit p : ℕ) where
   pub olds_are : (t : Tally) (es : List Entry) → (tally_of limit p t es).olds ≡ t.olds + length (olds es)
   unfolding tally_of only
   olds_are t [] = omega arith
-  olds_are t (e ∷ es) = olds_are _ es ∙ olds_by t e (olds es) e.old (length e.key) (length e.val) e.kept
+  olds_are t (e ∷ es) = olds_are (with_one limit p t e.old (length e.key) (length e.val) e.kept) es ∙ olds_by t e (olds es) e.old (length e.key) (length e.val) e.kept
 
   sums_by : (t : Tally) (b : Bool) (k n kept : ℕ) (es : List Entry)
       → (with_one limit p t b k n kept).sums + sums limit p (with_one limit p t b k n kept).after es
@@ -130,7 +130,7 @@ module _ (limit p : ℕ) where
   pub sums_are : (t : Tally) (es : List Entry) → (tally_of limit p t es).sums ≡ t.sums + sums limit p t.after es
   unfolding tally_of sums
   sums_are t [] = omega arith
-  sums_are t (e ∷ es) = sums_are _ es ∙ sums_by t e.old (length e.key) (length e.val) e.kept es
+  sums_are t (e ∷ es) = sums_are (with_one limit p t e.old (length e.key) (length e.val) e.kept) es ∙ sums_by t e.old (length e.key) (length e.val) e.kept es
 
   counted_by : (t : Tally) (b : Bool) (k n kept x : ℕ)
       → (with_one limit p t b k n kept).counted + x ≡ t.counted + (cond (ltb n limit) (cond (eqb kept 0) 0 1) 1 + x)
@@ -141,7 +141,7 @@ module _ (limit p : ℕ) where
   pub counted_are : (t : Tally) (es : List Entry) → (tally_of limit p t es).counted ≡ t.counted + counted limit es
   unfolding tally_of counted
   counted_are t [] = omega arith
-  counted_are t (e ∷ es) = counted_are _ es ∙ counted_by t e.old (length e.key) (length e.val) e.kept (counted limit es)
+  counted_are t (e ∷ es) = counted_are (with_one limit p t e.old (length e.key) (length e.val) e.kept) es ∙ counted_by t e.old (length e.key) (length e.val) e.kept (counted limit es)
 
   remotes_by : (t : Tally) (b : Bool) (k n kept x : ℕ) → (with_one limit p t b k n kept).remotes + x ≡ t.remotes + (cond (ltb n limit) 0 1 + x)
   unfolding with_one
@@ -151,7 +151,7 @@ module _ (limit p : ℕ) where
   pub remotes_are : (t : Tally) (es : List Entry) → (tally_of limit p t es).remotes ≡ t.remotes + remotes limit es
   unfolding tally_of remotes
   remotes_are t [] = omega arith
-  remotes_are t (e ∷ es) = remotes_are _ es ∙ remotes_by t e.old (length e.key) (length e.val) e.kept (remotes limit es)
+  remotes_are t (e ∷ es) = remotes_are (with_one limit p t e.old (length e.key) (length e.val) e.kept) es ∙ remotes_by t e.old (length e.key) (length e.val) e.kept (remotes limit es)
 
   aged_by : (t : Tally) (e : Entry) (os : List Entry) (b : Bool) (k kept : ℕ)
       → (with_one limit p t b k (length e.val) kept).aged + remotes limit os ≡ t.aged + remotes limit (cond b (e ∷ os) os)
@@ -162,7 +162,7 @@ module _ (limit p : ℕ) where
   pub aged_are : (t : Tally) (es : List Entry) → (tally_of limit p t es).aged ≡ t.aged + remotes limit (olds es)
   unfolding tally_of only remotes
   aged_are t [] = omega arith
-  aged_are t (e ∷ es) = aged_are _ es ∙ aged_by t e (olds es) e.old (length e.key) e.kept
+  aged_are t (e ∷ es) = aged_are (with_one limit p t e.old (length e.key) (length e.val) e.kept) es ∙ aged_by t e (olds es) e.old (length e.key) e.kept
 
   remote_by : (t : Tally) (e : Entry) (hs : List Entry) (b : Bool) (k : ℕ)
       → (with_one limit p t b k (length e.val) e.kept).remote + remotes_len limit hs ≡ t.remote + remotes_len limit (cond (not b) (e ∷ hs) hs)
@@ -173,4 +173,4 @@ module _ (limit p : ℕ) where
   pub remote-is : (t : Tally) (es : List Entry) → (tally_of limit p t es).remote ≡ t.remote + remotes_len limit (heads es)
   unfolding tally_of only remotes_len
   remote-is t [] = omega arith
-  remote-is t (e ∷ es) = remote-is _ es ∙ remote_by t e (heads es) e.old (length e.key)
+  remote-is t (e ∷ es) = remote-is (with_one limit p t e.old (length e.key) (length e.val) e.kept) es ∙ remote_by t e (heads es) e.old (length e.key)

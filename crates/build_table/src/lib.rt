@@ -2,6 +2,7 @@
 // numbers 6 to 10 are judged on the entries, whatever holds them, and of a list whether it ends well (3); 1, 2 and a list's first five bytes
 // are the calls' own (crate base).
 #![tactic(auto)]
+
 ghost use Rattle.std.specs.Prelude.{◌≡◌, ◌++◌, true, ◌-◌, ◌≤◌, length, take};
 ghost use Rattle.build_sources.specs.Source.{entries};
 ghost use Rattle.build_sources.specs.Judged.{rising, prefixed, enclosed, risen_of};

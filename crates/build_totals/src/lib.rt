@@ -1,5 +1,6 @@
 // What a leaf build is going to write, measured before anything is written.
 #![tactic(auto)]
+
 ghost use Rattle.std.specs.Prelude.{◌≡◌, true, ◌+◌, ◌≤◌, length};
 ghost use Rattle.frames.specs.Limits.{max_budget, max_entries, max_key, max_limit, max_value};
 ghost use Rattle.build_sources.specs.Source.{entries, only};

@@ -1,6 +1,7 @@
 // One step of a walk in a caller's words, for ct_step: the common record is read in place and only the words that change are stored; any other step
 // goes by the walk's own.
 #![tactic(auto)]
+
 ghost use Rattle.std.specs.Prelude.{◌≡◌, ◌<◌, ◌≤◌, length};
 ghost use Rattle.records.specs.declared.Rec.{Rec};
 ghost use Rattle.records.specs.declared.RecRead.{RecRead};

@@ -1,6 +1,7 @@
 // Many steps of a walk, their records told in lent words: the loop of ct_steps. The common record is read in place (records::quick_head,
 // quick_old), and a history page that the loop has judged is not judged again; every other record is left to the walk's own step.
 #![tactic(auto)]
+
 ghost use Rattle.std.specs.Prelude.{◌≡◌, [], ◌+◌, ◌*◌, ◌-◌, ◌<◌, ◌≤◌, ◌^◌, length};
 ghost use Rattle.spans.specs.Span.{put};
 ghost use Rattle.records.specs.declared.Rec.{Rec};

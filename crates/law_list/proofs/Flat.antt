@@ -37,7 +37,9 @@ module _ (p : List ℕ → Bool) where
       → cond u (older_entries k (olders_of (cond t (e ∷ run_of es) []))) [] ++ entries_of (cond t (having keyed p (grouped es)) (cond v (head_is e es ∷ having keyed p (grouped es)) (having keyed p (grouped es))))
       ≡ records_of (cond v (e ∷ having key_is p es) (having key_is p es))
   unfolding older_entries olders_of entries_of records_of
-  flat_by true true true k e es f g ih = rw (f refl) (ap (λ (l : List Listed). (record { key = e.key; ver = e.ver; value = e.val }) ∷ l) ih)
+  flat_by true true true k e es f g ih =
+      ap (λ (x : List ℕ). (record { key = x; ver = e.ver; value = e.val }) ∷ (older_entries x (olders_of (run_of es)) ++ entries_of (having keyed p (grouped es)))) (f refl)
+      ∙ (ap (λ (l : List Listed). (record { key = e.key; ver = e.ver; value = e.val }) ∷ l) ih)
   flat_by true true false k e es f g ih = differ (g refl)
   flat_by true false true k e es f g ih = differ (sym (g refl))
   flat_by true false false k e es f g ih = ih

@@ -105,7 +105,7 @@ pub record Gone {A : Type 0} (tell : Entry → A) (P : Entry → Type 0) (Goes :
   pub on : On w older
   pub told : tell (entry_of l w item) ≡ x
   pub kind : P (entry_of l w item)
-  pub pre : older.pre ≡ c.requires
+  pub pre : older.pre ≡ c.pre
   pub then : older.then ≡ c.then
   pub more : Goes p older.walk xs
 
@@ -120,7 +120,7 @@ pub record Walkable {A : Type 0} (Goes : List ℕ → Walk → List A → Type 0
 
 module _ {A : Type 0} (tell : Entry → A) (P : Entry → Type 0) (Goes : List ℕ → Walk → List A → Type 0) (l w : List ℕ) (y : Bytes w)
     (ends : (p : List ℕ) (v : Walk) → Goes p v [] → step_at w v ≡ Step.End)
-    (goes : (p : List ℕ) (c : Cursor) (x : A) (xs : List A) → On w c → part_in w c.requires ≡ p → Goes p c.walk (x ∷ xs) → Gone tell P Goes l w p c x xs) where
+    (goes : (p : List ℕ) (c : Cursor) (x : A) (xs : List A) → On w c → part_in w c.pre ≡ p → Goes p c.walk (x ∷ xs) → Gone tell P Goes l w p c x xs) where
   record Lists (c : Cursor) (xs : List A) : Type 0 where
     list : map tell (entries l w c) ≡ xs
     well : well_formed l w c ≡ true
@@ -135,7 +135,7 @@ module _ {A : Type 0} (tell : Entry → A) (P : Entry → Type 0) (Goes : List �
   each_none c q = rw q tt
 
   -- a page's records, and then what follows
-  lists : (xs : List A) (c : Cursor) (p : List ℕ) (t : Addr) → On w c → part_in w c.requires ≡ p → c.then ≡ t → Goes p c.walk xs → (rest : List A)
+  lists : (xs : List A) (c : Cursor) (p : List ℕ) (t : Addr) → On w c → part_in w c.pre ≡ p → c.then ≡ t → Goes p c.walk xs → (rest : List A)
       → ((d : Cursor) → On w d → d.then ≡ t → walked w d ≡ End → Lists d rest) → Lists c (xs ++ rest)
   lists [] c p t h e q g rest f = f c h q (end_is w y c h (ends p c.walk g))
   lists (x ∷ xs) c p t h e q g rest f =
@@ -236,7 +236,7 @@ module _ (w : List ℕ) (a : Addr) (p : Page) (m : meaning w a ≡ says p) where
 
 -- ---- what a record says
 
-module _ (l w : List ℕ) (y : Bytes w) (p : List ℕ) (c : Cursor) (h : On w c) (e : part_in w c.requires ≡ p) where
+module _ (l w : List ℕ) (y : Bytes w) (p : List ℕ) (c : Cursor) (h : On w c) (e : part_in w c.pre ≡ p) where
   found-bare : (x : Item) (v : Walk) → step_at w c.walk ≡ Step.Found x v → bare (entry_of l w (page_item w c x.key x.ver x.value x.remote (page_id 0))) ≡ listed.entry_of w p x
   unfolding bare entry_of key_bytes listed.entry_of
   found-bare x v s =

@@ -103,15 +103,15 @@ module _ (w : List ℕ) (left right : Addr) (p q : Page) (m : meaning w left ≡
     b = bounds_in w left right
 
     pub meeting_6 : rising es ≡ true
-    meeting_6 = in_order.rises
+    meeting_6 = in_order_lem.rises
 
     pub meeting_inside : enclosed b.lo b.hi es ≡ true
     unfolding bounds_between
-    meeting_inside = ap (λ (z : Borders). enclosed z.lo z.hi es) bounds_said ∙ in_order.inside
+    meeting_inside = ap (λ (z : Borders). enclosed z.lo z.hi es) bounds_said ∙ in_order_lem.inside
 
     pub meeting_7 : prefixed (take b.prefix b.lo) es ≡ true
     unfolding bounds_between
-    meeting_7 = ap (λ (z : Borders). prefixed (take z.prefix z.lo) es) bounds_said ∙ enclosed-prefixed p.lo q.hi es in_order.inside
+    meeting_7 = ap (λ (z : Borders). prefixed (take z.prefix z.lo) es) bounds_said ∙ enclosed-prefixed p.lo q.hi es in_order_lem.inside
 
     pub meeting_10 : meet_in w left right && enclosed b.lo b.hi es ≡ true
     meeting_10 = let x : meet_in w left right ≡ true = meet_said ∙ met in rw (x, meeting_inside) refl

@@ -1,6 +1,7 @@
 // Merging: two pages below the next free address become one, built anew from every record of the left, then of the right. Both are
 // checked first; then the builder judges and writes.
 #![tactic(auto)]
+
 ghost use Rattle.std.specs.Prelude.{◌≡◌, true, [], ◌≤◌, length, take};
 ghost use Rattle.pages.specs.Meaning.{meaning};
 ghost use Rattle.build_history.specs.Runs.{Sane};

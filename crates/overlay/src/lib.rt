@@ -1,6 +1,7 @@
 // The overlay lookup: a leaf page in an arena, and one leaf delta in a second buffer. Which of the two answers a probe is found first, as
 // a place; then that part is lent on from the buffer that holds it.
 #![tactic(auto)]
+
 ghost use Rattle.std.specs.Prelude.{◌≡◌};
 ghost use Rattle.frames.specs.Layout.{Inside};
 ghost use Rattle.search_head.specs.Head.{head_at};

@@ -85,7 +85,7 @@ fn machine() -> String {
 /// Which library was timed. Only tools/bench knows that it has just been proved, and says so; any other is one that was found.
 fn library() -> &'static str {
     match std::env::var_os("BENCH_PROVED") {
-        Some(_) => "proved and built by this command (`rt staticlib capi`)",
+        Some(_) => "proved and built by this command (`tools/archive`)",
         None => "one that was found, NOT proved by this command",
     }
 }

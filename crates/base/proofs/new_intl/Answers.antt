@@ -8,32 +8,32 @@ use Rattle.base.proofs.new_intl.Goals as goal
 
 pub returns-then-not-bounds_ok : goal.returns-then-not-bounds_ok
 returns-then-not-bounds_ok c = let all = index_one _ _ _ (call_of 0 0 c.args.group c.args.txid c.args.lsn c.args.checkpoint) (bounds_from c.args.lo.now c.args.hi.now c.args.sibling.0) _ c.bounds_ok.ensures (c.if-not-bounds_ok.true) in record {
-        value = all.0;
-        a_after = all.1;
-    }
+  value = all.0;
+  a_after = all.1;
+}
 
 pub returns-then-not-next_ok : goal.returns-then-not-next_ok
 returns-then-not-next_ok c = let all = index_two _ _ _ (call_of 0 0 c.args.group c.args.txid c.args.lsn c.args.checkpoint) (bounds_from c.args.lo.now c.args.hi.now c.args.sibling.0) _ c.bounds_ok.ensures (c.if-not-bounds_ok.false) _ c.next_ok.ensures (c.if-not-next_ok.true) in record {
-        value = all.0;
-        a_after = all.1;
-    }
+  value = all.0;
+  a_after = all.1;
+}
 
 pub returns-in_default : goal.returns-in_default
 returns-in_default c = let all = index_three _ _ _ (call_of 0 0 c.args.group c.args.txid c.args.lsn c.args.checkpoint) (bounds_from c.args.lo.now c.args.hi.now c.args.sibling.0) _ c.bounds_ok.ensures (c.if-not-bounds_ok.false) _ c.next_ok.ensures (c.if-not-next_ok.false) (list_bad _ _ _ _ c.open_index-b.ensures c.in_default.is) in record {
-        value = all.0;
-        a_after = all.1;
-    }
+  value = all.0;
+  a_after = all.1;
+}
 
 pub build_index_list-requires : goal.build_index_list-requires
 build_index_list-requires c = record {
-        from_value = at_first _ [] _ _ c.open_index-b.ensures _ c.in-From.is;
-        lo_value = (c.boundary_of-x.ensures, c.boundary_of-y.ensures);
-        next_in_bounds = next-ground _ _ _ c.next_ok.ensures (c.if-not-next_ok.false);
-        held = held c.args.lo.now c.args.hi.now _ _ _ _ _ c.boundary_of-x.ensures c.boundary_of-y.ensures c.calc_prefix-p.ensures _ c.bounds_ok.ensures (c.if-not-bounds_ok.false);
-    }
+  from_value = at_first _ [] _ _ c.open_index-b.ensures _ c.in-From.is;
+  lo_value = (c.boundary_of-x.ensures, c.boundary_of-y.ensures);
+  next_in_bounds = next-ground _ _ _ c.next_ok.ensures (c.if-not-next_ok.false);
+  held = held c.args.lo.now c.args.hi.now _ _ _ _ _ c.boundary_of-x.ensures c.boundary_of-y.ensures c.calc_prefix-p.ensures _ c.bounds_ok.ensures (c.if-not-bounds_ok.false);
+}
 
 pub returns : goal.returns
 returns c = let all = index_list _ _ _ (call_of 0 0 c.args.group c.args.txid c.args.lsn c.args.checkpoint) (bounds_from c.args.lo.now c.args.hi.now c.args.sibling.0) _ c.bounds_ok.ensures (c.if-not-bounds_ok.false) _ c.next_ok.ensures (c.if-not-next_ok.false) (list-opens c.args.list.now _ _ _ c.open_index-b.ensures _ c.in-From.is) _ _ _ _ c.call_of-m.ensures (bounds_are c.args.lo.now c.args.hi.now _ _ _ _ _ c.boundary_of-x.ensures c.boundary_of-y.ensures c.calc_prefix-p.ensures) c.build_index_list.ensures.value c.build_index_list.ensures.a_after in record {
-        value = all.0;
-        a_after = all.1;
-    }
+  value = all.0;
+  a_after = all.1;
+}

@@ -5,11 +5,11 @@ use Rattle.build_index.proofs.index_fixed.Goals as goal
 
 pub index_head-requires : goal.index_head-requires
 index_head-requires c = let all = head_asks _ _ _ c.args.m _ _ _ _ _ c.requires.fixes c.requires.both_within in record {
-        slots_at_in_bounds = all.0;
-        n_le_max_entries = all.1.0;
-        size_le_max_size = all.1.1.0;
-        len_le_size = all.1.1.1;
-    }
+  slots_at_in_bounds = all.0;
+  n_le_max_entries = all.1.0;
+  size_le_max_size = all.1.1.0;
+  len_le_size = all.1.1.1;
+}
 
 pub overflow_add-q : goal.overflow_add-q
 overflow_add-q c = let z = fixed_fits _ _ _ c.args.m _ _ _ _ _ c.requires.fixes c.requires.both_within in omega (arith, z, c.requires.fixes.end, c.well_formed.0)
@@ -22,20 +22,20 @@ overflow_add-q-2 c = let z = fixed_fits _ _ _ c.args.m _ _ _ _ _ c.requires.fixe
 
 pub put_boundary-requires : goal.put_boundary-requires
 put_boundary-requires c = let all = lo_asks _ _ _ c.args.m _ _ _ _ _ c.requires.fixes c.requires.both_within _ c.index_head.ensures in record {
-        ground_le_at = all.0;
-        len_in_bounds = all.1.0;
-        within = all.1.1;
-    }
+  ground_le_at = all.0;
+  len_in_bounds = all.1.0;
+  within = all.1.1;
+}
 
 pub overflow_add-r : goal.overflow_add-r
 overflow_add-r c = let z = fixed_fits _ _ _ c.args.m _ _ _ _ _ c.requires.fixes c.requires.both_within in omega (arith, z, c.requires.fixes.end, c.well_formed.0)
 
 pub put_boundary-requires-2 : goal.put_boundary-requires-2
 put_boundary-requires-2 c = let all = hi_asks _ _ _ c.args.m _ _ _ _ _ c.requires.fixes c.requires.both_within _ c.index_head.ensures _ c.put_boundary.ensures in record {
-        ground_le_at = all.0;
-        len_in_bounds = all.1.0;
-        within = all.1.1;
-    }
+  ground_le_at = all.0;
+  len_in_bounds = all.1.0;
+  within = all.1.1;
+}
 
 pub overflow_add-z : goal.overflow_add-z
 overflow_add-z c = omega (arith, c.requires.fixes.small)

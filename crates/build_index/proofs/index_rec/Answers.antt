@@ -7,11 +7,11 @@ overflow_add-at c = let z = len_fits _ _ _ _ _ _ c.requires.ground_le_at c.requi
 
 pub put_rest-v-requires : goal.put_rest-v-requires
 put_rest-v-requires c = let all = rest_needs _ _ _ _ _ _ c.requires.ground_le_at c.requires.placed c.requires.p_bound c.requires.i_in_bounds _ _ c.write-k.ensures in record {
-        ground_le_at = all.0;
-        placed = all.1.0;
-        p_bound = all.1.1.0;
-        i_in_bounds = all.1.1.1;
-    }
+  ground_le_at = all.0;
+  placed = all.1.0;
+  p_bound = all.1.1.0;
+  i_in_bounds = all.1.1.1;
+}
 
 pub put_u64-requires : goal.put_u64-requires
 put_u64-requires c = id-room _ _ _ _ _ _ c.requires.ground_le_at c.requires.placed c.requires.p_bound c.requires.i_in_bounds _ _ c.write-k.ensures _ _ c.put_rest-v.ensures.value c.put_rest-v.ensures.a_after
@@ -21,6 +21,6 @@ overflow_add-result c = let z = id-fits _ _ _ _ _ _ c.requires.ground_le_at c.re
 
 pub returns : goal.returns
 returns c = let all = rec-end _ _ _ _ _ _ c.requires.ground_le_at c.requires.placed c.requires.p_bound c.requires.i_in_bounds _ _ c.write-k.ensures _ _ c.put_rest-v.ensures.value c.put_rest-v.ensures.a_after _ c.put_u64.ensures in record {
-        value = all.0;
-        a_after = all.1;
-    }
+  value = all.0;
+  a_after = all.1;
+}

@@ -18,11 +18,11 @@ slice_bounds-next-end-in-loop-i c = let v = c.loop-i.invariant.writing in sym (l
 
 pub index_rec-to-requires : goal.index_rec-to-requires
 index_rec-to-requires c = let all = rec_asks _ _ _ _ _ _ _ _ c.loop-i.invariant _ _ (got _ _ _ _ _ c.loop-i.invariant.writing.same c.next-st.ensures _ _ c.in-Got.is) in record {
-        ground_le_at = all.0;
-        placed = all.1.0;
-        p_bound = all.1.1.0;
-        i_in_bounds = all.1.1.1;
-    }
+  ground_le_at = all.0;
+  placed = all.1.0;
+  p_bound = all.1.1.0;
+  i_in_bounds = all.1.1.1;
+}
 
 pub loop-i-smaller : goal.loop-i-smaller
 loop-i-smaller c = (got _ _ _ _ _ c.loop-i.invariant.writing.same c.next-st.ensures _ _ c.in-Got.is).falls

@@ -27,12 +27,12 @@ loop-i-preserved c = sum_turn _ _ _ _ _ _ c.loop-i.invariant _ _ (got _ _ _ _ _ 
 
 pub returns-in-End : goal.returns-in-End
 returns-in-End c = let all = sum-end _ _ _ _ _ _ c.loop-i.invariant (at-end _ _ _ _ _ refl c.next-st.ensures c.in-End.is).0 in record {
-        value = all.0;
-        upper_bound = all.1;
-    }
+  value = all.0;
+  upper_bound = all.1;
+}
 
 pub returns-in-Bad : goal.returns-in-Bad
 returns-in-Bad c = let all = sum-end _ _ _ _ _ _ c.loop-i.invariant (at_bad _ _ _ _ _ refl c.next-st.ensures c.in-Bad.is).0 in record {
-        value = all.0;
-        upper_bound = all.1;
-    }
+  value = all.0;
+  upper_bound = all.1;
+}

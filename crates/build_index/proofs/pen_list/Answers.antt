@@ -27,10 +27,10 @@ put_u32-requires c = slot-fits _ _ _ _ _ _ _ _ _ c.loop-at.invariant c.loop-at-t
 
 pub pen_rec-rec-requires : goal.pen_rec-rec-requires
 pen_rec-rec-requires c = let all = rec_asks _ _ _ _ _ _ _ _ _ c.loop-at.invariant c.loop-at-test.true _ c.read_u16_be-n.ensures _ c.put_u32.ensures in record {
-        n_in_bounds = all.0;
-        n_le_max_key = all.1.0;
-        n_in_bounds_2 = all.1.1;
-    }
+  n_in_bounds = all.0;
+  n_le_max_key = all.1.0;
+  n_in_bounds_2 = all.1.1;
+}
 
 pub overflow_add-slot : goal.overflow_add-slot
 overflow_add-slot c = omega (arith, slot-fits _ _ _ _ _ _ _ _ _ c.loop-at.invariant c.loop-at-test.true _ c.read_u16_be-n.ensures, c.well_formed)

@@ -10,7 +10,5 @@ use Rattle.build_index.proofs.pen_list.Given as goal
 abbrev pub invariant-loop-at : goal.invariant-loop-at
 invariant-loop-at l = Reading l.initial.a l.list (draws l.initial.a (index_left l.slots l.recs l.base l.p (listed l.list 1))) l.base l.p l.a l.at l.slot l.rec
 
-
 abbrev pub decreases-loop-at : goal.decreases-loop-at
 decreases-loop-at l = length l.list - l.at
-

@@ -18,9 +18,9 @@ slice_bounds-child_here-end-in-loop-i c = sym (length-take-le _ _ (walk-low _ _ 
 
 pub child_here-c-requires : goal.child_here-c-requires
 child_here-c-requires c = record {
-        judged = walk-judged _ _ _ _ _ _ _ _ _ _ _ _ c.loop-i.invariant c.requires.judged;
-        i_lt_elems = omega (arith, c.loop-i-test.true, c.requires.end_le_elems);
-    }
+  judged = walk-judged _ _ _ _ _ _ _ _ _ _ _ _ c.loop-i.invariant c.requires.judged;
+  i_lt_elems = omega (arith, c.loop-i-test.true, c.requires.end_le_elems);
+}
 
 pub overflow_sub-rec : goal.overflow_sub-rec
 overflow_sub-rec c = (off_fits _ _ _ _ _ _ _ _ _ _ _ _ c.loop-i.invariant c.requires.judged c.requires.end_le_elems c.loop-i-test.true _ c.child_here-c.ensures).0
@@ -33,10 +33,10 @@ put_u32-requires c = slot-fits _ _ _ _ _ _ _ _ _ _ _ _ c.loop-i.invariant c.requ
 
 pub pen_child-rec-requires : goal.pen_child-rec-requires
 pen_child-rec-requires c = let all = child_asks _ _ _ _ _ _ _ _ _ _ _ _ c.loop-i.invariant c.requires.judged c.requires.end_le_elems c.loop-i-test.true _ c.child_here-c.ensures _ c.put_u32.ensures in record {
-        key_below = all.0;
-        p_bound = all.1.0;
-        page_in_bounds = all.1.1;
-    }
+  key_below = all.0;
+  p_bound = all.1.0;
+  page_in_bounds = all.1.1;
+}
 
 pub overflow_add-slot : goal.overflow_add-slot
 overflow_add-slot c = omega (arith, slot-fits _ _ _ _ _ _ _ _ _ _ _ _ c.loop-i.invariant c.requires.judged c.requires.end_le_elems c.loop-i-test.true _ c.child_here-c.ensures, c.well_formed)
@@ -52,6 +52,6 @@ loop-i-preserved c = walk_turn _ _ _ _ _ _ _ _ _ _ _ _ c.loop-i.invariant c.requ
 
 pub returns : goal.returns
 returns c = let all = walk_end _ _ _ _ _ _ _ _ _ _ _ _ c.loop-i.invariant c.loop-i-test.false in record {
-        value = all.0;
-        a_after = all.1;
-    }
+  value = all.0;
+  a_after = all.1;
+}

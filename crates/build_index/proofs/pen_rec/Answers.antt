@@ -24,6 +24,6 @@ overflow_add-result c = let z = rec-fits _ _ _ _ _ _ c.requires.n_in_bounds c.re
 pub returns : goal.returns
 unfolding part
 returns c = let all = rec-end _ _ _ _ _ _ c.requires.n_in_bounds c.requires.n_le_max_key.1 c.requires.n_in_bounds_2 _ _ c.write-k.ensures _ c.copy.ensures _ c.read_u64_be.ensures _ c.put_u64.ensures in record {
-        value = all.0;
-        a_after = all.1;
-    }
+  value = all.0;
+  a_after = all.1;
+}

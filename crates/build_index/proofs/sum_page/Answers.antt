@@ -9,9 +9,9 @@ loop-i-init c = count_begin _ _ _ _ _
 
 pub child_here-c-requires : goal.child_here-c-requires
 child_here-c-requires c = record {
-        judged = c.requires.judged;
-        i_lt_elems = omega (arith, c.requires.end_le_elems.0, c.loop-i-test.true);
-    }
+  judged = c.requires.judged;
+  i_lt_elems = omega (arith, c.requires.end_le_elems.0, c.loop-i-test.true);
+}
 
 pub overflow_add-b : goal.overflow_add-b
 overflow_add-b c = omega (arith, (child-here _ _ _ _ _ c.requires.judged c.requires.end_le_elems.0 c.loop-i-test.true c.child_here-c.ensures).small)
@@ -36,6 +36,6 @@ loop-i-preserved c = count_turn _ _ _ _ _ _ _ c.loop-i.invariant c.loop-i-test.t
 
 pub returns : goal.returns
 returns c = let all = count-end _ _ _ _ _ _ _ c.loop-i.invariant c.loop-i-test.false in record {
-        value = all.0;
-        upper_bound = all.1;
-    }
+  value = all.0;
+  upper_bound = all.1;
+}

@@ -17,22 +17,22 @@ overflow_add-first-3 c = let z = sized _ _ _ _ _ c.args.m _ _ _ _ _ c.requires i
 
 pub index_head-requires : goal.index_head-requires
 index_head-requires c = let all = head_asks _ _ _ _ _ c.args.m _ _ _ _ _ c.requires in record {
-        slots_at_in_bounds = all.0;
-        n_le_max_entries = all.1.0;
-        size_le_max_size = all.1.1.0;
-        len_le_size = all.1.1.1;
-    }
+  slots_at_in_bounds = all.0;
+  n_le_max_entries = all.1.0;
+  size_le_max_size = all.1.1.0;
+  len_le_size = all.1.1.1;
+}
 
 pub overflow_add-s : goal.overflow_add-s
 overflow_add-s c = let z = fits _ _ _ _ _ c.args.m _ _ _ _ _ c.requires in let y = sized _ _ _ _ _ c.args.m _ _ _ _ _ c.requires in omega (arith, z, y, c.well_formed.0)
 
 pub index_slots-requires : goal.index_slots-requires
 index_slots-requires c = let all = slots_asks _ _ _ _ _ c.args.m _ _ _ _ _ c.requires _ c.index_head.ensures in record {
-        ground_le_at = all.0;
-        long = all.1.0;
-        from_in_bounds = all.1.1.0;
-        from_bound = all.1.1.1;
-    }
+  ground_le_at = all.0;
+  long = all.1.0;
+  from_in_bounds = all.1.1.0;
+  from_bound = all.1.1.1;
+}
 
 pub overflow_mul-q : goal.overflow_mul-q
 overflow_mul-q c = omega (arith, c.requires.few)
@@ -42,30 +42,30 @@ overflow_add-q c = let z = fits _ _ _ _ _ c.args.m _ _ _ _ _ c.requires in let y
 
 pub put_boundary-requires : goal.put_boundary-requires
 put_boundary-requires c = let all = lo_asks _ _ _ _ _ c.args.m _ _ _ _ _ c.requires _ c.index_head.ensures _ c.index_slots.ensures in record {
-        ground_le_at = all.0;
-        len_in_bounds = all.1.0;
-        within = all.1.1;
-    }
+  ground_le_at = all.0;
+  len_in_bounds = all.1.0;
+  within = all.1.1;
+}
 
 pub overflow_add-r : goal.overflow_add-r
 overflow_add-r c = let z = fits _ _ _ _ _ c.args.m _ _ _ _ _ c.requires in let y = sized _ _ _ _ _ c.args.m _ _ _ _ _ c.requires in omega (arith, z, y, c.well_formed.0)
 
 pub put_boundary-requires-2 : goal.put_boundary-requires-2
 put_boundary-requires-2 c = let all = hi_asks _ _ _ _ _ c.args.m _ _ _ _ _ c.requires _ c.index_head.ensures _ c.index_slots.ensures _ c.put_boundary.ensures in record {
-        ground_le_at = all.0;
-        len_in_bounds = all.1.0;
-        within = all.1.1;
-    }
+  ground_le_at = all.0;
+  len_in_bounds = all.1.0;
+  within = all.1.1;
+}
 
 pub overflow_add-t : goal.overflow_add-t
 overflow_add-t c = let z = fits _ _ _ _ _ c.args.m _ _ _ _ _ c.requires in let y = sized _ _ _ _ _ c.args.m _ _ _ _ _ c.requires in omega (arith, z, y, c.well_formed.0)
 
 pub index_recs-requires : goal.index_recs-requires
 index_recs-requires c = let all = recs_asks _ _ _ _ _ c.args.m _ _ _ _ _ c.requires _ c.index_head.ensures _ c.index_slots.ensures _ c.put_boundary.ensures _ c.put_boundary-2.ensures in record {
-        ground_le_at = all.0;
-        long = all.1.0;
-        from_in_bounds = all.1.1;
-    }
+  ground_le_at = all.0;
+  long = all.1.0;
+  from_in_bounds = all.1.1;
+}
 
 pub overflow_add-z : goal.overflow_add-z
 overflow_add-z c = omega (arith, c.requires.small)

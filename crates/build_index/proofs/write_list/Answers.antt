@@ -5,9 +5,9 @@ use Rattle.build_index.proofs.write_list.Goals as goal
 
 pub index_fixed-requires : goal.index_fixed-requires
 index_fixed-requires c = record {
-        fixes = fixes _ _ _ c.args.m _ _ _ _ _ _ c.requires.ready;
-        both_within = c.requires.ready.inside;
-    }
+  fixes = fixes _ _ _ c.args.m _ _ _ _ _ _ c.requires.ready;
+  both_within = c.requires.ready.inside;
+}
 
 pub overflow_add-s : goal.overflow_add-s
 overflow_add-s c = let z = (page-fits _ _ _ c.args.m _ _ _ _ _ _ c.requires.ready).0 in omega (arith, z, c.well_formed.0)
@@ -29,9 +29,9 @@ overflow_add-at c = let z = (page-fits _ _ _ c.args.m _ _ _ _ _ _ c.requires.rea
 
 pub pen_list-requires : goal.pen_list-requires
 pen_list-requires c = record {
-        first_of_value = c.requires.first_of_value;
-        laid = pen_asks _ _ _ c.args.m _ _ _ _ _ _ c.requires.ready _ c.index_fixed.ensures;
-    }
+  first_of_value = c.requires.first_of_value;
+  laid = pen_asks _ _ _ c.args.m _ _ _ _ _ _ c.requires.ready _ c.index_fixed.ensures;
+}
 
 pub returns : goal.returns
 returns c = page_done _ _ _ _ _ _ _ _ _ _ c.requires.ready _ c.index_fixed.ensures _ c.pen_list.ensures

@@ -5,9 +5,9 @@ use Rattle.build_leaf.proofs.hint_counts.Goals as goal
 
 pub returns-then-room-eq0 : goal.returns-then-room-eq0
 returns-then-room-eq0 c = let all = counts_none _ _ _ _ _ _ c.if-room-eq0.true in record {
-        value = all.0;
-        a_after = all.1;
-    }
+  value = all.0;
+  a_after = all.1;
+}
 
 pub overflow_mul-c : goal.overflow_mul-c
 overflow_mul-c c = omega (arith, c.requires.remotes_bound c.if-room-eq0.false, c.requires.room_in_bounds, c.requires.room_le_max_size, c.requires.aged_le_remotes, c.well_formed.0)
@@ -50,6 +50,6 @@ overflow_add-result c = omega (arith, c.requires.remotes_bound c.if-room-eq0.fal
 
 pub returns : goal.returns
 returns c = let all = counts_some _ _ _ _ _ _ c.if-room-eq0.false _ _ _ c.put_u32.ensures c.put_u32-2.ensures c.zeros.ensures in record {
-        value = all.0;
-        a_after = all.1;
-    }
+  value = all.0;
+  a_after = all.1;
+}

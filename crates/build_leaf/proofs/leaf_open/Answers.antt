@@ -17,12 +17,12 @@ overflow_add-remote c = omega (arith, c.requires.fixes.end, c.frame_len.ensures,
 
 pub leaf_fixed-k-requires : goal.leaf_fixed-k-requires
 leaf_fixed-k-requires c = record {
-        fixes = subst (λ (x : ℕ). Fixes (length c.args.a.now) c.args.ground c.args.t c.args.e (c.args.t.leaf + x)) (sym c.frame_len.ensures) c.requires.fixes;
-        both_within = c.requires.both_within;
-    }
+  fixes = subst (λ (x : ℕ). Fixes (length c.args.a.now) c.args.ground c.args.t c.args.e (c.args.t.leaf + x)) (sym c.frame_len.ensures) c.requires.fixes;
+  both_within = c.requires.both_within;
+}
 
 pub returns : goal.returns
 returns c = record {
-        value = rw (c.leaf_fixed-k.ensures.value, c.frame_len.ensures) refl;
-        a_after = rw c.frame_len.ensures at c.leaf_fixed-k.ensures.a_after;
-    }
+  value = rw (c.leaf_fixed-k.ensures.value, c.frame_len.ensures) refl;
+  a_after = rw c.frame_len.ensures at c.leaf_fixed-k.ensures.a_after;
+}

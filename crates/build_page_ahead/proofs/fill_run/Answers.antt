@@ -9,31 +9,31 @@ use Rattle.build_page_ahead.proofs.fill_run.Goals as goal
 
 pub returns-then-was-left : goal.returns-then-was-left
 returns-then-was-left c = record {
-        ready_2 = c.requires.ready;
-        filled_by = run_none c.args.s.now c.args.limit c.args.budget c.args.count c.args.page c.args.first c.args.from.run c.if-was-left.true;
-    }
+  ready_2 = c.requires.ready;
+  filled_by = run_none c.args.s.now c.args.limit c.args.budget c.args.count c.args.page c.args.first c.args.from.run c.if-was-left.true;
+}
 
 pub hand_at-hand-requires : goal.hand_at-hand-requires
 hand_at-hand-requires c = record {
-        known = c.requires.ready.known;
-        opens = c.requires.opens (run-some c.args.s.now c.args.limit c.args.budget c.args.count c.args.page c.args.first c.args.from.run c.if-was-left.false).1;
-    }
+  known = c.requires.ready.known;
+  opens = c.requires.opens (run-some c.args.s.now c.args.limit c.args.budget c.args.count c.args.page c.args.first c.args.from.run c.if-was-left.false).1;
+}
 
 pub loop-left-init : goal.loop-left-init
 loop-left-init c = run_begin c.args.s.now c.args.limit c.args.budget c.args.count c.args.page c.args.first c.args.from.run c.requires.ready.sized c.requires.runs c.hand_at-hand.result c.hand_at-hand.ensures.holds c.hand_at-hand.ensures.page_value
 
 pub spot_at-q-requires : goal.spot_at-q-requires
 spot_at-q-requires c = record {
-        holds = c.loop-left.invariant.holds;
-        answers = run-answers _ _ _ _ _ _ _ _ _ _ _ _ _ c.loop-left.invariant c.loop-left-test.true;
-    }
+  holds = c.loop-left.invariant.holds;
+  answers = run-answers _ _ _ _ _ _ _ _ _ _ _ _ _ c.loop-left.invariant c.loop-left-test.true;
+}
 
 pub old_here-r-requires : goal.old_here-r-requires
 old_here-r-requires c = record {
-        holds = c.spot_at-q.ensures.holds;
-        i_lt_elems = c.spot_at-q.ensures.slot;
-        answers = run-here _ _ _ _ _ _ _ _ _ _ _ _ _ c.loop-left.invariant c.loop-left-test.true _ c.spot_at-q.ensures;
-    }
+  holds = c.spot_at-q.ensures.holds;
+  i_lt_elems = c.spot_at-q.ensures.slot;
+  answers = run-here _ _ _ _ _ _ _ _ _ _ _ _ _ c.loop-left.invariant c.loop-left-test.true _ c.spot_at-q.ensures;
+}
 
 pub overflow_cast-v : goal.overflow_cast-v
 overflow_cast-v c = omega (arith, run-val _ _ _ _ _ _ _ _ _ _ _ _ _ c.loop-left.invariant c.loop-left-test.true _ c.spot_at-q.ensures _ c.old_here-r.ensures)
@@ -46,9 +46,9 @@ overflow_add-c-in-loop-left c = let z = run-size _ _ _ _ _ _ _ _ _ _ _ _ _ c.loo
 
 pub returns-then-not-takes : goal.returns-then-not-takes
 returns-then-not-takes c = record {
-        ready_2 = run_stopped _ _ _ _ _ _ _ _ _ _ _ _ _ c.loop-left.invariant c.loop-left-test.true _ c.spot_at-q.ensures;
-        filled_by = run_stop _ _ _ _ _ _ _ _ _ _ _ _ _ c.loop-left.invariant c.loop-left-test.true _ c.spot_at-q.ensures _ c.old_here-r.ensures c.requires.limit_le_max_limit.0 _ c.calc_size.ensures (sym c.takes.ensures ∙ c.if-not-takes.true) _ c.hand_at-hand.ensures.page_value _ (open_page c.args.from.run (run-some c.args.s.now c.args.limit c.args.budget c.args.count c.args.page c.args.first c.args.from.run c.if-was-left.false).0);
-    }
+  ready_2 = run_stopped _ _ _ _ _ _ _ _ _ _ _ _ _ c.loop-left.invariant c.loop-left-test.true _ c.spot_at-q.ensures;
+  filled_by = run_stop _ _ _ _ _ _ _ _ _ _ _ _ _ c.loop-left.invariant c.loop-left-test.true _ c.spot_at-q.ensures _ c.old_here-r.ensures c.requires.limit_le_max_limit.0 _ c.calc_size.ensures (sym c.takes.ensures ∙ c.if-not-takes.true) _ c.hand_at-hand.ensures.page_value _ (open_page c.args.from.run (run-some c.args.s.now c.args.limit c.args.budget c.args.count c.args.page c.args.first c.args.from.run c.if-was-left.false).0);
+}
 
 pub overflow_add-n : goal.overflow_add-n
 overflow_add-n c = let v = c.loop-left.invariant.sized in omega (arith, v.many, v.small)
@@ -67,6 +67,6 @@ loop-left-preserved c = run_on _ _ _ _ _ _ _ _ _ _ _ _ _ c.loop-left.invariant c
 
 pub returns : goal.returns
 returns c = record {
-        ready_2 = run_ready _ _ _ _ _ _ _ _ _ _ _ _ _ c.loop-left.invariant;
-        filled_by = run_done _ _ _ _ _ _ _ _ _ _ _ _ _ c.loop-left.invariant (omega (arith, c.loop-left-test.false)) _ c.hand_at-hand.ensures.page_value _ (open_page c.args.from.run (run-some c.args.s.now c.args.limit c.args.budget c.args.count c.args.page c.args.first c.args.from.run c.if-was-left.false).0);
-    }
+  ready_2 = run_ready _ _ _ _ _ _ _ _ _ _ _ _ _ c.loop-left.invariant;
+  filled_by = run_done _ _ _ _ _ _ _ _ _ _ _ _ _ c.loop-left.invariant (omega (arith, c.loop-left-test.false)) _ c.hand_at-hand.ensures.page_value _ (open_page c.args.from.run (run-some c.args.s.now c.args.limit c.args.budget c.args.count c.args.page c.args.first c.args.from.run c.if-was-left.false).0);
+}

@@ -16,16 +16,16 @@ put_u32-requires c = c.requires.asks.slot-room
 
 pub put_old-n-requires : goal.put_old-n-requires
 put_old-n-requires c = let all = old_asks _ _ _ _ _ _ c.requires.old_below c.requires.above c.requires.asks _ c.put_u32.ensures _ c.remote_addr.ensures in record {
-        old_below = all.0;
-        o_in_bounds = all.1;
-    }
+  old_below = all.0;
+  o_in_bounds = all.1;
+}
 
 pub put_remote-g-requires : goal.put_remote-g-requires
 put_remote-g-requires c = let all = old-remote _ _ _ _ _ _ c.requires.old_below c.requires.above c.requires.asks _ c.put_u32.ensures _ c.remote_addr.ensures _ c.put_old-n.ensures.a_after in record {
-        value_below = all.0;
-        next_le_at = all.1.0;
-        remote_in_bounds = all.1.1;
-    }
+  value_below = all.0;
+  next_le_at = all.1.0;
+  remote_in_bounds = all.1.1;
+}
 
 pub overflow_add-result : goal.overflow_add-result
 overflow_add-result c = omega (arith, c.requires.asks.slot-room, c.well_formed.0)
@@ -35,6 +35,6 @@ overflow_add-result-2 c = let z = ap (λ (n : Nib). n.rec) (old_done _ _ _ _ _ _
 
 pub returns : goal.returns
 returns c = let all = old_done _ _ _ _ _ _ c.requires.old_below c.requires.above c.requires.asks _ c.put_u32.ensures _ c.remote_addr.ensures _ c.put_old-n.ensures.a_after _ _ _ c.put_old-n.ensures.value c.put_remote-g.ensures.value c.put_remote-g.ensures.a_after in record {
-        value = all.0;
-        a_after = all.1;
-    }
+  value = all.0;
+  a_after = all.1;
+}

@@ -19,19 +19,19 @@ slice_bounds-head_here-end-in-loop-i c = sym (length-take-le _ _ (page-low _ _ _
 
 pub head_here-r-requires : goal.head_here-r-requires
 head_here-r-requires c = let all = head_asks _ _ _ _ _ _ _ _ _ c.requires.judged c.requires.judged_2 c.requires.end_le_elems _ _ _ _ _ _ _ _ c.loop-i.invariant c.loop-i-test.true in record {
-        judged = all.0;
-        i_lt_elems = all.1;
-    }
+  judged = all.0;
+  i_lt_elems = all.1;
+}
 
 pub pen_run-x-requires : goal.pen_run-x-requires
 pen_run-x-requires c = let all = run_asks _ _ _ _ _ _ _ _ _ c.requires.judged c.requires.judged_2 c.requires.end_le_elems _ _ _ _ _ _ _ _ c.loop-i.invariant c.loop-i-test.true _ c.head_here-r.ensures c.requires.sane in record {
-        sane = all.0;
-        known = all.1.0;
-        runs = all.1.1.0;
-        opens = all.1.1.1.0;
-        follow = all.1.1.1.1.0;
-        by_index = all.1.1.1.1.1;
-    }
+  sane = all.0;
+  known = all.1.0;
+  runs = all.1.1.0;
+  opens = all.1.1.1.0;
+  follow = all.1.1.1.1.0;
+  by_index = all.1.1.1.1.1;
+}
 
 pub overflow_cast-new : goal.overflow_cast-new
 overflow_cast-new c = omega (arith, run-place _ _ _ _ _ _ _ _ _ c.requires.judged c.requires.judged_2 c.requires.end_le_elems _ _ _ _ _ _ _ _ c.loop-i.invariant c.loop-i-test.true _ c.head_here-r.ensures _ _ c.pen_run-x.ensures.by_index_2 c.pen_run-x.ensures.known_2)
@@ -41,11 +41,11 @@ put_hint-hint-requires c = hint_asks _ _ _ _ _ _ _ _ _ c.requires.judged c.requi
 
 pub pen_head-n-requires : goal.pen_head-n-requires
 pen_head-n-requires c = let all = pen_asks _ _ _ _ _ _ _ _ _ c.requires.judged c.requires.judged_2 c.requires.end_le_elems _ _ _ _ _ _ _ _ c.loop-i.invariant c.loop-i-test.true _ c.head_here-r.ensures _ _ c.pen_run-x.ensures.by_index_2 c.pen_run-x.ensures.known_2 _ c.remote_addr-addr.ensures _ _ c.put_hint-hint.ensures.value c.put_hint-hint.ensures.a_after in record {
-        head_below = all.0;
-        p_bound = all.1.0;
-        above = all.1.1.0;
-        asks = all.1.1.1;
-    }
+  head_below = all.0;
+  p_bound = all.1.0;
+  above = all.1.1.0;
+  asks = all.1.1.1;
+}
 
 pub overflow_add-i : goal.overflow_add-i
 overflow_add-i c = omega (arith, c.loop-i-test.true, c.well_formed)

@@ -8,9 +8,9 @@ use Rattle.build_page_pen.proofs.pen_run.Goals as goal
 
 pub returns-then-left-eq0 : goal.returns-then-left-eq0
 returns-then-left-eq0 c = record {
-        by_index_2 = λ key rd. run_none _ _ _ _ _ _ c.requires.follow c.if-left-eq0.true key rd;
-        known_2 = c.requires.known;
-    }
+  by_index_2 = λ key rd. run_none _ _ _ _ _ _ c.requires.follow c.if-left-eq0.true key rd;
+  known_2 = c.requires.known;
+}
 
 pub slice_bounds-hand_at-end : goal.slice_bounds-hand_at-end
 slice_bounds-hand_at-end c = omega (arith, ready_low _ _ _ _ _ c.requires.by_index.1)
@@ -20,9 +20,9 @@ slice_bounds-hand_at-end-2 c = sym (length-take-le _ _ (omega (arith, ready_low 
 
 pub hand_at-hand-requires : goal.hand_at-hand-requires
 hand_at-hand-requires c = record {
-        known = c.requires.known;
-        opens = c.requires.opens (omega (arith, c.if-left-eq0.false));
-    }
+  known = c.requires.known;
+  opens = c.requires.opens (omega (arith, c.if-left-eq0.false));
+}
 
 pub loop-left-init : goal.loop-left-init
 loop-left-init c = run_begin _ _ _ c.args.h _ _ _ c.requires.follow c.requires.runs _ c.requires.by_index.1 c.hand_at-hand.ensures.holds c.hand_at-hand.ensures.page_value
@@ -35,9 +35,9 @@ slice_bounds-spot_at-end-in-loop-left c = sym (length-take-le _ _ (run-low _ _ _
 
 pub spot_at-x-requires : goal.spot_at-x-requires
 spot_at-x-requires c = let all = spot_asks _ _ _ _ _ _ _ _ _ _ _ _ _ c.loop-left.invariant c.loop-left-test.true in record {
-        holds = all.0;
-        answers = all.1;
-    }
+  holds = all.0;
+  answers = all.1;
+}
 
 pub slice_bounds-old_here-end : goal.slice_bounds-old_here-end
 slice_bounds-old_here-end c = omega (arith, run-low _ _ _ _ _ _ _ _ _ _ _ _ _ c.loop-left.invariant)
@@ -47,19 +47,19 @@ slice_bounds-old_here-end-in-loop-left c = sym (length-take-le _ _ (run-low _ _ 
 
 pub old_here-o-requires : goal.old_here-o-requires
 old_here-o-requires c = let all = old_asks _ _ _ _ _ _ _ _ _ _ _ _ _ c.loop-left.invariant c.loop-left-test.true _ c.spot_at-x.ensures in record {
-        holds = all.0;
-        i_lt_elems = all.1.0;
-        answers = all.1.1;
-    }
+  holds = all.0;
+  i_lt_elems = all.1.0;
+  answers = all.1.1;
+}
 
 pub turn-r-requires : goal.turn-r-requires
 turn-r-requires c = let all = turn_asks _ _ _ _ _ _ _ _ _ _ _ _ _ c.loop-left.invariant c.loop-left-test.true _ c.spot_at-x.ensures c.requires.sane in record {
-        sane = all.0;
-        holds = all.1.0;
-        runs = all.1.1.0;
-        follow = all.1.1.1.0;
-        by_index = all.1.1.1.1;
-    }
+  sane = all.0;
+  holds = all.1.0;
+  runs = all.1.1.0;
+  follow = all.1.1.1.0;
+  by_index = all.1.1.1.1;
+}
 
 pub overflow_sub-run : goal.overflow_sub-run
 overflow_sub-run c = c.loop-left.invariant.few
@@ -72,10 +72,10 @@ overflow_add-l c = omega (arith, page-fits _ _ _ _ _ _ _ _ _ _ _ _ _ c.loop-left
 
 pub pen_old-k-requires : goal.pen_old-k-requires
 pen_old-k-requires c = let all = pen_asks _ _ _ _ _ _ _ _ _ _ _ _ _ c.loop-left.invariant c.loop-left-test.true _ c.spot_at-x.ensures _ c.old_here-o.ensures _ _ c.turn-r.ensures _ c.remote_addr-addr.ensures _ _ c.put_hint-e.ensures.value c.put_hint-e.ensures.a_after in record {
-        old_below = all.0;
-        above = all.1.0;
-        asks = all.1.1;
-    }
+  old_below = all.0;
+  above = all.1.0;
+  asks = all.1.1;
+}
 
 pub overflow_add-q : goal.overflow_add-q
 overflow_add-q c = omega (arith, slot-few _ _ _ _ _ _ _ _ _ _ _ _ _ c.loop-left.invariant c.loop-left-test.true _ c.spot_at-x.ensures _ c.old_here-o.ensures _ _ c.turn-r.ensures)
@@ -100,6 +100,6 @@ shape_of-a c = run_long _ _ _ _ _ _ _ _ _ _ _ _ _ c.loop-left.invariant
 
 pub returns : goal.returns
 returns c = record {
-        by_index_2 = λ key rd. run-end-is _ _ _ _ _ _ _ _ _ _ _ _ _ c.loop-left.invariant c.loop-left-test.false key rd;
-        known_2 = inr c.loop-left.invariant.holds;
-    }
+  by_index_2 = λ key rd. run-end-is _ _ _ _ _ _ _ _ _ _ _ _ _ c.loop-left.invariant c.loop-left-test.false key rd;
+  known_2 = inr c.loop-left.invariant.holds;
+}

@@ -8,15 +8,15 @@ overflow_add-at c = omega (arith, old-fits _ _ _ _ _ c.requires.old_below c.requ
 
 pub put_value-n-requires : goal.put_value-n-requires
 put_value-n-requires c = let all = old_asks _ _ _ _ _ c.requires.old_below c.requires.o_in_bounds _ c.ver_at-v.ensures _ _ c.write_ver-k.ensures in record {
-        value_below = all.0;
-        v_in_bounds = all.1;
-    }
+  value_below = all.0;
+  v_in_bounds = all.1;
+}
 
 pub overflow_add-result : goal.overflow_add-result
 overflow_add-result c = let z = (old_done _ _ _ _ _ c.requires.old_below c.requires.o_in_bounds _ c.ver_at-v.ensures _ _ c.write_ver-k.ensures _ _ c.put_value-n.ensures.value c.put_value-n.ensures.a_after).0 in omega (arith, z, c.requires.o_in_bounds, c.well_formed.0)
 
 pub returns : goal.returns
 returns c = let all = old_done _ _ _ _ _ c.requires.old_below c.requires.o_in_bounds _ c.ver_at-v.ensures _ _ c.write_ver-k.ensures _ _ c.put_value-n.ensures.value c.put_value-n.ensures.a_after in record {
-        value = all.0;
-        a_after = all.1;
-    }
+  value = all.0;
+  a_after = all.1;
+}

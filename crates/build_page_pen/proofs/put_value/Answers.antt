@@ -14,12 +14,12 @@ overflow_add-result c = omega (arith, near_fits _ _ _ _ _ _ c.requires.value_bel
 
 pub returns-then-n-limit : goal.returns-then-n-limit
 returns-then-n-limit c = let all = near_done _ _ _ _ _ _ c.requires.value_below c.requires.v_in_bounds c.if-n-limit.true _ _ c.write_front-k.ensures _ c.copy_within.ensures in record {
-        value = all.0;
-        a_after = all.1;
-    }
+  value = all.0;
+  a_after = all.1;
+}
 
 pub returns : goal.returns
 returns c = let all = away_done _ _ _ _ _ _ c.requires.value_below c.requires.v_in_bounds c.if-n-limit.false _ _ c.encode_remote.ensures in record {
-        value = all.0;
-        a_after = all.1;
-    }
+  value = all.0;
+  a_after = all.1;
+}

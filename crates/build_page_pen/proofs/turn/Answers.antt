@@ -17,11 +17,11 @@ slice_bounds-ahead-end-2 c = sym (length-take-le _ _ (omega (arith, ready_low _ 
 
 pub ahead-r-requires : goal.ahead-r-requires
 ahead-r-requires c = record {
-        limit_le_max_limit = (c.requires.sane.limit, c.requires.sane.budget);
-        holds = c.requires.holds;
-        runs = c.requires.runs;
-        follow = c.requires.follow;
-    }
+  limit_le_max_limit = (c.requires.sane.limit, c.requires.sane.budget);
+  holds = c.requires.holds;
+  runs = c.requires.runs;
+  follow = c.requires.follow;
+}
 
 pub returns-then-r-eq0 : goal.returns-then-r-eq0
 returns-then-r-eq0 c = λ key rd. turn_none _ c.args.m _ c.args.a.now c.args.q c.requires.sane rd.steady rd.order c.if-left-gt0.false _ (c.ahead-r.ensures key) c.if-r-eq0.true

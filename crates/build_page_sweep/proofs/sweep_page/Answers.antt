@@ -10,9 +10,9 @@ loop-i-init c = page_begin c.args.s.now c.args.b c.args.end c.args.p c.args.limi
 
 pub head_here-r-requires : goal.head_here-r-requires
 head_here-r-requires c = record {
-        judged = c.requires.judged;
-        i_lt_elems = omega (arith, c.requires.end_le_elems, c.loop-i-test.true);
-    }
+  judged = c.requires.judged;
+  i_lt_elems = omega (arith, c.requires.end_le_elems, c.loop-i-test.true);
+}
 
 pub overflow_add-t : goal.overflow_add-t
 overflow_add-t c = omega (arith, page-few _ _ _ _ _ _ _ _ _ _ _ _ _ c.loop-i.invariant)
@@ -31,18 +31,18 @@ overflow_add-b c = omega (arith, page-key _ _ _ _ _ _ _ _ _ _ _ _ _ c.loop-i.inv
 
 pub with_head-t-requires : goal.with_head-t-requires
 with_head-t-requires c = record {
-        n_le_max_value = page-val _ _ _ _ _ _ _ _ _ _ _ _ _ c.loop-i.invariant c.requires.judged c.requires.end_le_elems c.loop-i-test.true _ c.head_here-r.ensures;
-        k_le_max_key = page-key _ _ _ _ _ _ _ _ _ _ _ _ _ c.loop-i.invariant c.requires.judged c.requires.end_le_elems c.loop-i-test.true _ c.head_here-r.ensures;
-        bounded = page-bounded _ _ _ _ _ _ _ _ _ _ _ _ _ c.loop-i.invariant;
-    }
+  n_le_max_value = page-val _ _ _ _ _ _ _ _ _ _ _ _ _ c.loop-i.invariant c.requires.judged c.requires.end_le_elems c.loop-i-test.true _ c.head_here-r.ensures;
+  k_le_max_key = page-key _ _ _ _ _ _ _ _ _ _ _ _ _ c.loop-i.invariant c.requires.judged c.requires.end_le_elems c.loop-i-test.true _ c.head_here-r.ensures;
+  bounded = page-bounded _ _ _ _ _ _ _ _ _ _ _ _ _ c.loop-i.invariant;
+}
 
 pub sweep_run-x-requires : goal.sweep_run-x-requires
 sweep_run-x-requires c = record {
-        limit_le_max_limit = c.requires.limit_le_max_limit;
-        run = page-run _ _ _ _ _ _ _ _ _ _ _ _ _ c.loop-i.invariant c.requires.judged c.requires.end_le_elems c.loop-i-test.true _ c.head_here-r.ensures (omega (arith, c.if-t-h-gt-MAX_ENTRIES.false)) _ c.with_head-t.ensures;
-        known = c.loop-i.invariant.known;
-        run_due = page-due _ _ _ _ _ _ _ _ _ _ _ _ _ c.loop-i.invariant c.requires.judged c.requires.end_le_elems c.loop-i-test.true _ c.head_here-r.ensures (omega (arith, c.if-t-h-gt-MAX_ENTRIES.false)) _ c.with_head-t.ensures;
-    }
+  limit_le_max_limit = c.requires.limit_le_max_limit;
+  run = page-run _ _ _ _ _ _ _ _ _ _ _ _ _ c.loop-i.invariant c.requires.judged c.requires.end_le_elems c.loop-i-test.true _ c.head_here-r.ensures (omega (arith, c.if-t-h-gt-MAX_ENTRIES.false)) _ c.with_head-t.ensures;
+  known = c.loop-i.invariant.known;
+  run_due = page-due _ _ _ _ _ _ _ _ _ _ _ _ _ c.loop-i.invariant c.requires.judged c.requires.end_le_elems c.loop-i-test.true _ c.head_here-r.ensures (omega (arith, c.if-t-h-gt-MAX_ENTRIES.false)) _ c.with_head-t.ensures;
+}
 
 pub overflow_add-i : goal.overflow_add-i
 overflow_add-i c = omega (arith, c.loop-i-test.true, c.ranges.end)

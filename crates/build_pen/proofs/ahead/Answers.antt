@@ -11,9 +11,9 @@ loop-at-init c = peer_begin _ _ _ _ _ _ c.requires.limit_le_max_limit.0 c.requir
 
 pub record_at-i-requires : goal.record_at-i-requires
 record_at-i-requires c = record {
-        well = c.loop-at.invariant.well;
-        at_in_bounds = c.loop-at-test.true;
-    }
+  well = c.loop-at.invariant.well;
+  at_in_bounds = c.loop-at-test.true;
+}
 
 pub past-next-requires : goal.past-next-requires
 past-next-requires c = omega (arith, peer_past _ _ _ _ _ _ _ _ _ _ _ _ c.loop-at.invariant c.loop-at-test.true _ c.record_at-i.ensures)

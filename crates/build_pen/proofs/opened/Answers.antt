@@ -15,10 +15,10 @@ overflow_add-next c = omega (arith, c.requires.fits, c.frame_len.ensures, c.well
 
 pub hist_head-requires : goal.hist_head-requires
 hist_head-requires c = record {
-        slots_at_in_bounds = omega (arith, c.requires.fits, c.requires.least, frame-least c.args.r.size);
-        n_le_max_entries = c.requires.many;
-        size_bound = omega (arith, c.requires.small);
-    }
+  slots_at_in_bounds = omega (arith, c.requires.fits, c.requires.least, frame-least c.args.r.size);
+  n_le_max_entries = c.requires.many;
+  size_bound = omega (arith, c.requires.small);
+}
 
 pub overflow_add-z : goal.overflow_add-z
 overflow_add-z c = omega (arith, c.requires.small)
@@ -49,6 +49,6 @@ overflow_add-result-2 c = omega (arith, c.requires.hint, c.well_formed.0)
 
 pub returns : goal.returns
 returns c = record {
-        value = opened_pen c.args.m c.args.q c.args.r c.args.a.now _ c.frame_len.ensures;
-        a_after = opened-page c.args.m c.args.q c.args.r c.args.a.now _ c.frame_len.ensures _ c.link_of-link.ensures _ _ _ c.hist_head.ensures c.zeros.ensures c.put_u64.ensures;
-    }
+  value = opened_pen c.args.m c.args.q c.args.r c.args.a.now _ c.frame_len.ensures;
+  a_after = opened-page c.args.m c.args.q c.args.r c.args.a.now _ c.frame_len.ensures _ c.link_of-link.ensures _ _ _ c.hist_head.ensures c.zeros.ensures c.put_u64.ensures;
+}

@@ -9,22 +9,22 @@ loop-at-init c = all_begin _ _ _ _ _ _ _ _ _ c.requires.well c.requires.all_laid
 
 pub record_at-i-requires : goal.record_at-i-requires
 record_at-i-requires c = record {
-        well = c.loop-at.invariant.well;
-        at_in_bounds = c.loop-at-test.true;
-    }
+  well = c.loop-at.invariant.well;
+  at_in_bounds = c.loop-at-test.true;
+}
 
 pub past-requires : goal.past-requires
 past-requires c = omega (arith, head_past _ _ _ _ _ _ _ _ _ _ _ _ _ c.loop-at.invariant c.loop-at-test.true _ c.record_at-i.ensures)
 
 pub pen_run-ran-requires : goal.pen_run-ran-requires
 pen_run-ran-requires c = let all = run-asked _ _ _ _ _ _ _ _ _ _ _ _ _ c.loop-at.invariant c.loop-at-test.true _ c.record_at-i.ensures _ c.past.ensures c.requires.sane in record {
-        sane = all.0;
-        well = all.1.0;
-        blen_in_bounds = all.1.1.0;
-        steady = all.1.1.1.0;
-        rising = all.1.1.1.1.0;
-        blen_len_bound = all.1.1.1.1.1;
-    }
+  sane = all.0;
+  well = all.1.0;
+  blen_in_bounds = all.1.1.0;
+  steady = all.1.1.1.0;
+  rising = all.1.1.1.1.0;
+  blen_len_bound = all.1.1.1.1.1;
+}
 
 pub overflow_cast-h : goal.overflow_cast-h
 overflow_cast-h c = omega (arith, (ran-place _ _ _ _ _ _ _ _ _ _ _ _ _ c.loop-at.invariant c.loop-at-test.true _ c.record_at-i.ensures _ c.past.ensures _ _ c.pen_run-ran.ensures).0)
@@ -37,10 +37,10 @@ put_hint-hint-requires c = head_hint _ _ _ _ _ _ _ _ _ _ _ _ _ c.loop-at.invaria
 
 pub pen_head-n-requires : goal.pen_head-n-requires
 pen_head-n-requires c = record {
-        inside = head_inside _ _ _ _ _ _ _ _ _ _ _ _ _ c.loop-at.invariant c.loop-at-test.true _ c.record_at-i.ensures;
-        p_le_klen = head_key_lem _ _ _ _ _ _ _ _ _ _ _ _ _ c.loop-at.invariant c.loop-at-test.true _ c.record_at-i.ensures;
-        asks = head_asks _ _ _ _ _ _ _ _ _ _ _ _ _ c.loop-at.invariant c.loop-at-test.true _ c.record_at-i.ensures _ c.past.ensures _ _ c.pen_run-ran.ensures _ _ c.put_hint-hint.ensures.value c.put_hint-hint.ensures.a_after;
-    }
+  inside = head_inside _ _ _ _ _ _ _ _ _ _ _ _ _ c.loop-at.invariant c.loop-at-test.true _ c.record_at-i.ensures;
+  p_le_klen = head_key_lem _ _ _ _ _ _ _ _ _ _ _ _ _ c.loop-at.invariant c.loop-at-test.true _ c.record_at-i.ensures;
+  asks = head_asks _ _ _ _ _ _ _ _ _ _ _ _ _ c.loop-at.invariant c.loop-at-test.true _ c.record_at-i.ensures _ c.past.ensures _ _ c.pen_run-ran.ensures _ _ c.put_hint-hint.ensures.value c.put_hint-hint.ensures.a_after;
+}
 
 pub loop-at-smaller : goal.loop-at-smaller
 loop-at-smaller c = ran-less _ _ _ _ _ _ _ _ _ _ _ _ _ c.loop-at.invariant c.loop-at-test.true _ c.record_at-i.ensures _ c.past.ensures _ _ c.pen_run-ran.ensures
@@ -53,6 +53,6 @@ shape_of-a c = c.loop-at.invariant.pens.drawing.long
 
 pub returns : goal.returns
 returns c = let all = all_end _ _ _ _ _ _ _ _ _ _ _ _ _ c.loop-at.invariant c.loop-at-test.false in record {
-        value = all.0;
-        a_after = all.1;
-    }
+  value = all.0;
+  a_after = all.1;
+}

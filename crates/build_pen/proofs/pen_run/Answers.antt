@@ -11,9 +11,9 @@ loop-at-init c = run_begin _ _ _ _ _ _ _ c.requires.well c.requires.blen_in_boun
 
 pub record_at-i-requires : goal.record_at-i-requires
 record_at-i-requires c = record {
-        well = c.loop-at.invariant.well;
-        at_in_bounds = c.loop-at-test.true;
-    }
+  well = c.loop-at.invariant.well;
+  at_in_bounds = c.loop-at-test.true;
+}
 
 pub past-next-requires : goal.past-next-requires
 past-next-requires c = omega (arith, run_past _ _ _ _ _ _ _ _ _ _ _ _ _ _ c.loop-at.invariant c.loop-at-test.true _ c.record_at-i.ensures)
@@ -29,12 +29,12 @@ returns-then-not-same_key c = run_stop _ _ _ _ _ _ _ _ _ _ _ _ _ _ c.loop-at.inv
 
 pub turn-r-requires : goal.turn-r-requires
 turn-r-requires c = record {
-        sane = c.requires.sane;
-        well = c.loop-at.invariant.well;
-        klen_in_bounds = c.loop-at.invariant.before;
-        steady = c.loop-at.invariant.runs.steady;
-        rising = turn_asks _ _ _ _ _ _ _ _ _ _ _ _ _ _ c.loop-at.invariant;
-    }
+  sane = c.requires.sane;
+  well = c.loop-at.invariant.well;
+  klen_in_bounds = c.loop-at.invariant.before;
+  steady = c.loop-at.invariant.runs.steady;
+  rising = turn_asks _ _ _ _ _ _ _ _ _ _ _ _ _ _ c.loop-at.invariant;
+}
 
 pub put_hint-h-requires : goal.put_hint-h-requires
 put_hint-h-requires c = run-hint _ _ _ _ _ _ _ _ _ _ _ _ _ _ c.loop-at.invariant c.loop-at-test.true _ c.record_at-i.ensures (sym c.same_key.ensures ∙ c.if-not-same_key.false) _ _ c.turn-r.ensures
@@ -44,9 +44,9 @@ overflow_add-l c = omega (arith, run-page _ _ _ _ _ _ _ _ _ _ _ _ _ _ c.loop-at.
 
 pub pen_old-k-requires : goal.pen_old-k-requires
 pen_old-k-requires c = record {
-        inside = run_inside _ _ _ _ _ _ _ _ _ _ _ _ _ _ c.loop-at.invariant c.loop-at-test.true _ c.record_at-i.ensures;
-        asks = run_asks _ _ _ _ _ _ _ _ _ _ _ _ _ _ c.loop-at.invariant c.loop-at-test.true _ c.record_at-i.ensures (sym c.same_key.ensures ∙ c.if-not-same_key.false) _ _ c.turn-r.ensures _ _ c.put_hint-h.ensures.value c.put_hint-h.ensures.a_after;
-    }
+  inside = run_inside _ _ _ _ _ _ _ _ _ _ _ _ _ _ c.loop-at.invariant c.loop-at-test.true _ c.record_at-i.ensures;
+  asks = run_asks _ _ _ _ _ _ _ _ _ _ _ _ _ _ c.loop-at.invariant c.loop-at-test.true _ c.record_at-i.ensures (sym c.same_key.ensures ∙ c.if-not-same_key.false) _ _ c.turn-r.ensures _ _ c.put_hint-h.ensures.value c.put_hint-h.ensures.a_after;
+}
 
 pub overflow_add-q : goal.overflow_add-q
 overflow_add-q c = omega (arith, run-slot _ _ _ _ _ _ _ _ _ _ _ _ _ _ c.loop-at.invariant c.loop-at-test.true _ c.record_at-i.ensures (sym c.same_key.ensures ∙ c.if-not-same_key.false) _ _ c.turn-r.ensures, run-left _ _ _ _ _ _ _ _ _ _ _ _ _ _ c.loop-at.invariant c.loop-at-test.true _ c.record_at-i.ensures (sym c.same_key.ensures ∙ c.if-not-same_key.false) _ _ c.turn-r.ensures)

@@ -7,10 +7,10 @@ returns-then-left-gt0 c = turn_stays 0 _ _ _ _ c.requires.steady c.if-left-gt0.t
 
 pub ahead-r-requires : goal.ahead-r-requires
 ahead-r-requires c = record {
-        limit_le_max_limit = (c.requires.sane.limit, c.requires.sane.budget);
-        well = c.requires.well;
-        blen_in_bounds = c.requires.klen_in_bounds;
-    }
+  limit_le_max_limit = (c.requires.sane.limit, c.requires.sane.budget);
+  well = c.requires.well;
+  blen_in_bounds = c.requires.klen_in_bounds;
+}
 
 pub returns-then-r-eq0 : goal.returns-then-r-eq0
 returns-then-r-eq0 c = turn_none 0 c.args.m _ c.args.a.now c.args.q c.requires.sane c.requires.steady c.requires.rising c.if-left-gt0.false _ c.ahead-r.ensures c.if-r-eq0.true

@@ -10,10 +10,7 @@ returns-then-a-hand c = let all = hold_again c.args.s.now c.args.a c.args.hand c
 }
 
 pub returns-in_default : goal.returns-in_default
-returns-in_default c = let all = absurd (opens-some c.args.s.now c.args.a c.requires.opens (sym c.history_at.ensures ∙ c.in_default.is)) in record {
-  holds = all.0;
-  page_value = all.1;
-}
+returns-in_default c = absurd (opens-some c.args.s.now c.args.a c.requires.opens (sym c.history_at.ensures ∙ c.in_default.is))
 
 pub returns : goal.returns
 returns c = record {

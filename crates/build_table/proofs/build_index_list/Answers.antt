@@ -13,17 +13,17 @@ slice_bounds-judge_index_list-end-2 c = sym (length-take-le _ _ c.requires.next_
 
 pub judge_index_list-v-requires : goal.judge_index_list-v-requires
 judge_index_list-v-requires c = record {
-        from_value = c.requires.from_value;
-        lo_value = c.requires.lo_value;
-        held = c.requires.held;
-        next_le_len = c.requires.next_in_bounds;
-    }
+  from_value = c.requires.from_value;
+  lo_value = c.requires.lo_value;
+  held = c.requires.held;
+  next_le_len = c.requires.next_in_bounds;
+}
 
 pub write_list-requires : goal.write_list-requires
 write_list-requires c = record {
-        first_of_value = index_fit_well c.args.a.now c.args.list.now c.args.next c.args.m c.args.lo.now c.args.hi.now c.args.e c.requires.next_in_bounds c.requires.held _ c.judge_index_list-v.ensures _ _ c.in-Fits.is;
-        ready = index_fit_ready c.args.a.now c.args.list.now c.args.next c.args.m c.args.lo.now c.args.hi.now c.args.e c.requires.next_in_bounds c.requires.held _ c.judge_index_list-v.ensures _ _ c.in-Fits.is;
-    }
+  first_of_value = index_fit_well c.args.a.now c.args.list.now c.args.next c.args.m c.args.lo.now c.args.hi.now c.args.e c.requires.next_in_bounds c.requires.held _ c.judge_index_list-v.ensures _ _ c.in-Fits.is;
+  ready = index_fit_ready c.args.a.now c.args.list.now c.args.next c.args.m c.args.lo.now c.args.hi.now c.args.e c.requires.next_in_bounds c.requires.held _ c.judge_index_list-v.ensures _ _ c.in-Fits.is;
+}
 
 pub overflow_cast-size : goal.overflow_cast-size
 overflow_cast-size c = let z = (index_fit_ready c.args.a.now c.args.list.now c.args.next c.args.m c.args.lo.now c.args.hi.now c.args.e c.requires.next_in_bounds c.requires.held _ c.judge_index_list-v.ensures _ _ c.in-Fits.is).small in omega (arith, z)
@@ -33,12 +33,12 @@ overflow_add-result c = let z = (index_fit_ready c.args.a.now c.args.list.now c.
 
 pub returns-in-No : goal.returns-in-No
 returns-in-No c = let all = index_list_refused c.args.a.now c.args.list.now c.args.next c.args.m c.args.lo.now c.args.hi.now c.args.e c.requires.next_in_bounds c.requires.held _ c.judge_index_list-v.ensures _ c.in-No.is in record {
-        value = all.0;
-        a_after = all.1;
-    }
+  value = all.0;
+  a_after = all.1;
+}
 
 pub returns-in-Fits : goal.returns-in-Fits
 returns-in-Fits c = let all = index_fit_built c.args.a.now c.args.list.now c.args.next c.args.m c.args.lo.now c.args.hi.now c.args.e c.requires.next_in_bounds c.requires.held _ c.judge_index_list-v.ensures _ _ c.in-Fits.is _ _ c.write_list.ensures c.frame_len.ensures in record {
-        value = all.0;
-        a_after = all.1;
-    }
+  value = all.0;
+  a_after = all.1;
+}

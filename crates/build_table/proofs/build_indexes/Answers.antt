@@ -13,20 +13,20 @@ slice_bounds-judge_indexes-end-2 c = sym (length-take-le _ _ c.requires.next_in_
 
 pub judge_indexes-v-requires : goal.judge_indexes-v-requires
 judge_indexes-v-requires c = record {
-        judged = c.requires.judged;
-        from_le_end = c.requires.from_le_end;
-        held = c.requires.held;
-        next_le_len = c.requires.next_in_bounds;
-        count_value = c.requires.count_value;
-        count_value_2 = c.requires.count_value_2;
-    }
+  judged = c.requires.judged;
+  from_le_end = c.requires.from_le_end;
+  held = c.requires.held;
+  next_le_len = c.requires.next_in_bounds;
+  count_value = c.requires.count_value;
+  count_value_2 = c.requires.count_value_2;
+}
 
 pub write_pages-requires : goal.write_pages-requires
 write_pages-requires c = record {
-        judged = c.requires.judged;
-        from_le_end = c.requires.from_le_end;
-        ready = index_ready _ _ c.args.m _ _ _ _ c.requires.next_in_bounds c.requires.held _ c.judge_indexes-v.ensures _ _ c.in-Fits.is;
-    }
+  judged = c.requires.judged;
+  from_le_end = c.requires.from_le_end;
+  ready = index_ready _ _ c.args.m _ _ _ _ c.requires.next_in_bounds c.requires.held _ c.judge_indexes-v.ensures _ _ c.in-Fits.is;
+}
 
 pub overflow_cast-size : goal.overflow_cast-size
 overflow_cast-size c = omega (arith, index_small _ _ c.args.m _ _ _ _ c.requires.next_in_bounds c.requires.held _ c.judge_indexes-v.ensures _ _ c.in-Fits.is)
@@ -36,12 +36,12 @@ overflow_add-result c = omega (arith, (index_ready _ _ c.args.m _ _ _ _ c.requir
 
 pub returns-in-No : goal.returns-in-No
 returns-in-No c = let all = index_refused _ _ c.args.m _ _ _ _ c.requires.next_in_bounds c.requires.held _ c.judge_indexes-v.ensures _ c.in-No.is in record {
-        value = all.0;
-        a_after = all.1;
-    }
+  value = all.0;
+  a_after = all.1;
+}
 
 pub returns-in-Fits : goal.returns-in-Fits
 returns-in-Fits c = let all = index_built_lem _ _ c.args.m _ _ _ _ c.requires.next_in_bounds c.requires.held _ c.judge_indexes-v.ensures _ _ c.in-Fits.is _ _ c.write_pages.ensures c.frame_len.ensures in record {
-        value = all.0;
-        a_after = all.1;
-    }
+  value = all.0;
+  a_after = all.1;
+}

@@ -15,33 +15,33 @@ slice_bounds-judge_leaves-end-2 c = sym (length-take-le _ _ c.requires.next_in_b
 
 pub judge_leaves-v-requires : goal.judge_leaves-v-requires
 judge_leaves-v-requires c = record {
-        leaves = c.requires.leaves;
-        sane = c.requires.sane;
-        next_le_len = (c.requires.next_in_bounds, omega (arith, c.well_formed.0));
-    }
+  leaves = c.requires.leaves;
+  sane = c.requires.sane;
+  next_le_len = (c.requires.next_in_bounds, omega (arith, c.well_formed.0));
+}
 
 pub write_leaves-leaf-requires : goal.write_leaves-leaf-requires
 write_leaves-leaf-requires c = record {
-        ground_le_at = omega arith;
-        sane = c.requires.sane;
-        small = leaf_small c.args.a.now c.args.next c.args.m c.args.none.now c.args.none.now c.args.e c.requires.leaves.held (in_leaves (take c.args.next c.args.a.now) c.args.b c.args.from c.args.end c.args.d c.args.n) _ c.judge_leaves-v.ensures _ c.in-Fits.is;
-        both_within = c.requires.leaves.held.inside;
-        judged = (c.requires.leaves.left, c.requires.leaves.right);
-        end_le_elems = (c.requires.leaves.end_in, c.requires.leaves.n_in);
-        long = leaf_long c.args.a.now c.args.next c.args.m c.args.none.now c.args.none.now c.args.e c.requires.leaves.held (in_leaves (take c.args.next c.args.a.now) c.args.b c.args.from c.args.end c.args.d c.args.n) _ c.judge_leaves-v.ensures _ c.in-Fits.is;
-        n_len_bound = leaf_few c.args.a.now c.args.next c.args.m c.args.none.now c.args.none.now c.args.e c.requires.leaves.held (in_leaves (take c.args.next c.args.a.now) c.args.b c.args.from c.args.end c.args.d c.args.n) _ c.judge_leaves-v.ensures _ c.in-Fits.is;
-        t_value = leaf_totals c.args.a.now c.args.next c.args.m c.args.none.now c.args.none.now c.args.e c.requires.leaves.held (in_leaves (take c.args.next c.args.a.now) c.args.b c.args.from c.args.end c.args.d c.args.n) _ c.judge_leaves-v.ensures _ c.in-Fits.is;
-        end_in_bounds = leaf_room_lem c.args.a.now c.args.next c.args.m c.args.none.now c.args.none.now c.args.e c.requires.leaves.held (in_leaves (take c.args.next c.args.a.now) c.args.b c.args.from c.args.end c.args.d c.args.n) _ c.judge_leaves-v.ensures _ c.in-Fits.is;
-    }
+  ground_le_at = omega arith;
+  sane = c.requires.sane;
+  small = leaf_small c.args.a.now c.args.next c.args.m c.args.none.now c.args.none.now c.args.e c.requires.leaves.held (in_leaves (take c.args.next c.args.a.now) c.args.b c.args.from c.args.end c.args.d c.args.n) _ c.judge_leaves-v.ensures _ c.in-Fits.is;
+  both_within = c.requires.leaves.held.inside;
+  judged = (c.requires.leaves.left, c.requires.leaves.right);
+  end_le_elems = (c.requires.leaves.end_in, c.requires.leaves.n_in);
+  long = leaf_long c.args.a.now c.args.next c.args.m c.args.none.now c.args.none.now c.args.e c.requires.leaves.held (in_leaves (take c.args.next c.args.a.now) c.args.b c.args.from c.args.end c.args.d c.args.n) _ c.judge_leaves-v.ensures _ c.in-Fits.is;
+  n_len_bound = leaf_few c.args.a.now c.args.next c.args.m c.args.none.now c.args.none.now c.args.e c.requires.leaves.held (in_leaves (take c.args.next c.args.a.now) c.args.b c.args.from c.args.end c.args.d c.args.n) _ c.judge_leaves-v.ensures _ c.in-Fits.is;
+  t_value = leaf_totals c.args.a.now c.args.next c.args.m c.args.none.now c.args.none.now c.args.e c.requires.leaves.held (in_leaves (take c.args.next c.args.a.now) c.args.b c.args.from c.args.end c.args.d c.args.n) _ c.judge_leaves-v.ensures _ c.in-Fits.is;
+  end_in_bounds = leaf_room_lem c.args.a.now c.args.next c.args.m c.args.none.now c.args.none.now c.args.e c.requires.leaves.held (in_leaves (take c.args.next c.args.a.now) c.args.b c.args.from c.args.end c.args.d c.args.n) _ c.judge_leaves-v.ensures _ c.in-Fits.is;
+}
 
 pub returns-in-No : goal.returns-in-No
 returns-in-No c = let all = leaf_refused c.args.a.now c.args.next c.args.m c.args.none.now c.args.none.now c.args.e c.requires.leaves.held (in_leaves (take c.args.next c.args.a.now) c.args.b c.args.from c.args.end c.args.d c.args.n) _ c.judge_leaves-v.ensures _ c.in-No.is in record {
-        value = all.0;
-        a_after = all.1;
-    }
+  value = all.0;
+  a_after = all.1;
+}
 
 pub returns-in-Fits : goal.returns-in-Fits
 returns-in-Fits c = let all = leaf_built_lem c.args.a.now c.args.next c.args.m c.args.none.now c.args.none.now c.args.e c.requires.leaves.held (in_leaves (take c.args.next c.args.a.now) c.args.b c.args.from c.args.end c.args.d c.args.n) _ c.judge_leaves-v.ensures _ c.in-Fits.is _ _ c.write_leaves-leaf.ensures.value c.write_leaves-leaf.ensures.a_after in record {
-        value = all.0;
-        a_after = all.1;
-    }
+  value = all.0;
+  a_after = all.1;
+}

@@ -13,34 +13,34 @@ slice_bounds-judge_list-end-2 c = sym (length-take-le _ _ c.requires.next_in_bou
 
 pub judge_list-v-requires : goal.judge_list-v-requires
 judge_list-v-requires c = record {
-        from_value = c.requires.from_value;
-        lo_value = c.requires.lo_value;
-        held = c.requires.held;
-        sane = c.requires.sane;
-        next_le_len = (c.requires.next_in_bounds, omega (arith, c.well_formed.0));
-    }
+  from_value = c.requires.from_value;
+  lo_value = c.requires.lo_value;
+  held = c.requires.held;
+  sane = c.requires.sane;
+  next_le_len = (c.requires.next_in_bounds, omega (arith, c.well_formed.0));
+}
 
 pub write_list-leaf-requires : goal.write_list-leaf-requires
 write_list-leaf-requires c = record {
-        ground_le_at = omega arith;
-        sane = c.requires.sane;
-        small = fit_small c.args.a.now c.args.list.now c.args.next c.args.m c.args.lo.now c.args.hi.now c.args.e c.requires.held _ c.judge_list-v.ensures _ c.in-Fits.is;
-        both_within = c.requires.held.inside;
-        well = fit_well c.args.a.now c.args.list.now c.args.next c.args.m c.args.lo.now c.args.hi.now c.args.e c.requires.held _ c.judge_list-v.ensures _ c.in-Fits.is;
-        long = fit_long c.args.a.now c.args.list.now c.args.next c.args.m c.args.lo.now c.args.hi.now c.args.e c.requires.held _ c.judge_list-v.ensures _ c.in-Fits.is;
-        list_len_bound = fit_few c.args.a.now c.args.list.now c.args.next c.args.m c.args.lo.now c.args.hi.now c.args.e c.requires.held _ c.judge_list-v.ensures _ c.in-Fits.is;
-        t_value = fit_totals c.args.a.now c.args.list.now c.args.next c.args.m c.args.lo.now c.args.hi.now c.args.e c.requires.held _ c.judge_list-v.ensures _ c.in-Fits.is;
-        end_in_bounds = fit_room c.args.a.now c.args.list.now c.args.next c.args.m c.args.lo.now c.args.hi.now c.args.e c.requires.held _ c.judge_list-v.ensures _ c.in-Fits.is;
-    }
+  ground_le_at = omega arith;
+  sane = c.requires.sane;
+  small = fit_small c.args.a.now c.args.list.now c.args.next c.args.m c.args.lo.now c.args.hi.now c.args.e c.requires.held _ c.judge_list-v.ensures _ c.in-Fits.is;
+  both_within = c.requires.held.inside;
+  well = fit_well c.args.a.now c.args.list.now c.args.next c.args.m c.args.lo.now c.args.hi.now c.args.e c.requires.held _ c.judge_list-v.ensures _ c.in-Fits.is;
+  long = fit_long c.args.a.now c.args.list.now c.args.next c.args.m c.args.lo.now c.args.hi.now c.args.e c.requires.held _ c.judge_list-v.ensures _ c.in-Fits.is;
+  list_len_bound = fit_few c.args.a.now c.args.list.now c.args.next c.args.m c.args.lo.now c.args.hi.now c.args.e c.requires.held _ c.judge_list-v.ensures _ c.in-Fits.is;
+  t_value = fit_totals c.args.a.now c.args.list.now c.args.next c.args.m c.args.lo.now c.args.hi.now c.args.e c.requires.held _ c.judge_list-v.ensures _ c.in-Fits.is;
+  end_in_bounds = fit_room c.args.a.now c.args.list.now c.args.next c.args.m c.args.lo.now c.args.hi.now c.args.e c.requires.held _ c.judge_list-v.ensures _ c.in-Fits.is;
+}
 
 pub returns-in-No : goal.returns-in-No
 returns-in-No c = let all = leaf_list_refused c.args.a.now c.args.list.now c.args.next c.args.m c.args.lo.now c.args.hi.now c.args.e c.requires.held _ c.judge_list-v.ensures _ c.in-No.is in record {
-        value = all.0;
-        a_after = all.1;
-    }
+  value = all.0;
+  a_after = all.1;
+}
 
 pub returns-in-Fits : goal.returns-in-Fits
 returns-in-Fits c = let all = fit_built c.args.a.now c.args.list.now c.args.next c.args.m c.args.lo.now c.args.hi.now c.args.e c.requires.held _ c.judge_list-v.ensures _ c.in-Fits.is _ _ c.write_list-leaf.ensures.value c.write_list-leaf.ensures.a_after in record {
-        value = all.0;
-        a_after = all.1;
-    }
+  value = all.0;
+  a_after = all.1;
+}

@@ -9,9 +9,9 @@ use Rattle.build_table.proofs.judge_list.Goals as goal
 
 pub sweep_list-s-requires : goal.sweep_list-s-requires
 sweep_list-s-requires c = record {
-        limit_le_max_limit = (c.requires.sane.limit, c.requires.sane.budget);
-        next_bound = omega (arith, c.requires.next_le_len.0, c.requires.next_le_len.1);
-    }
+  limit_le_max_limit = (c.requires.sane.limit, c.requires.sane.budget);
+  next_bound = omega (arith, c.requires.next_le_len.0, c.requires.next_le_len.1);
+}
 
 pub refused-requires : goal.refused-requires
 refused-requires c = c.requires.held
@@ -27,10 +27,10 @@ spans_ends-requires c = record_ends c.args.list.now _ _ _ (accepted c.args.list.
 
 pub weigh-requires : goal.weigh-requires
 weigh-requires c = let z = (accepted c.args.list.now c.args.e.prefix c.args.next c.args.m.limit c.args.m.budget c.sweep_list-s.result _ _ _ _ c.sweep_list-s.ensures c.in-Fits.is) in record {
-        x_le_max_key = (omega (arith, c.requires.held.ground, ap (λ (x : Boundary). x.len) c.requires.lo_value.0), omega (arith, c.requires.held.high, ap (λ (x : Boundary). x.len) c.requires.lo_value.1));
-        bounded = z.bounded;
-        end_bound = (omega (arith, z.end, c.requires.next_le_len.0, c.requires.next_le_len.1), z.count);
-    }
+  x_le_max_key = (omega (arith, c.requires.held.ground, ap (λ (x : Boundary). x.len) c.requires.lo_value.0), omega (arith, c.requires.held.high, ap (λ (x : Boundary). x.len) c.requires.lo_value.1));
+  bounded = z.bounded;
+  end_bound = (omega (arith, z.end, c.requires.next_le_len.0, c.requires.next_le_len.1), z.count);
+}
 
 pub returns-then-spans_ends : goal.returns-then-spans_ends
 returns-then-spans_ends c = list-weighed c.args.list.now c.args.ground.now c.args.len c.args.next c.args.lo.now c.args.hi.now c.args.e c.requires.held c.requires.lo_value.0 c.requires.lo_value.1 c.args.m _ _ _ _ (accepted c.args.list.now c.args.e.prefix c.args.next c.args.m.limit c.args.m.budget c.sweep_list-s.result _ _ _ _ c.sweep_list-s.ensures c.in-Fits.is) _ c.spans_ends.ensures c.if-spans_ends.true _ c.weigh.ensures

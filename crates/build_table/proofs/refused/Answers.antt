@@ -21,9 +21,9 @@ returns-then-inside c = let z = risen_up _ _ _ _ _ (sym c.in-Up.is ∙ c.rises.e
 
 pub outside-requires : goal.outside-requires
 outside-requires c = record {
-        within = c.requires.inside.ground;
-        p_le_len = held-shared _ _ _ _ c.requires;
-    }
+  within = c.requires.inside.ground;
+  p_le_len = held-shared _ _ _ _ c.requires;
+}
 
 pub returns : goal.returns
 returns c = let z = risen_up _ _ _ _ _ (sym c.in-Up.is ∙ c.rises.ensures) in why_outside c.args.list.now c.args.ground.now c.args.from (bounds_of c.args.lo.now c.args.hi.now c.args.ground.now c.args.e) _ c.well.ensures (c.if-not-well.false) z.up _ z.inside c.if-inside.false _ c.outside.ensures

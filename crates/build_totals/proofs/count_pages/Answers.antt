@@ -12,9 +12,9 @@ look_ahead-s-requires c = c.requires.limit_le_max_limit
 
 pub returns-then-r-eq0 : goal.returns-then-r-eq0
 returns-then-r-eq0 c = let all = paging_done _ _ _ _ _ _ _ _ _ c.requires.limit_le_max_limit.0 c.requires.limit_le_max_limit.1 c.loop-s.invariant _ c.look_ahead-s.ensures.run_value c.if-r-eq0.true in record {
-        value = all.0;
-        end_bound = all.1;
-    }
+  value = all.0;
+  end_bound = all.1;
+}
 
 pub overflow_add-n : goal.overflow_add-n
 overflow_add-n c = let z = n-small _ _ _ _ _ _ _ _ _ c.requires.limit_le_max_limit.0 c.requires.limit_le_max_limit.1 c.loop-s.invariant _ c.look_ahead-s.ensures.run_value c.if-r-eq0.false _ refl in omega (arith, z)

@@ -6,7 +6,5 @@ use Rattle.build_totals.proofs.tally_up.Given as goal
 abbrev pub invariant-loop-i : goal.invariant-loop-i
 invariant-loop-i l = Tallying l.list l.ground l.limit l.p l.initial.c l.c l.t
 
-
 abbrev pub decreases-loop-i : goal.decreases-loop-i
 decreases-loop-i l = left_of l.list l.ground l.c
-

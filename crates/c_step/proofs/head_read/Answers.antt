@@ -25,9 +25,9 @@ returns-in_default-slot_at c = λ r e. absurd (rec_none r e)
 pub quick_key-n-requires : goal.quick_key-n-requires
 quick_key-n-requires c = let o = sym c.body_of.ensures ∙ c.in-Is.is in
     record {
-        inside = leaf_inside c.args.s.now c.args.w c.in-Is.b o;
-        kind_value = leaf_kind c.args.s.now c.args.w c.in-Is.b o;
-        p_lt_end = (slot-inside c.args.s.now c.in-Is.b c.args.w.pos c.in-At.p (sym c.slot_at.ensures ∙ c.in-At.is)).1;
+      inside = leaf_inside c.args.s.now c.args.w c.in-Is.b o;
+      kind_value = leaf_kind c.args.s.now c.args.w c.in-Is.b o;
+      p_lt_end = (slot-inside c.args.s.now c.in-Is.b c.args.w.pos c.in-At.p (sym c.slot_at.ensures ∙ c.in-At.is)).1;
     }
 
 pub returns-then-n-eq0 : goal.returns-then-n-eq0
@@ -44,8 +44,8 @@ overflow_add-p-2 c = let i = leaf_inside c.args.s.now c.args.w c.in-Is.b (sym c.
 pub quick_value-requires : goal.quick_value-requires
 quick_value-requires c = let o = sym c.body_of.ensures ∙ c.in-Is.is in
     record {
-        inside = leaf_inside c.args.s.now c.args.w c.in-Is.b o;
-        kind_value = leaf_kind c.args.s.now c.args.w c.in-Is.b o;
+      inside = leaf_inside c.args.s.now c.args.w c.in-Is.b o;
+      kind_value = leaf_kind c.args.s.now c.args.w c.in-Is.b o;
     }
 
 pub returns-in_default-quick_value : goal.returns-in_default-quick_value

@@ -5,11 +5,11 @@ use Rattle.c_step.proofs.step.Goals as goal
 
 pub step_old-requires : goal.step_old-requires
 step_old-requires c = record {
-        w_value = c.walk_in-w.ensures;
-        left_nonzero = c.if-older-gt0.true;
-        in_bounds = omega (arith, c.if-walk-lt18.false);
-        in_bounds_2 = omega (arith, c.if-out-lt9.false);
-    }
+  w_value = c.walk_in-w.ensures;
+  left_nonzero = c.if-older-gt0.true;
+  in_bounds = omega (arith, c.if-walk-lt18.false);
+  in_bounds_2 = omega (arith, c.if-out-lt9.false);
+}
 
 pub returns-then-step_old : goal.returns-then-step_old
 returns-then-step_old c = c.step_old.ensures.took c.if-step_old.true
@@ -19,11 +19,11 @@ returns-then-older-gt0 c = stepped_from c.args.s.now c.args.walk.now c.args.out.
 
 pub step_head-requires : goal.step_head-requires
 step_head-requires c = record {
-        w_value = c.walk_in-w.ensures;
-        left_value = omega (arith, c.if-older-gt0.false);
-        in_bounds = omega (arith, c.if-walk-lt18.false);
-        in_bounds_2 = omega (arith, c.if-out-lt9.false);
-    }
+  w_value = c.walk_in-w.ensures;
+  left_value = omega (arith, c.if-older-gt0.false);
+  in_bounds = omega (arith, c.if-walk-lt18.false);
+  in_bounds_2 = omega (arith, c.if-out-lt9.false);
+}
 
 pub returns-then-step_head : goal.returns-then-step_head
 returns-then-step_head c = c.step_head.ensures.took c.if-step_head.true

@@ -11,15 +11,15 @@ returns-in_default c = takes_not _ _ _
 
 pub enter_in-requires : goal.enter_in-requires
 enter_in-requires c = record {
-        was_value = ap (λ (z : Walk). z.older) c.requires.w_value;
-        in_bounds = c.requires.in_bounds;
-    }
+  was_value = ap (λ (z : Walk). z.older) c.requires.w_value;
+  in_bounds = c.requires.in_bounds;
+}
 
 pub tell_rec-requires : goal.tell_rec-requires
 tell_rec-requires c = record {
-        k_in_bounds = omega (arith, c.requires.in_bounds_2);
-        ver_at_in_bounds = (c.head_read.ensures c.in-Is.r c.in-Is.is).ver;
-    }
+  k_in_bounds = omega (arith, c.requires.in_bounds_2);
+  ver_at_in_bounds = (c.head_read.ensures c.in-Is.r c.in-Is.is).ver;
+}
 
 pub onward-requires : goal.onward-requires
 onward-requires c = omega (arith, (c.head_read.ensures c.in-Is.r c.in-Is.is).below, c.well_formed)

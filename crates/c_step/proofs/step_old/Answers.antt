@@ -16,8 +16,8 @@ returns-in_default c = takes_not _ _ _
 pub quick_old-requires : goal.quick_old-requires
 quick_old-requires c = let o = sym c.body_of.ensures ∙ c.in-Is.is in
     record {
-        inside = body-inside c.args.s.now c.args.w.older.page 2 c.in-Is.b o;
-        kind_value = ap (λ (y : Body). y.kind) (sym (body_is c.args.s.now c.args.w.older.page 2 c.in-Is.b o));
+      inside = body-inside c.args.s.now c.args.w.older.page 2 c.in-Is.b o;
+      kind_value = ap (λ (y : Body). y.kind) (sym (body_is c.args.s.now c.args.w.older.page 2 c.in-Is.b o));
     }
 
 pub returns-in_default-quick_old : goal.returns-in_default-quick_old
@@ -27,8 +27,8 @@ pub tell_rec-requires : goal.tell_rec-requires
 tell_rec-requires c = let o = sym c.body_of.ensures ∙ c.in-Is.is in
     let q = quick_is (RecRead.Is c.in-Is-quick_old.r) c.quick_old.ensures c.in-Is-quick_old.is (rec_none c.in-Is-quick_old.r) in
     record {
-        k_in_bounds = omega (arith, c.requires.in_bounds_2);
-        ver_at_in_bounds = ver-inside c.args.s.now c.in-Is.b c.args.w.older.slot c.in-Is-quick_old.r (body-inside c.args.s.now c.args.w.older.page 2 c.in-Is.b o) (λ z. omega (arith, ap (λ (y : Body). y.kind) (sym (body_is c.args.s.now c.args.w.older.page 2 c.in-Is.b o)), z)) q;
+      k_in_bounds = omega (arith, c.requires.in_bounds_2);
+      ver_at_in_bounds = ver-inside c.args.s.now c.in-Is.b c.args.w.older.slot c.in-Is-quick_old.r (body-inside c.args.s.now c.args.w.older.page 2 c.in-Is.b o) (λ z. omega (arith, ap (λ (y : Body). y.kind) (sym (body_is c.args.s.now c.args.w.older.page 2 c.in-Is.b o)), z)) q;
     }
 
 pub overflow_add-older : goal.overflow_add-older

@@ -6,7 +6,5 @@ use Rattle.c_steps.proofs.olds.Given as goal
 abbrev pub invariant-loop-n : goal.invariant-loop-n
 invariant-loop-n l = Olding l.s l.w l.initial.out l.first l.room l.b l.most l.out l.at l.n
 
-
 abbrev pub decreases-loop-n : goal.decreases-loop-n
 decreases-loop-n l = l.most - l.n
-

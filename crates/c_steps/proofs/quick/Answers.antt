@@ -1,6 +1,6 @@
 -- `c_steps::quick` meets its contract. Assumes nothing.
 use native.Mathlib.Omega.{arith}
-use Prim.Native.Nat.{◌-◌}
+use Prim.Native.Nat.{◌-◌, ◌<◌}
 use mathlib.Core.Path.{subst}
 use Rattle.c_steps.specs.declared.HeadRead.{HeadRead}
 use Rattle.c_steps.specs.Turns.{Heads}
@@ -15,19 +15,19 @@ pub returns-then-n-eq0 : goal.returns-then-n-eq0
 returns-then-n-eq0 c = c.olds-n.ensures.out_unchanged c.if-n-eq0.true
 
 pub age-requires : goal.age-requires
-age-requires c = record {
-        n_bound = (None).0;
-        n_le_left = (None).1;
-    }
+age-requires c = let z : 0 < c.olds-n.result = omega (arith, c.if-n-eq0.false) in record {
+  n_bound = omega (arith, c.olds-n.ensures.result_bound z, c.well_formed);
+  n_le_left = c.olds-n.ensures.upper_bound;
+}
 
 pub returns-then-older-gt0 : goal.returns-then-older-gt0
 returns-then-older-gt0 c = rw c.age.ensures (c.olds-n.ensures.filling, (known_at c.args.s.now c.args.known c.args.w.older _ _ c.requires.known_older, omega (arith, c.if-n-eq0.false)))
 
 pub plains-x-requires : goal.plains-x-requires
 plains-x-requires c = record {
-        fit_le_room = c.requires.fit_le_room;
-        left_value = omega (arith, c.if-older-gt0.false);
-    }
+  fit_le_room = c.requires.fit_le_room;
+  left_value = omega (arith, c.if-older-gt0.false);
+}
 
 pub headed-u-requires : goal.headed-u-requires
 headed-u-requires c = c.plains-x.ensures.plains.few
@@ -39,10 +39,7 @@ pub returns-in_default : goal.returns-in_default
 returns-in_default c = rw c.headed-u.ensures (c.plains-x.ensures.plains.fills, (c.requires.known_older, omega (arith, c.if-n-eq0-2.false)))
 
 pub behind-requires : goal.behind-requires
-behind-requires c = let all = rw c.headed-u.ensures (c.requires.known_older, (c.plains-x.ensures.plains.next c.in-Is.h c.in-Is.is).1) in record {
-        known_older = all.0;
-        ahead = all.1;
-    }
+behind-requires c = record { known_older = rw c.headed-u.ensures c.requires.known_older; ahead = rw c.headed-u.ensures ((c.plains-x.ensures.plains.next c.in-Is.h c.in-Is.is).1) }
 
 pub returns-then-n-eq0-3 : goal.returns-then-n-eq0-3
 returns-then-n-eq0-3 c = c.plains-x.ensures.plains.fresh c.if-n-eq0-3.true
@@ -57,9 +54,10 @@ pub overflow_add-at : goal.overflow_add-at
 overflow_add-at c = omega (arith, c.plains-x.ensures.plains.fills.few, c.requires.room_bound)
 
 pub tell_rec-requires : goal.tell_rec-requires
-tell_rec-requires c = record {
-        k_in_bounds = (None).0;
-        ver_at_in_bounds = (None).1;
+tell_rec-requires c = let q : Heads c.args.s.now c.headed-u.result (HeadRead.Is c.in-Is-behind.r c.in-Is-behind.v c.in-Is-behind.seen) = subst (λ (z : HeadRead). Heads c.args.s.now c.headed-u.result z) c.in-Is-behind.is c.behind.ensures in
+    record {
+      k_in_bounds = omega (arith, c.plains-x.ensures.count_lt_fit c.in-Is.h c.in-Is.is, c.plains-x.ensures.plains.fills.long, c.requires.fit_le_room.1);
+      ver_at_in_bounds = q.1.1;
     }
 
 pub overflow_add-result : goal.overflow_add-result

@@ -9,13 +9,13 @@ use Rattle.c_steps.proofs.room_in.Goals as goal
 pub returns-then-len-eq0 : goal.returns-then-len-eq0
 unfolding room_in
 returns-then-len-eq0 c = record {
-        value = ap (λ (k : ℕ). (k - 1) / 9) (sym c.if-len-eq0.true);
-        result_bound = omega arith;
-    }
+  value = ap (λ (k : ℕ). (k - 1) / 9) (sym c.if-len-eq0.true);
+  result_bound = omega arith;
+}
 
 pub returns-else-len-eq0 : goal.returns-else-len-eq0
 unfolding room_in
 returns-else-len-eq0 c = record {
-        value = refl;
-        result_bound = room_fits c.args.len refl (omega arith);
-    }
+  value = refl;
+  result_bound = room_fits c.args.len refl (omega arith);
+}

@@ -42,13 +42,9 @@ returns-then-at-eq0 c = let all = let h = address_zero c.args.next (length c.arg
     }
 
 pub put_index-requires : goal.put_index-requires
-put_index-requires c = let all = let s = address-some c.args.next (length c.args.a.now) 0 c.index_len-len.result c.placed-at.result c.placed-at.ensures c.if-at-eq0.false in
+put_index-requires c = let s = address-some c.args.next (length c.args.a.now) 0 c.index_len-len.result c.placed-at.result c.placed-at.ensures c.if-at-eq0.false in
     let l = lengths_true (length c.args.key.now) 0 (sym c.lengths_ok.ensures ∙ c.if-not-lengths_ok.false) in
-    let q : c.args.next + 0 + index_len (length c.args.key.now) ≤ length c.args.a.now = omega (arith, s.1, c.index_len-len.ensures) in
-    rw c.call_of-m.ensures (l.0, index_frame-room (call_of 0 0 c.args.group c.args.txid c.args.lsn c.args.ckpt) c.args.a.now c.args.next c.args.key.now c.args.page c.placed-at.result s.0 q) in record {
-      key_len_bound = all.0;
-      page_in_bounds = all.1;
-    }
+    let q : c.args.next + 0 + index_len (length c.args.key.now) ≤ length c.args.a.now = omega (arith, s.1, c.index_len-len.ensures) in record { key_len_bound = l.0; page_in_bounds = rw c.call_of-m.ensures (index_frame-room (call_of 0 0 c.args.group c.args.txid c.args.lsn c.args.ckpt) c.args.a.now c.args.next c.args.key.now c.args.page c.placed-at.result s.0 q) }
 
 pub overflow_add-result : goal.overflow_add-result
 overflow_add-result c = let s = address-some c.args.next (length c.args.a.now) 0 c.index_len-len.result c.placed-at.result c.placed-at.ensures c.if-at-eq0.false in

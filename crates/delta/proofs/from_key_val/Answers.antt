@@ -55,22 +55,14 @@ returns-then-at-eq0 c = let all = let h = address_zero c.args.next (length c.arg
     }
 
 pub put_remote-requires : goal.put_remote-requires
-put_remote-requires c = let all = let s = address-some c.args.next (length c.args.a.now) c.remote_len-remote.result c.leaf_len-len.result c.placed-at.result c.placed-at.ensures c.if-at-eq0.false in
+put_remote-requires c = let s = address-some c.args.next (length c.args.a.now) c.remote_len-remote.result c.leaf_len-len.result c.placed-at.result c.placed-at.ensures c.if-at-eq0.false in
     let l = lengths_true (length c.args.key.now) (length c.args.value.now) (sym c.lengths_ok.ensures ∙ c.if-not-lengths_ok.false) in
-    let q : c.args.next + remote_len c.args.limit (length c.args.value.now) 0 + leaf_len c.args.limit (length c.args.key.now) (length c.args.value.now) ≤ length c.args.a.now = omega (arith, s.1, c.remote_len-remote.ensures, c.leaf_len-len.ensures) in
-    rw c.call_of-m.ensures (l.1, leaf_remote-room (call_of c.args.limit 0 c.args.group c.args.ver.txid c.args.lsn c.args.ckpt) c.args.a.now c.args.next c.args.ver c.args.key.now c.args.value.now (c.args.next + remote_len c.args.limit (length c.args.value.now) 0) refl q) in record {
-      v_len_bound = all.0;
-      v_in_bounds = all.1;
-    }
+    let q : c.args.next + remote_len c.args.limit (length c.args.value.now) 0 + leaf_len c.args.limit (length c.args.key.now) (length c.args.value.now) ≤ length c.args.a.now = omega (arith, s.1, c.remote_len-remote.ensures, c.leaf_len-len.ensures) in record { v_len_bound = l.1; v_in_bounds = rw c.call_of-m.ensures (leaf_remote-room (call_of c.args.limit 0 c.args.group c.args.ver.txid c.args.lsn c.args.ckpt) c.args.a.now c.args.next c.args.ver c.args.key.now c.args.value.now (c.args.next + remote_len c.args.limit (length c.args.value.now) 0) refl q) }
 
 pub put_leaf-requires : goal.put_leaf-requires
-put_leaf-requires c = let all = let s = address-some c.args.next (length c.args.a.now) c.remote_len-remote.result c.leaf_len-len.result c.placed-at.result c.placed-at.ensures c.if-at-eq0.false in
+put_leaf-requires c = let s = address-some c.args.next (length c.args.a.now) c.remote_len-remote.result c.leaf_len-len.result c.placed-at.result c.placed-at.ensures c.if-at-eq0.false in
     let l = lengths_true (length c.args.key.now) (length c.args.value.now) (sym c.lengths_ok.ensures ∙ c.if-not-lengths_ok.false) in
-    let q : c.args.next + remote_len c.args.limit (length c.args.value.now) 0 + leaf_len c.args.limit (length c.args.key.now) (length c.args.value.now) ≤ length c.args.a.now = omega (arith, s.1, c.remote_len-remote.ensures, c.leaf_len-len.ensures) in
-    rw c.call_of-m.ensures ((l.0, l.1, (limit_true c.args.limit (sym c.limit_ok.ensures ∙ c.if-not-limit_ok.false)).1), leaf_frame-room (call_of c.args.limit 0 c.args.group c.args.ver.txid c.args.lsn c.args.ckpt) c.args.a.now c.args.next c.args.ver c.args.key.now c.args.value.now c.placed-at.result (s.0 ∙ ap (λ (k : ℕ). c.args.next + k) c.remote_len-remote.ensures) q _ (rw c.call_of-m.ensures at c.put_remote.ensures)) in record {
-      key_len_bound = all.0;
-      v_in_bounds = all.1;
-    }
+    let q : c.args.next + remote_len c.args.limit (length c.args.value.now) 0 + leaf_len c.args.limit (length c.args.key.now) (length c.args.value.now) ≤ length c.args.a.now = omega (arith, s.1, c.remote_len-remote.ensures, c.leaf_len-len.ensures) in record { key_len_bound = rw c.call_of-m.ensures (l.0, l.1, (limit_true c.args.limit (sym c.limit_ok.ensures ∙ c.if-not-limit_ok.false)).1); v_in_bounds = rw c.call_of-m.ensures (leaf_frame-room (call_of c.args.limit 0 c.args.group c.args.ver.txid c.args.lsn c.args.ckpt) c.args.a.now c.args.next c.args.ver c.args.key.now c.args.value.now c.placed-at.result (s.0 ∙ ap (λ (k : ℕ). c.args.next + k) c.remote_len-remote.ensures) q _ (rw c.call_of-m.ensures at c.put_remote.ensures)) }
 
 pub overflow_add-result : goal.overflow_add-result
 overflow_add-result c = let s = address-some c.args.next (length c.args.a.now) c.remote_len-remote.result c.leaf_len-len.result c.placed-at.result c.placed-at.ensures c.if-at-eq0.false in

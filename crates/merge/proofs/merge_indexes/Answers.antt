@@ -18,10 +18,7 @@ pub slice_bounds-gather-end-2 : goal.slice_bounds-gather-end-2
 slice_bounds-gather-end-2 c = sym (length-take-le _ _ c.requires.next_in_bounds)
 
 pub returns-in_default : goal.returns-in_default
-returns-in_default c = let all = absurd (never_bad _ _ _ c.requires.sound.0 c.requires.sound.1 (sym c.gather.ensures ∙ c.in_default.is)) in record {
-        value = all.0;
-        a_after = all.1;
-    }
+returns-in_default c = absurd (never_bad _ _ _ c.requires.sound.0 c.requires.sound.1 (sym c.gather.ensures ∙ c.in_default.is))
 
 pub slice_bounds-open_at-end : goal.slice_bounds-open_at-end
 slice_bounds-open_at-end c = c.requires.next_in_bounds
@@ -30,10 +27,7 @@ pub slice_bounds-open_at-end-2 : goal.slice_bounds-open_at-end-2
 slice_bounds-open_at-end-2 c = sym (length-take-le _ _ c.requires.next_in_bounds)
 
 pub returns-in_default-open_at : goal.returns-in_default-open_at
-returns-in_default-open_at c = let all = absurd (opens_always _ _ c.requires.sound.0 (sym c.open_at.ensures ∙ c.in_default-open_at.is)) in record {
-        value = all.0;
-        a_after = all.1;
-    }
+returns-in_default-open_at c = absurd (opens_always _ _ c.requires.sound.0 (sym c.open_at.ensures ∙ c.in_default-open_at.is))
 
 pub slice_bounds-open_at-end-3 : goal.slice_bounds-open_at-end-3
 slice_bounds-open_at-end-3 c = c.requires.next_in_bounds
@@ -42,23 +36,20 @@ pub slice_bounds-open_at-end-4 : goal.slice_bounds-open_at-end-4
 slice_bounds-open_at-end-4 c = sym (length-take-le _ _ c.requires.next_in_bounds)
 
 pub returns-in_default-open_at-2 : goal.returns-in_default-open_at-2
-returns-in_default-open_at-2 c = let all = absurd (opens_always _ _ c.requires.sound.1 (sym c.open_at-2.ensures ∙ c.in_default-open_at-2.is)) in record {
-        value = all.0;
-        a_after = all.1;
-    }
+returns-in_default-open_at-2 c = absurd (opens_always _ _ c.requires.sound.1 (sym c.open_at-2.ensures ∙ c.in_default-open_at-2.is))
 
 pub build_indexes-requires : goal.build_indexes-requires
 build_indexes-requires c = record {
-        next_in_bounds = c.requires.next_in_bounds;
-        judged = indexes-judged (take c.args.next c.args.a.now) c.args.left c.args.right c.requires.sound.0 c.requires.sound.1 _ _ (sym c.gather.ensures ∙ c.in-Is.is) c.args.none.now c.requires.none_value c.requires.right_value _ (sym c.open_at.ensures ∙ c.in-Is-open_at.is) _ (sym c.open_at-2.ensures ∙ c.in-Is-open_at-2.is) c.requires.left_value.0 c.requires.left_value.1;
-        from_le_end = (omega arith, omega arith, omega arith);
-        held = indexes-held (take c.args.next c.args.a.now) c.args.left c.args.right c.requires.sound.0 c.requires.sound.1 _ _ (sym c.gather.ensures ∙ c.in-Is.is) c.args.none.now c.requires.none_value c.requires.right_value _ (sym c.open_at.ensures ∙ c.in-Is-open_at.is) _ (sym c.open_at-2.ensures ∙ c.in-Is-open_at-2.is) c.requires.left_value.0 c.requires.left_value.1;
-        count_value = indexes_rise (take c.args.next c.args.a.now) c.args.left c.args.right c.requires.sound.0 c.requires.sound.1 _ _ (sym c.gather.ensures ∙ c.in-Is.is) c.args.none.now c.requires.none_value c.requires.right_value _ (sym c.open_at.ensures ∙ c.in-Is-open_at.is) _ (sym c.open_at-2.ensures ∙ c.in-Is-open_at-2.is) c.requires.left_value.0 c.requires.left_value.1;
-        count_value_2 = indexes-inside (take c.args.next c.args.a.now) c.args.left c.args.right c.requires.sound.0 c.requires.sound.1 _ _ (sym c.gather.ensures ∙ c.in-Is.is) c.args.none.now c.requires.none_value c.requires.right_value _ (sym c.open_at.ensures ∙ c.in-Is-open_at.is) _ (sym c.open_at-2.ensures ∙ c.in-Is-open_at-2.is) c.requires.left_value.0 c.requires.left_value.1;
-    }
+  next_in_bounds = c.requires.next_in_bounds;
+  judged = indexes-judged (take c.args.next c.args.a.now) c.args.left c.args.right c.requires.sound.0 c.requires.sound.1 _ _ (sym c.gather.ensures ∙ c.in-Is.is) c.args.none.now c.requires.none_value c.requires.right_value _ (sym c.open_at.ensures ∙ c.in-Is-open_at.is) _ (sym c.open_at-2.ensures ∙ c.in-Is-open_at-2.is) c.requires.left_value.0 c.requires.left_value.1;
+  from_le_end = (omega arith, omega arith, omega arith);
+  held = indexes-held (take c.args.next c.args.a.now) c.args.left c.args.right c.requires.sound.0 c.requires.sound.1 _ _ (sym c.gather.ensures ∙ c.in-Is.is) c.args.none.now c.requires.none_value c.requires.right_value _ (sym c.open_at.ensures ∙ c.in-Is-open_at.is) _ (sym c.open_at-2.ensures ∙ c.in-Is-open_at-2.is) c.requires.left_value.0 c.requires.left_value.1;
+  count_value = indexes_rise (take c.args.next c.args.a.now) c.args.left c.args.right c.requires.sound.0 c.requires.sound.1 _ _ (sym c.gather.ensures ∙ c.in-Is.is) c.args.none.now c.requires.none_value c.requires.right_value _ (sym c.open_at.ensures ∙ c.in-Is-open_at.is) _ (sym c.open_at-2.ensures ∙ c.in-Is-open_at-2.is) c.requires.left_value.0 c.requires.left_value.1;
+  count_value_2 = indexes-inside (take c.args.next c.args.a.now) c.args.left c.args.right c.requires.sound.0 c.requires.sound.1 _ _ (sym c.gather.ensures ∙ c.in-Is.is) c.args.none.now c.requires.none_value c.requires.right_value _ (sym c.open_at.ensures ∙ c.in-Is-open_at.is) _ (sym c.open_at-2.ensures ∙ c.in-Is-open_at-2.is) c.requires.left_value.0 c.requires.left_value.1;
+}
 
 pub returns : goal.returns
 returns c = record {
-        value = indexes-told (take c.args.next c.args.a.now) c.args.left c.args.right c.requires.sound.0 c.requires.sound.1 _ _ (sym c.gather.ensures ∙ c.in-Is.is) c.args.none.now c.requires.none_value c.requires.right_value _ (sym c.open_at.ensures ∙ c.in-Is-open_at.is) _ (sym c.open_at-2.ensures ∙ c.in-Is-open_at-2.is) c.requires.left_value.0 c.requires.left_value.1 (λ (b : Borders) (es : List Entry). index_answer c.args.a.now c.args.next c.args.m b es) _ c.build_indexes.ensures.value;
-        a_after = indexes-told (take c.args.next c.args.a.now) c.args.left c.args.right c.requires.sound.0 c.requires.sound.1 _ _ (sym c.gather.ensures ∙ c.in-Is.is) c.args.none.now c.requires.none_value c.requires.right_value _ (sym c.open_at.ensures ∙ c.in-Is-open_at.is) _ (sym c.open_at-2.ensures ∙ c.in-Is-open_at-2.is) c.requires.left_value.0 c.requires.left_value.1 (λ (b : Borders) (es : List Entry). index_arena c.args.a.now c.args.next c.args.m b es) _ c.build_indexes.ensures.a_after;
-    }
+  value = indexes-told (take c.args.next c.args.a.now) c.args.left c.args.right c.requires.sound.0 c.requires.sound.1 _ _ (sym c.gather.ensures ∙ c.in-Is.is) c.args.none.now c.requires.none_value c.requires.right_value _ (sym c.open_at.ensures ∙ c.in-Is-open_at.is) _ (sym c.open_at-2.ensures ∙ c.in-Is-open_at-2.is) c.requires.left_value.0 c.requires.left_value.1 (λ (b : Borders) (es : List Entry). index_answer c.args.a.now c.args.next c.args.m b es) _ c.build_indexes.ensures.value;
+  a_after = indexes-told (take c.args.next c.args.a.now) c.args.left c.args.right c.requires.sound.0 c.requires.sound.1 _ _ (sym c.gather.ensures ∙ c.in-Is.is) c.args.none.now c.requires.none_value c.requires.right_value _ (sym c.open_at.ensures ∙ c.in-Is-open_at.is) _ (sym c.open_at-2.ensures ∙ c.in-Is-open_at-2.is) c.requires.left_value.0 c.requires.left_value.1 (λ (b : Borders) (es : List Entry). index_arena c.args.a.now c.args.next c.args.m b es) _ c.build_indexes.ensures.a_after;
+}
