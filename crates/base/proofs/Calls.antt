@@ -92,8 +92,8 @@ module _ (l w : List ℕ) (source : ℕ) (b : Started) (e : b ≡ begun_of l sou
 
 -- ---- boundaries that are whole slices
 
-pub next-ground : (len next : ℕ) (t : Bool) → t ≡ next_ok len next → t ≡ true → next ≤ len
-next-ground len next t e h = (next_true len next (sym e ∙ h)).2
+pub next-footing : (len next : ℕ) (t : Bool) → t ≡ next_ok len next → t ≡ true → next ≤ len
+next-footing len next t e h = (next_true len next (sym e ∙ h)).2
 
 module _ (lo hi w : List ℕ) (x y : Boundary) (p : ℕ) (sibling : PageId) (ex : x ≡ boundary_of lo) (ey : y ≡ boundary_of hi) (ep : p ≡ common lo hi) where
   abbrev boundaries_of_lem : Boundaries
@@ -106,9 +106,9 @@ module _ (lo hi w : List ℕ) (x y : Boundary) (p : ℕ) (sibling : PageId) (ex 
       let k : length hi ≤ max_key = leb-true (length hi) max_key (and_r (leb (length lo) max_key) (leb (length hi) max_key) z) in
       rw (ex, ey)
       (record {
-        inside = record { ground = boundary_within lo w; high = boundary_within hi w };
+        inside = record { footing = boundary_within lo w; high = boundary_within hi w };
         front = ep ∙ sym (ap₂ common (boundary_whole lo w) (boundary_whole hi w));
-        ground = j;
+        footing = j;
         high = k;
       })
 

@@ -12,7 +12,7 @@ use Rattle.build_bounds.specs.Boundaries.{Within, boundary_bytes, boundary_of}
 
 pub length_boundary : (s w : List ℕ) (e : Boundary) → Within s w e → length (boundary_bytes s w e) ≡ e.len
 unfolding Within boundary_bytes
-length_boundary s w e h = length_part (src_of s w e.ground) e.at e.len h
+length_boundary s w e h = length_part (src_of s w e.footing) e.at e.len h
 
 pub boundary_whole : (s w : List ℕ) → boundary_bytes s w (boundary_of s) ≡ s
 unfolding boundary_bytes

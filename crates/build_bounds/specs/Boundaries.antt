@@ -8,15 +8,15 @@ use Rattle.build_bounds.specs.declared.Boundary.{Boundary}
 use Rattle.build_bounds.specs.declared.Boundaries.{Boundaries}
 
 unfoldable pub boundary_bytes : List ℕ → List ℕ → Boundary → List ℕ
-boundary_bytes s w e = part (src_of s w e.ground) e.at e.len
+boundary_bytes s w e = part (src_of s w e.footing) e.at e.len
 
 -- a boundary that lies in its slice
 unfoldable pub Within : List ℕ → List ℕ → Boundary → Type 0
-Within s w e = e.at + e.len ≤ length (src_of s w e.ground)
+Within s w e = e.at + e.len ≤ length (src_of s w e.footing)
 
 -- a boundary that is a whole lent slice
 abbrev pub boundary_of : List ℕ → Boundary
-boundary_of s = record { ground = false; at = 0; len = length s }
+boundary_of s = record { footing = false; at = 0; len = length s }
 
 -- the boundaries as an image takes them; lo and hi are the slices lent for them
 abbrev pub bounds_of : List ℕ → List ℕ → List ℕ → Boundaries → Borders
@@ -24,5 +24,5 @@ bounds_of lo hi w e = record { lo = boundary_bytes lo w e.lo; hi = boundary_byte
 
 -- both lie in their slices
 pub record BothWithin (lo hi w : List ℕ) (e : Boundaries) : Type 0 where
-  pub ground : Within lo w e.lo
+  pub footing : Within lo w e.lo
   pub high : Within hi w e.hi

@@ -11,7 +11,7 @@ use frames::PageId;
 // One boundary's place.
 #[derive(Clone, Copy)]
 pub struct Boundary {
-    pub ground: bool,
+    pub footing: bool,
     pub at: usize,
     pub len: usize,
 }
@@ -30,18 +30,18 @@ pub fn boundary_of(s: &[u8]) -> Boundary
     ensures { result ≡ boundary_of s.now }
 {
     Boundary {
-        ground: false,
+        footing: false,
         at: 0,
         len: s.len(),
     }
 }
 
 // Stores a boundary from at on.
-pub fn put_boundary(a: &mut [u8], ground: usize, s: &[u8], e: Boundary, at: usize)
-    requires ground_le_at { ground ≤ at }
+pub fn put_boundary(a: &mut [u8], footing: usize, s: &[u8], e: Boundary, at: usize)
+    requires footing_le_at { footing ≤ at }
     requires len_in_bounds { at + e.len ≤ length a.old }
-    requires within { Within s.now (take ground a.old) e }
-    ensures { a.new ≡ put a.old at (boundary_bytes s.now (take ground a.old) e) }
+    requires within { Within s.now (take footing a.old) e }
+    ensures { a.new ≡ put a.old at (boundary_bytes s.now (take footing a.old) e) }
 {
-    build_history::copy_part(a, ground, s, e.ground, e.at, e.len, at);
+    build_history::copy_part(a, footing, s, e.footing, e.at, e.len, at);
 }

@@ -20,6 +20,6 @@ use Rattle.build_heads.proofs.head_recs.Reads as recs
 pub old-run_decided : (κs : Lfts 2) (l w : Bor (List ℕ)) (c : Cursor) (x : AtExit run_fn.ended κs) → Decides (λ (r : ℕ). run.Post κs (l, (w, (c, tt))) r x) (λ (r : ℕ). r)
 old-run_decided κs l w c x = decides (λ (r : ℕ). r) (old_run (entries l.now w.now c))
 
-pub head_recs_decided : (κs : Lfts 2) (a : MutBor (List ℕ)) (ground : ℕ) (l : Bor (List ℕ)) (c : Cursor) (at p : ℕ) (m : Call) (first remote r r' : ℕ) (x x' : AtExit recs_fn.ended κs)
-    → recs.Post κs (a, (ground, (l, (c, (at, (p, (m, (first, (remote, tt))))))))) r x → recs.Post κs (a, (ground, (l, (c, (at, (p, (m, (first, (remote, tt))))))))) r' x' → (r ≡ r') × (x.0.now ≡ x'.0.now)
-head_recs_decided κs a ground l c at p m first remote r r' x x' h k = (h.0 ∙ sym k.0, h.1 ∙ sym k.1)
+pub head_recs_decided : (κs : Lfts 2) (a : MutBor (List ℕ)) (footing : ℕ) (l : Bor (List ℕ)) (c : Cursor) (at p : ℕ) (m : Call) (first remote r r' : ℕ) (x x' : AtExit recs_fn.ended κs)
+    → recs.Post κs (a, (footing, (l, (c, (at, (p, (m, (first, (remote, tt))))))))) r x → recs.Post κs (a, (footing, (l, (c, (at, (p, (m, (first, (remote, tt))))))))) r' x' → (r ≡ r') × (x.0.now ≡ x'.0.now)
+head_recs_decided κs a footing l c at p m first remote r r' x x' h k = (h.0 ∙ sym k.0, h.1 ∙ sym k.1)

@@ -202,13 +202,13 @@ run_if_few : (b : Bool) (k n : ℕ) → k ≤ n → run_if b k ≤ n
 run_if_few true k n h = omega arith
 run_if_few false k n h = h
 
-pub record Recording (a₀ l : List ℕ) (ground : ℕ) (whole : List ℕ) (p : ℕ) (m : Call) (end : ℕ) (a : List ℕ) (c : Cursor) (to remote : ℕ) (loc : Loc) : Type 0 where
-  pub writing : Writing a₀ ground whole a to (head_recs m.limit p remote (places_at m.limit m.budget loc (olds (entries l (take ground a₀) c))) (entries l (take ground a₀) c))
-  pub last : to + length (head_recs m.limit p remote (places_at m.limit m.budget loc (olds (entries l (take ground a₀) c))) (entries l (take ground a₀) c)) ≡ end
-  pub long : Long p (entries l (take ground a₀) c)
-  pub few : length (entries l (take ground a₀) c) ≤ max_entries
-  pub ends : end_at m.limit m.budget loc (olds (entries l (take ground a₀) c)) ≤ length a₀
-  pub away : remote + remotes_len m.limit (heads (entries l (take ground a₀) c)) ≤ length a₀
+pub record Recording (a₀ l : List ℕ) (footing : ℕ) (whole : List ℕ) (p : ℕ) (m : Call) (end : ℕ) (a : List ℕ) (c : Cursor) (to remote : ℕ) (loc : Loc) : Type 0 where
+  pub writing : Writing a₀ footing whole a to (head_recs m.limit p remote (places_at m.limit m.budget loc (olds (entries l (take footing a₀) c))) (entries l (take footing a₀) c))
+  pub last : to + length (head_recs m.limit p remote (places_at m.limit m.budget loc (olds (entries l (take footing a₀) c))) (entries l (take footing a₀) c)) ≡ end
+  pub long : Long p (entries l (take footing a₀) c)
+  pub few : length (entries l (take footing a₀) c) ≤ max_entries
+  pub ends : end_at m.limit m.budget loc (olds (entries l (take footing a₀) c)) ≤ length a₀
+  pub away : remote + remotes_len m.limit (heads (entries l (take footing a₀) c)) ≤ length a₀
   pub slots : loc.slot + loc.left ≤ max_entries
 
 nil_recs : (limit p remote : ℕ) (ps : List PageSlot) (es : List Entry) → es ≡ [] → head_recs limit p remote ps es ≡ []
@@ -216,19 +216,19 @@ unfolding head_recs
 nil_recs limit p remote ps es e = rw e refl
 
 -- the locator at the first page
-pub recs_begin : (a l : List ℕ) (ground p : ℕ) (m : Call) (at first remote : ℕ) (c : Cursor) → ground ≤ at
-    → Long p (entries l (take ground a) c)
-    → length (entries l (take ground a) c) ≤ max_entries
-    → history_end m.limit first (cuts_of m (entries l (take ground a) c)) (olds (entries l (take ground a) c)) ≤ length a
-    → remote + remotes_len m.limit (heads (entries l (take ground a) c)) ≤ length a
-    → at + length (head_recs m.limit p remote (places m.limit first (cuts_of m (entries l (take ground a) c)) (olds (entries l (take ground a) c))) (entries l (take ground a) c)) ≤ length a
-    → Recording a l ground (put a at (head_recs m.limit p remote (places m.limit first (cuts_of m (entries l (take ground a) c)) (olds (entries l (take ground a) c))) (entries l (take ground a) c))) p m
-    (at + length (head_recs m.limit p remote (places m.limit first (cuts_of m (entries l (take ground a) c)) (olds (entries l (take ground a) c))) (entries l (take ground a) c)))
+pub recs_begin : (a l : List ℕ) (footing p : ℕ) (m : Call) (at first remote : ℕ) (c : Cursor) → footing ≤ at
+    → Long p (entries l (take footing a) c)
+    → length (entries l (take footing a) c) ≤ max_entries
+    → history_end m.limit first (cuts_of m (entries l (take footing a) c)) (olds (entries l (take footing a) c)) ≤ length a
+    → remote + remotes_len m.limit (heads (entries l (take footing a) c)) ≤ length a
+    → at + length (head_recs m.limit p remote (places m.limit first (cuts_of m (entries l (take footing a) c)) (olds (entries l (take footing a) c))) (entries l (take footing a) c)) ≤ length a
+    → Recording a l footing (put a at (head_recs m.limit p remote (places m.limit first (cuts_of m (entries l (take footing a) c)) (olds (entries l (take footing a) c))) (entries l (take footing a) c))) p m
+    (at + length (head_recs m.limit p remote (places m.limit first (cuts_of m (entries l (take footing a) c)) (olds (entries l (take footing a) c))) (entries l (take footing a) c)))
     a c at remote (record { page = 0; slot = 0; left = 0; next = first })
-recs_begin a l ground p m at first remote c o lo fe en aw ro =
-    let os = olds (entries l (take ground a) c) in
+recs_begin a l footing p m at first remote c o lo fe en aw ro =
+    let os = olds (entries l (take footing a) c) in
     record {
-      writing = rw (first-places m.limit m.budget first os) (begin a ground at _ o ro);
+      writing = rw (first-places m.limit m.budget first os) (begin a footing at _ o ro);
       last = rw (first-places m.limit m.budget first os) refl;
       long = lo;
       few = fe;
@@ -245,43 +245,43 @@ kept_of : (l w : List ℕ) (i : EntryAt) → (entry_of l w i).kept ≡ i.kept.0
 unfolding entry_of
 kept_of l w i = refl
 
-module _ (a₀ l : List ℕ) (ground : ℕ) (whole : List ℕ) (p : ℕ) (m : Call) (end : ℕ) (a : List ℕ) (c : Cursor) (to remote : ℕ) (loc : Loc) (h : Recording a₀ l ground whole p m end a c to remote loc) where
-  pub recs-end : entries l (take ground a₀) c ≡ [] → (to ≡ end) × (a ≡ whole)
+module _ (a₀ l : List ℕ) (footing : ℕ) (whole : List ℕ) (p : ℕ) (m : Call) (end : ℕ) (a : List ℕ) (c : Cursor) (to remote : ℕ) (loc : Loc) (h : Recording a₀ l footing whole p m end a c to remote loc) where
+  pub recs-end : entries l (take footing a₀) c ≡ [] → (to ≡ end) × (a ≡ whole)
   recs-end e =
-      let n = nil_recs m.limit p remote (places_at m.limit m.budget loc (olds (entries l (take ground a₀) c))) (entries l (take ground a₀) c) e in
-      (omega (arith, h.last, ap length n), finished a₀ ground whole a to _ h.writing n)
+      let n = nil_recs m.limit p remote (places_at m.limit m.budget loc (olds (entries l (take footing a₀) c))) (entries l (take footing a₀) c) e in
+      (omega (arith, h.last, ap length n), finished a₀ footing whole a to _ h.writing n)
 
-  pub settle_asks : length a₀ ≤ 18446744073709551615 → Sane m → Sane m × (end_at m.limit m.budget loc (only true (entries l (take ground a) c)) ≤ 18446744073709551615)
+  pub settle_asks : length a₀ ≤ 18446744073709551615 → Sane m → Sane m × (end_at m.limit m.budget loc (only true (entries l (take footing a) c)) ≤ 18446744073709551615)
   settle_asks b s = rw h.writing.same (s, omega (arith, h.ends))
 
-  module _ (i : EntryAt) (d : Cursor) (f : Found l (take ground a₀) c i d) where
+  module _ (i : EntryAt) (d : Cursor) (f : Found l (take footing a₀) c i d) where
     abbrev e : Entry
-    e = entry_of l (take ground a₀) i
+    e = entry_of l (take footing a₀) i
 
     abbrev es : List Entry
-    es = entries l (take ground a₀) d
+    es = entries l (take footing a₀) d
 
-    longs : Long p (entry_of l (take ground a₀) i ∷ entries l (take ground a₀) d)
+    longs : Long p (entry_of l (take footing a₀) i ∷ entries l (take footing a₀) d)
     longs = subst (λ (xs : List Entry). Long p xs) f.list h.long
 
-    remotes_are : remotes_len m.limit (heads (entries l (take ground a₀) c)) ≡ remote_if i.old m.limit i.vlen i.kept.0 + remotes_len m.limit (heads es)
+    remotes_are : remotes_len m.limit (heads (entries l (take footing a₀) c)) ≡ remote_if i.old m.limit i.vlen i.kept.0 + remotes_len m.limit (heads es)
     unfolding entry_of
     remotes_are = ap (λ (xs : List Entry). remotes_len m.limit (heads xs)) f.list ∙ remotes_step m.limit e es ∙ ap (λ (n : ℕ). remote_if i.old m.limit n i.kept.0 + remotes_len m.limit (heads es)) f.vlen
 
     pub beyond_fits : remote + remote_if i.old m.limit i.vlen i.kept.0 ≤ length a₀
     beyond_fits = omega (arith, remotes_are, h.away)
 
-    module _ (k : ℕ) (ek : k ≡ run_if i.old (old_run (entries l (take ground a) d))) where
+    module _ (k : ℕ) (ek : k ≡ run_if i.old (old_run (entries l (take footing a) d))) where
       k_is : k ≡ run_if i.old (old_run es)
       k_is = rw h.writing.same at ek
 
       pub k_few : k ≤ max_entries
       k_few = omega (arith, k_is, run_if_few i.old (old_run es) (length es) (run-few es), ap length f.list, h.few)
 
-      module _ (b : Bool) (eb : b ≡ named_by i.old k) (q : Loc) (st : Settled m.limit m.budget (only true (entries l (take ground a) c)) b loc q) where
+      module _ (b : Bool) (eb : b ≡ named_by i.old k) (q : Loc) (st : Settled m.limit m.budget (only true (entries l (take footing a) c)) b loc q) where
         s : Settled m.limit m.budget (olds (e ∷ es)) (named_by i.old k) loc q
         s =
-            let s₁ : Settled m.limit m.budget (olds (entries l (take ground a₀) c)) b loc q = rw h.writing.same at st in
+            let s₁ : Settled m.limit m.budget (olds (entries l (take footing a₀) c)) b loc q = rw h.writing.same at st in
             let s₂ : Settled m.limit m.budget (olds (e ∷ es)) b loc q = rw f.list at s₁ in
             rw eb at s₂
 
@@ -289,34 +289,34 @@ module _ (a₀ l : List ℕ) (ground : ℕ) (whole : List ℕ) (p : ℕ) (m : Ca
         q_slots = st.slots h.slots
 
         pub q_left : i.old ≡ true → 1 ≤ q.left
-        q_left = left-on m.limit m.budget e es loc q i.old (old_of l (take ground a₀) i) k s
+        q_left = left-on m.limit m.budget e es loc q i.old (old_of l (take footing a₀) i) k s
 
         abbrev ref : HistRef
         ref = hist_of q.page q.slot k
 
-        rest-is : head_recs m.limit p remote (places_at m.limit m.budget loc (olds (entries l (take ground a₀) c))) (entries l (take ground a₀) c)
+        rest-is : head_recs m.limit p remote (places_at m.limit m.budget loc (olds (entries l (take footing a₀) c))) (entries l (take footing a₀) c)
             ≡ rec_if m.limit p remote ref e ++ head_recs m.limit p (remote + remote_if i.old m.limit i.vlen i.kept.0) (places_at m.limit m.budget (onward_of i.old q) (olds es)) es
         rest-is =
             ap (λ (xs : List Entry). head_recs m.limit p remote (places_at m.limit m.budget loc (olds xs)) xs) f.list
-            ∙ recs_open m.limit m.budget e es loc q p remote i.old (old_of l (take ground a₀) i) i.vlen i.kept.0 f.vlen (kept_of l (take ground a₀) i) k k_is s
+            ∙ recs_open m.limit m.budget e es loc q p remote i.old (old_of l (take footing a₀) i) i.vlen i.kept.0 f.vlen (kept_of l (take footing a₀) i) k k_is s
 
         abbrev rest_then : List ℕ
         rest_then = head_recs m.limit p (remote + remote_if i.old m.limit i.vlen i.kept.0) (places_at m.limit m.budget (onward_of i.old q) (olds es)) es
 
-        ends_are : end_at m.limit m.budget loc (olds (entries l (take ground a₀) c)) ≡ end_at m.limit m.budget (onward_of i.old q) (olds es)
-        ends_are = ap (λ (xs : List Entry). end_at m.limit m.budget loc (olds xs)) f.list ∙ ends_on m.limit m.budget e es loc q i.old (old_of l (take ground a₀) i) k s
+        ends_are : end_at m.limit m.budget loc (olds (entries l (take footing a₀) c)) ≡ end_at m.limit m.budget (onward_of i.old q) (olds es)
+        ends_are = ap (λ (xs : List Entry). end_at m.limit m.budget loc (olds xs)) f.list ∙ ends_on m.limit m.budget e es loc q i.old (old_of l (take footing a₀) i) k s
 
-        pub head_asks : (ground ≤ to) × (Placed l (take ground a) i × ((p ≤ i.key.plen + i.key.klen) × (to + length (rec_if m.limit p remote ref (entry_of l (take ground a) i)) ≤ length a)))
+        pub head_asks : (footing ≤ to) × (Placed l (take footing a) i × ((p ≤ i.key.plen + i.key.klen) × (to + length (rec_if m.limit p remote ref (entry_of l (take footing a) i)) ≤ length a)))
         head_asks =
             rw h.writing.same
-            (h.writing.over, (f.placed, (let z = longs.0 in omega (arith, z, f.klen), front a₀ ground whole a to _ (rec_if m.limit p remote ref e) _ h.writing rest-is)))
+            (h.writing.over, (f.placed, (let z = longs.0 in omega (arith, z, f.klen), front a₀ footing whole a to _ (rec_if m.limit p remote ref e) _ h.writing rest-is)))
 
         pub recs_turn : (n : ℕ) → n ≡ remote_if i.old m.limit i.vlen i.kept.0 → (loc₁ : Loc) → loc₁ ≡ onward_of i.old q
-            → (a₁ : List ℕ) (to₁ : ℕ) → to₁ ≡ to + length (rec_if m.limit p remote ref (entry_of l (take ground a) i)) → a₁ ≡ put a to (rec_if m.limit p remote ref (entry_of l (take ground a) i))
-            → Recording a₀ l ground whole p m end a₁ d to₁ (remote + n) loc₁
+            → (a₁ : List ℕ) (to₁ : ℕ) → to₁ ≡ to + length (rec_if m.limit p remote ref (entry_of l (take footing a) i)) → a₁ ≡ put a to (rec_if m.limit p remote ref (entry_of l (take footing a) i))
+            → Recording a₀ l footing whole p m end a₁ d to₁ (remote + n) loc₁
         recs_turn n en loc₁ el a₁ to₁ et ea =
             let t₁ : to₁ ≡ to + length (rec_if m.limit p remote ref e) = rw h.writing.same at et in
-            let w = wrote a₀ ground whole a to _ (rec_if m.limit p remote ref e) _ a₁ to₁ h.writing rest-is (rw h.writing.same at ea) t₁ in
+            let w = wrote a₀ footing whole a to _ (rec_if m.limit p remote ref e) _ a₁ to₁ h.writing rest-is (rw h.writing.same at ea) t₁ in
             rw (en, el)
             (record {
               writing = w;

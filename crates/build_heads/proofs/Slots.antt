@@ -64,11 +64,11 @@ slots_step limit p off e es = go e.old (key_len p (length e.key) + size_of (any 
 module _ (l w : List ℕ) (i : EntryAt) (q : Placed l w i) (es : List Entry) (limit p : ℕ) where
   pub key-is : length (entry_of l w i).key ≡ i.key.plen + i.key.klen
   unfolding entry_of
-  key-is = length-key (src_of l w i.ground) i.key q.pre q.rest
+  key-is = length-key (src_of l w i.footing) i.key q.pre q.rest
 
   pub val_is : length (entry_of l w i).val ≡ i.vlen
   unfolding entry_of
-  val_is = length_part (src_of l w i.ground) i.vat i.vlen q.val
+  val_is = length_part (src_of l w i.footing) i.vat i.vlen q.val
 
   old-is : (entry_of l w i).old ≡ i.old
   unfolding entry_of

@@ -26,34 +26,34 @@ pub struct Loc {
 }
 
 // The key of an entry without its first p bytes, from at on; the address past it.
-pub fn put_rest(a: &mut [u8], ground: usize, list: &[u8], i: EntryAt, at: usize, p: usize) -> usize
-    requires ground_le_at { ground ≤ at }
-    requires placed { Placed list.now (take ground a.old) i }
+pub fn put_rest(a: &mut [u8], footing: usize, list: &[u8], i: EntryAt, at: usize, p: usize) -> usize
+    requires footing_le_at { footing ≤ at }
+    requires placed { Placed list.now (take footing a.old) i }
     requires p_bound { p ≤ i.key.plen + i.key.klen }
-    requires i_in_bounds { at + length (drop p (entry_of list.now (take ground a.old) i).key) ≤ length a.old }
-    ensures value { result ≡ at + length (drop p (entry_of list.now (take ground a.old) i).key) }
-    ensures a_after { a.new ≡ put a.old at (drop p (entry_of list.now (take ground a.old) i).key) }
+    requires i_in_bounds { at + length (drop p (entry_of list.now (take footing a.old) i).key) ≤ length a.old }
+    ensures value { result ≡ at + length (drop p (entry_of list.now (take footing a.old) i).key) }
+    ensures a_after { a.new ≡ put a.old at (drop p (entry_of list.now (take footing a.old) i).key) }
 {
     let k = i.key;
     let n = k.plen;
     if n < p {
         let skip = p - n;
         let j = k.klen - skip;
-        build_history::copy_part(a, ground, list, i.ground, k.kat + skip, j, at);
+        build_history::copy_part(a, footing, list, i.footing, k.kat + skip, j, at);
         return at + j;
     }
     let f = n - p;
-    build_history::copy_part(a, ground, list, i.ground, k.pat + p, f, at);
+    build_history::copy_part(a, footing, list, i.footing, k.pat + p, f, at);
     let v = at + f;
     let r = k.klen;
-    build_history::copy_part(a, ground, list, i.ground, k.kat, r, v);
+    build_history::copy_part(a, footing, list, i.footing, k.kat, r, v);
     v + r
 }
 
 // A head's record.
 pub fn head_rec(
     a: &mut [u8],
-    ground: usize,
+    footing: usize,
     list: &[u8],
     i: EntryAt,
     at: usize,
@@ -62,27 +62,27 @@ pub fn head_rec(
     remote: usize,
     h: HistRef,
 )
-    requires ground_le_at { ground ≤ at }
-    requires placed { Placed list.now (take ground a.old) i }
+    requires footing_le_at { footing ≤ at }
+    requires placed { Placed list.now (take footing a.old) i }
     requires p_bound { p ≤ i.key.plen + i.key.klen }
-    requires i_in_bounds { at + length (head_rec limit p remote h (entry_of list.now (take ground a.old) i)) ≤ length a.old }
-    ensures { a.new ≡ put a.old at (head_rec limit p remote h (entry_of list.now (take ground a.old) i)) }
+    requires i_in_bounds { at + length (head_rec limit p remote h (entry_of list.now (take footing a.old) i)) ≤ length a.old }
+    ensures { a.new ≡ put a.old at (head_rec limit p remote h (entry_of list.now (take footing a.old) i)) }
 {
     let v = i.ver;
     let n = i.key.plen + i.key.klen - p;
     let k = values::write_leaf_front(a, at, v, n);
-    let s = put_rest(a, ground, list, i, at + k, p);
-    build_history::put_val(a, ground, list, i, s, h, limit, remote);
+    let s = put_rest(a, footing, list, i, at + k, p);
+    build_history::put_val(a, footing, list, i, s, h, limit, remote);
 }
 
 // How many old versions stand in front.
-pub fn old_run(list: &[u8], ground: &[u8], from: Cursor) -> usize
-    ensures { result ≡ old_run (entries list.now ground.now from) }
+pub fn old_run(list: &[u8], footing: &[u8], from: Cursor) -> usize
+    ensures { result ≡ old_run (entries list.now footing.now from) }
 {
     let mut c = from;
     let mut n: usize = 0;
     loop {
-        let st = build_sources::next(list, ground, c);
+        let st = build_sources::next(list, footing, c);
         match st {
             EntryRead::Got(i, d) => {
                 let old = i.old;
@@ -103,10 +103,10 @@ pub fn old_run(list: &[u8], ground: &[u8], from: Cursor) -> usize
 }
 
 // Whether an old version stands in front.
-fn has_old(list: &[u8], ground: &[u8], c: Cursor) -> bool
-    ensures { result ≡ any (old_run (entries list.now ground.now c)) }
+fn has_old(list: &[u8], footing: &[u8], c: Cursor) -> bool
+    ensures { result ≡ any (old_run (entries list.now footing.now c)) }
 {
-    let st = build_sources::next(list, ground, c);
+    let st = build_sources::next(list, footing, c);
     match st {
         EntryRead::Got(i, _) => i.old,
         EntryRead::End => false,
@@ -137,22 +137,22 @@ fn put_slot(a: &mut [u8], at: usize, off: usize, old: bool) -> usize
 }
 
 // How far behind an entry's record the next head's stands; nothing for an old version.
-fn slot_step(list: &[u8], ground: &[u8], i: EntryAt, d: Cursor, p: usize, limit: usize) -> usize
-    requires placed { Placed list.now ground.now i }
+fn slot_step(list: &[u8], footing: &[u8], i: EntryAt, d: Cursor, p: usize, limit: usize) -> usize
+    requires placed { Placed list.now footing.now i }
     requires p_bound { p ≤ i.key.plen + i.key.klen }
-    ensures { result ≡ step_len limit p (entry_of list.now ground.now i) (entries list.now ground.now d) }
+    ensures { result ≡ step_len limit p (entry_of list.now footing.now i) (entries list.now footing.now d) }
 {
     if i.old {
         return 0;
     }
-    let h = has_old(list, ground, d);
+    let h = has_old(list, footing, d);
     key_len(p, i.key.plen + i.key.klen) + Val::calc_size(h, limit, i.vlen as u32)
 }
 
 // The slots of all heads; first is the first record's offset.
 pub fn head_slots(
     a: &mut [u8],
-    ground: usize,
+    footing: usize,
     list: &[u8],
     from: Cursor,
     at: usize,
@@ -160,20 +160,20 @@ pub fn head_slots(
     p: usize,
     limit: usize,
 )
-    requires ground_le_at { ground ≤ at }
-    requires long { Long p (entries list.now (take ground a.old) from) }
-    requires from_in_bounds { at + length (head_slots limit p first (entries list.now (take ground a.old) from)) ≤ length a.old }
-    requires from_bound { first + steps limit p (entries list.now (take ground a.old) from) ≤ 4294967295 }
-    ensures { a.new ≡ put a.old at (head_slots limit p first (entries list.now (take ground a.old) from)) }
+    requires footing_le_at { footing ≤ at }
+    requires long { Long p (entries list.now (take footing a.old) from) }
+    requires from_in_bounds { at + length (head_slots limit p first (entries list.now (take footing a.old) from)) ≤ length a.old }
+    requires from_bound { first + steps limit p (entries list.now (take footing a.old) from) ≤ 4294967295 }
+    ensures { a.new ≡ put a.old at (head_slots limit p first (entries list.now (take footing a.old) from)) }
 {
     let mut c = from;
     let mut to = at;
     let mut off = first;
     loop {
-        let st = build_sources::next(list, &a[..ground], c);
+        let st = build_sources::next(list, &a[..footing], c);
         match st {
             EntryRead::Got(i, d) => {
-                let n = slot_step(list, &a[..ground], i, d, p, limit);
+                let n = slot_step(list, &a[..footing], i, d, p, limit);
                 let old = i.old;
                 to = put_slot(a, to, off, old);
                 off += n;
@@ -192,10 +192,10 @@ pub fn head_slots(
 // ---- records
 
 // The locator with a place at hand, where one is to be named. It looks ahead once a page.
-fn settle(list: &[u8], ground: &[u8], c: Cursor, p: Loc, named: bool, m: Call) -> Loc
+fn settle(list: &[u8], footing: &[u8], c: Cursor, p: Loc, named: bool, m: Call) -> Loc
     requires sane { Sane m }
-    requires c_bound { end_at m.limit m.budget p (only true (entries list.now ground.now c)) ≤ 18446744073709551615 }
-    ensures { Settled m.limit m.budget (only true (entries list.now ground.now c)) named p result }
+    requires c_bound { end_at m.limit m.budget p (only true (entries list.now footing.now c)) ≤ 18446744073709551615 }
+    ensures { Settled m.limit m.budget (only true (entries list.now footing.now c)) named p result }
 {
     if !named {
         return p;
@@ -204,7 +204,7 @@ fn settle(list: &[u8], ground: &[u8], c: Cursor, p: Loc, named: bool, m: Call) -
     if left > 0 {
         return p;
     }
-    let s = build_history::look_ahead(list, ground, c, m.limit, m.budget);
+    let s = build_history::look_ahead(list, footing, c, m.limit, m.budget);
     let r = s.run;
     let n = r.count;
     if n == 0 {
@@ -239,13 +239,13 @@ fn onward(q: Loc, old: bool) -> Loc
 }
 
 // How many old versions an entry names: those behind a head.
-fn run_of(list: &[u8], ground: &[u8], d: Cursor, old: bool) -> usize
-    ensures { result ≡ run_if old (old_run (entries list.now ground.now d)) }
+fn run_of(list: &[u8], footing: &[u8], d: Cursor, old: bool) -> usize
+    ensures { result ≡ run_if old (old_run (entries list.now footing.now d)) }
 {
     if old {
         return 0;
     }
-    old_run(list, ground, d)
+    old_run(list, footing, d)
 }
 
 // Whether an entry needs a place: an old version, or a head with old versions behind it.
@@ -277,7 +277,7 @@ fn remote_step(i: EntryAt, limit: usize) -> usize
 // A head's record; none for an old version. The address past it.
 fn put_head(
     a: &mut [u8],
-    ground: usize,
+    footing: usize,
     list: &[u8],
     i: EntryAt,
     at: usize,
@@ -286,12 +286,12 @@ fn put_head(
     remote: usize,
     h: HistRef,
 ) -> usize
-    requires ground_le_at { ground ≤ at }
-    requires placed { Placed list.now (take ground a.old) i }
+    requires footing_le_at { footing ≤ at }
+    requires placed { Placed list.now (take footing a.old) i }
     requires p_bound { p ≤ i.key.plen + i.key.klen }
-    requires i_in_bounds { at + length (rec_if limit p remote h (entry_of list.now (take ground a.old) i)) ≤ length a.old }
-    ensures value { result ≡ at + length (rec_if limit p remote h (entry_of list.now (take ground a.old) i)) }
-    ensures a_after { a.new ≡ put a.old at (rec_if limit p remote h (entry_of list.now (take ground a.old) i)) }
+    requires i_in_bounds { at + length (rec_if limit p remote h (entry_of list.now (take footing a.old) i)) ≤ length a.old }
+    ensures value { result ≡ at + length (rec_if limit p remote h (entry_of list.now (take footing a.old) i)) }
+    ensures a_after { a.new ≡ put a.old at (rec_if limit p remote h (entry_of list.now (take footing a.old) i)) }
 {
     let old = i.old;
     if old {
@@ -299,14 +299,14 @@ fn put_head(
     }
     let k = key_len(p, i.key.plen + i.key.klen);
     let n = k + Val::calc_size(h.count > 0, limit, i.vlen as u32);
-    head_rec(a, ground, list, i, at, p, limit, remote, h);
+    head_rec(a, footing, list, i, at, p, limit, remote, h);
     at + n
 }
 
 // The records of all heads; the address past them. History stands from first on; the first new remote frame of a head stands at remote.
 pub fn head_recs(
     a: &mut [u8],
-    ground: usize,
+    footing: usize,
     list: &[u8],
     from: Cursor,
     at: usize,
@@ -315,15 +315,15 @@ pub fn head_recs(
     first: usize,
     remote: usize,
 ) -> usize
-    requires ground_le_at { ground ≤ at }
+    requires footing_le_at { footing ≤ at }
     requires sane { Sane m }
-    requires long { Long p (entries list.now (take ground a.old) from) }
-    requires from_len_bound { length (entries list.now (take ground a.old) from) ≤ max_entries }
-    requires from_in_bounds { history_end m.limit first (cuts_of m (entries list.now (take ground a.old) from)) (olds (entries list.now (take ground a.old) from)) ≤ length a.old }
-    requires from_in_bounds_2 { remote + remotes_len m.limit (heads (entries list.now (take ground a.old) from)) ≤ length a.old }
-    requires from_in_bounds_3 { at + length (head_recs m.limit p remote (places m.limit first (cuts_of m (entries list.now (take ground a.old) from)) (olds (entries list.now (take ground a.old) from))) (entries list.now (take ground a.old) from)) ≤ length a.old }
-    ensures value { result ≡ at + length (head_recs m.limit p remote (places m.limit first (cuts_of m (entries list.now (take ground a.old) from)) (olds (entries list.now (take ground a.old) from))) (entries list.now (take ground a.old) from)) }
-    ensures a_after { a.new ≡ put a.old at (head_recs m.limit p remote (places m.limit first (cuts_of m (entries list.now (take ground a.old) from)) (olds (entries list.now (take ground a.old) from))) (entries list.now (take ground a.old) from)) }
+    requires long { Long p (entries list.now (take footing a.old) from) }
+    requires from_len_bound { length (entries list.now (take footing a.old) from) ≤ max_entries }
+    requires from_in_bounds { history_end m.limit first (cuts_of m (entries list.now (take footing a.old) from)) (olds (entries list.now (take footing a.old) from)) ≤ length a.old }
+    requires from_in_bounds_2 { remote + remotes_len m.limit (heads (entries list.now (take footing a.old) from)) ≤ length a.old }
+    requires from_in_bounds_3 { at + length (head_recs m.limit p remote (places m.limit first (cuts_of m (entries list.now (take footing a.old) from)) (olds (entries list.now (take footing a.old) from))) (entries list.now (take footing a.old) from)) ≤ length a.old }
+    ensures value { result ≡ at + length (head_recs m.limit p remote (places m.limit first (cuts_of m (entries list.now (take footing a.old) from)) (olds (entries list.now (take footing a.old) from))) (entries list.now (take footing a.old) from)) }
+    ensures a_after { a.new ≡ put a.old at (head_recs m.limit p remote (places m.limit first (cuts_of m (entries list.now (take footing a.old) from)) (olds (entries list.now (take footing a.old) from))) (entries list.now (take footing a.old) from)) }
 {
     let mut c = from;
     let mut to = at;
@@ -335,20 +335,20 @@ pub fn head_recs(
         next: first,
     };
     loop {
-        let st = build_sources::next(list, &a[..ground], c);
+        let st = build_sources::next(list, &a[..footing], c);
         match st {
             EntryRead::Got(i, d) => {
                 let old = i.old;
-                let k = run_of(list, &a[..ground], d, old);
+                let k = run_of(list, &a[..footing], d, old);
                 let named = names(old, k);
-                let q = settle(list, &a[..ground], c, loc, named, m);
+                let q = settle(list, &a[..footing], c, loc, named, m);
                 let h = HistRef {
                     page: Addr(q.page as u64),
                     slot: q.slot as u16,
                     count: k as u32,
                 };
                 let beyond = next + remote_step(i, m.limit);
-                to = put_head(a, ground, list, i, to, p, m.limit, next, h);
+                to = put_head(a, footing, list, i, to, p, m.limit, next, h);
                 next = beyond;
                 loc = onward(q, old);
                 c = d;

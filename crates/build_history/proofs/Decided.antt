@@ -27,6 +27,6 @@ look_ahead_decided κs l w c limit budget x r r' h k =
     let e : r.run ≡ r'.run = h.0 ∙ sym k.0 in
     (e, h.1.list ∙ ap (λ (q : PageAhead). drop q.count (only true (entries l.now w.now c))) e ∙ sym k.1.list)
 
-pub save_decided : (κs : Lfts 2) (a : MutBor (List ℕ)) (ground : ℕ) (l : Bor (List ℕ)) (c : Cursor) (at : ℕ) (m : Call) (r r' : ℕ) (x x' : AtExit save_fn.ended κs)
-    → save.Post κs (a, (ground, (l, (c, (at, (m, tt)))))) r x → save.Post κs (a, (ground, (l, (c, (at, (m, tt)))))) r' x' → (r ≡ r') × (x.0.now ≡ x'.0.now)
-save_decided κs a ground l c at m r r' x x' h k = (h.0 ∙ sym k.0, h.1 ∙ sym k.1)
+pub save_decided : (κs : Lfts 2) (a : MutBor (List ℕ)) (footing : ℕ) (l : Bor (List ℕ)) (c : Cursor) (at : ℕ) (m : Call) (r r' : ℕ) (x x' : AtExit save_fn.ended κs)
+    → save.Post κs (a, (footing, (l, (c, (at, (m, tt)))))) r x → save.Post κs (a, (footing, (l, (c, (at, (m, tt)))))) r' x' → (r ≡ r') × (x.0.now ≡ x'.0.now)
+save_decided κs a footing l c at m r r' x x' h k = (h.0 ∙ sym k.0, h.1 ∙ sym k.1)

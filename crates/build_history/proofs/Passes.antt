@@ -94,38 +94,38 @@ module _ (l w : List ℕ) (b : Bool) (c : Cursor) (i : EntryAt) (d : Cursor) (g 
   old-long limit remote = length-old limit remote (entry_of l w i) ∙ ap (λ (v : ℕ). 12 + v) (size_is limit)
 
   -- slots
-  module _ (a₀ : List ℕ) (ground : ℕ) (whole a : List ℕ) (to limit off : ℕ) (h : Writing a₀ ground whole a to (old_slots limit off (take k (only b (entries l w c))))) where
+  module _ (a₀ : List ℕ) (footing : ℕ) (whole a : List ℕ) (to limit off : ℕ) (h : Writing a₀ footing whole a to (old_slots limit off (take k (only b (entries l w c))))) where
     pub slot-room : to + 4 ≤ length a
-    slot-room = room-le a₀ ground whole a to _ 4 off _ h (slots-found limit off)
+    slot-room = room-le a₀ footing whole a to _ 4 off _ h (slots-found limit off)
 
     pub slot_turn : (a' : List ℕ) (x : ℕ) → a' ≡ put a to (le 4 off) → x ≡ size_of false limit i.vlen
-        → Writing a₀ ground whole a' (to + 4) (old_slots limit (off + (12 + x)) (take (k - 1) (only b (entries l w d))))
-    slot_turn a' x e ex = rw ex (wrote_le a₀ ground whole a to _ 4 off _ h (slots-found limit off) a' (to + 4) e refl)
+        → Writing a₀ footing whole a' (to + 4) (old_slots limit (off + (12 + x)) (take (k - 1) (only b (entries l w d))))
+    slot_turn a' x e ex = rw ex (wrote_le a₀ footing whole a to _ 4 off _ h (slots-found limit off) a' (to + 4) e refl)
 
 -- records: the ground is still that of a₀
-module _ (l a₀ : List ℕ) (ground : ℕ) (b : Bool) (c : Cursor) (i : EntryAt) (d : Cursor) (g : Chosen l (take ground a₀) b c i d) (k : ℕ) (p : 0 < k) (whole a : List ℕ) (to : ℕ) where
-  module _ (limit remote : ℕ) (h : Writing a₀ ground whole a to (old_recs limit remote (take k (only b (entries l (take ground a₀) c))))) where
-    pub recs_asks : (ground ≤ to) × (Placed l (take ground a) i × (to + length (old_rec limit remote (entry_of l (take ground a) i)) ≤ length a))
-    recs_asks = rw h.same (h.over, (g.placed, front a₀ ground whole a to _ (old_rec limit remote (entry_of l (take ground a₀) i)) _ h (recs-found l (take ground a₀) b c i d g k p limit remote)))
+module _ (l a₀ : List ℕ) (footing : ℕ) (b : Bool) (c : Cursor) (i : EntryAt) (d : Cursor) (g : Chosen l (take footing a₀) b c i d) (k : ℕ) (p : 0 < k) (whole a : List ℕ) (to : ℕ) where
+  module _ (limit remote : ℕ) (h : Writing a₀ footing whole a to (old_recs limit remote (take k (only b (entries l (take footing a₀) c))))) where
+    pub recs_asks : (footing ≤ to) × (Placed l (take footing a) i × (to + length (old_rec limit remote (entry_of l (take footing a) i)) ≤ length a))
+    recs_asks = rw h.same (h.over, (g.placed, front a₀ footing whole a to _ (old_rec limit remote (entry_of l (take footing a₀) i)) _ h (recs-found l (take footing a₀) b c i d g k p limit remote)))
 
     pub recs-room : to + (12 + size_of false limit i.vlen) ≤ length a
-    recs-room = rw (old-long l (take ground a₀) b c i d g k p limit remote) at (front a₀ ground whole a to _ (old_rec limit remote (entry_of l (take ground a₀) i)) _ h (recs-found l (take ground a₀) b c i d g k p limit remote))
+    recs-room = rw (old-long l (take footing a₀) b c i d g k p limit remote) at (front a₀ footing whole a to _ (old_rec limit remote (entry_of l (take footing a₀) i)) _ h (recs-found l (take footing a₀) b c i d g k p limit remote))
 
-    pub recs_turn : (a' : List ℕ) (x y : ℕ) → a' ≡ put a to (old_rec limit remote (entry_of l (take ground a) i)) → x ≡ size_of false limit i.vlen → y ≡ remote_len limit i.vlen i.kept.0
-        → Writing a₀ ground whole a' (to + (12 + x)) (old_recs limit (remote + y) (take (k - 1) (only b (entries l (take ground a₀) d))))
+    pub recs_turn : (a' : List ℕ) (x y : ℕ) → a' ≡ put a to (old_rec limit remote (entry_of l (take footing a) i)) → x ≡ size_of false limit i.vlen → y ≡ remote_len limit i.vlen i.kept.0
+        → Writing a₀ footing whole a' (to + (12 + x)) (old_recs limit (remote + y) (take (k - 1) (only b (entries l (take footing a₀) d))))
     recs_turn a' x y e ex ey =
         rw (ex, ey)
-        (wrote a₀ ground whole a to _ (old_rec limit remote (entry_of l (take ground a₀) i)) _ a' (to + (12 + size_of false limit i.vlen)) h (recs-found l (take ground a₀) b c i d g k p limit remote)
-        (rw h.same at e) (ap (λ (n : ℕ). to + n) (sym (old-long l (take ground a₀) b c i d g k p limit remote))))
+        (wrote a₀ footing whole a to _ (old_rec limit remote (entry_of l (take footing a₀) i)) _ a' (to + (12 + size_of false limit i.vlen)) h (recs-found l (take footing a₀) b c i d g k p limit remote)
+        (rw h.same at e) (ap (λ (n : ℕ). to + n) (sym (old-long l (take footing a₀) b c i d g k p limit remote))))
 
-  module _ (m : Call) (h : Writing a₀ ground whole a to (remote_frames m (take k (only b (entries l (take ground a₀) c))))) where
-    pub frames_asks : (ground ≤ to) × (Placed l (take ground a) i × (to + length (remote_frame_of m (entry_of l (take ground a) i)) ≤ length a))
-    frames_asks = rw h.same (h.over, (g.placed, front a₀ ground whole a to _ (remote_frame_of m (entry_of l (take ground a₀) i)) _ h (frames_found l (take ground a₀) b c i d g k p m)))
+  module _ (m : Call) (h : Writing a₀ footing whole a to (remote_frames m (take k (only b (entries l (take footing a₀) c))))) where
+    pub frames_asks : (footing ≤ to) × (Placed l (take footing a) i × (to + length (remote_frame_of m (entry_of l (take footing a) i)) ≤ length a))
+    frames_asks = rw h.same (h.over, (g.placed, front a₀ footing whole a to _ (remote_frame_of m (entry_of l (take footing a₀) i)) _ h (frames_found l (take footing a₀) b c i d g k p m)))
 
-    pub frames_turn : (a' : List ℕ) (to' : ℕ) → to' ≡ to + length (remote_frame_of m (entry_of l (take ground a) i)) → a' ≡ put a to (remote_frame_of m (entry_of l (take ground a) i))
-        → Writing a₀ ground whole a' to' (remote_frames m (take (k - 1) (only b (entries l (take ground a₀) d))))
+    pub frames_turn : (a' : List ℕ) (to' : ℕ) → to' ≡ to + length (remote_frame_of m (entry_of l (take footing a) i)) → a' ≡ put a to (remote_frame_of m (entry_of l (take footing a) i))
+        → Writing a₀ footing whole a' to' (remote_frames m (take (k - 1) (only b (entries l (take footing a₀) d))))
     frames_turn a' to' q e =
-        wrote a₀ ground whole a to _ (remote_frame_of m (entry_of l (take ground a₀) i)) _ a' to' h (frames_found l (take ground a₀) b c i d g k p m) (rw h.same at e) (rw h.same at q)
+        wrote a₀ footing whole a to _ (remote_frame_of m (entry_of l (take footing a₀) i)) _ a' to' h (frames_found l (take footing a₀) b c i d g k p m) (rw h.same at e) (rw h.same at q)
 
 -- one remote frame, or none
 val-long : (l w : List ℕ) (i : EntryAt) → Placed l w i → length (entry_of l w i).val ≡ i.vlen
@@ -160,7 +160,7 @@ module _ (l w : List ℕ) (i : EntryAt) (m : Call) (p : Placed l w i) where
 
     -- what the frame's writer asks of the value's place
     pub remote_asks : m.limit ≤ i.vlen → i.kept.0 ≡ 0 → at + length (remote_frame_of m (entry_of l w i)) ≤ length a
-        → (i.vlen ≤ max_value) × ((i.vat + i.vlen ≤ length (src_of l w i.ground)) × (at + length (remote_frame m (part (src_of l w i.ground) i.vat i.vlen)) ≤ length a))
+        → (i.vlen ≤ max_value) × ((i.vat + i.vlen ≤ length (src_of l w i.footing)) × (at + length (remote_frame m (part (src_of l w i.footing) i.vat i.vlen)) ≤ length a))
     unfolding entry_of
     remote_asks h k r = (p.vsmall, (p.val, remote-asked h k r))
 
@@ -170,7 +170,7 @@ module _ (l w : List ℕ) (i : EntryAt) (m : Call) (p : Placed l w i) where
     pub remote_fit : m.limit ≤ i.vlen → i.kept.0 ≡ 0 → at + length (remote_frame_of m (entry_of l w i)) ≤ length a → at + frame_len (8 + i.vlen) ≤ length a
     remote_fit h k r = omega (arith, remote-asked h k r, remote-long)
 
-    pub remote_ret : m.limit ≤ i.vlen → i.kept.0 ≡ 0 → (r : ℕ) (a' : List ℕ) → r ≡ frame_len (8 + i.vlen) → a' ≡ put a at (remote_frame m (part (src_of l w i.ground) i.vat i.vlen))
+    pub remote_ret : m.limit ≤ i.vlen → i.kept.0 ≡ 0 → (r : ℕ) (a' : List ℕ) → r ≡ frame_len (8 + i.vlen) → a' ≡ put a at (remote_frame m (part (src_of l w i.footing) i.vat i.vlen))
         → (at + r ≡ at + length (remote_frame_of m (entry_of l w i))) × (a' ≡ put a at (remote_frame_of m (entry_of l w i)))
     unfolding entry_of
     remote_ret h k r a' e q = rw (remote-one h k) (ap (λ (n : ℕ). at + n) (e ∙ sym remote-long), q)

@@ -17,7 +17,7 @@ pub record Sane (m : Call) : Type 0 where
 
 -- the first n of one kind of entries from a cursor on, in a slice or in an arena below an address
 abbrev pub these : List ℕ → List ℕ → ℕ → Bool → Cursor → ℕ → List Entry
-these l a ground b c n = take n (only b (entries l (take ground a) c))
+these l a footing b c n = take n (only b (entries l (take footing a) c))
 
 -- whether any are left
 abbrev pub any : List Entry → Bool

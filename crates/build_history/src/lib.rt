@@ -37,17 +37,17 @@ pub struct Look {
 // ---- looking ahead
 
 // The history page that comes next.
-pub fn look_ahead(list: &[u8], ground: &[u8], from: Cursor, limit: usize, budget: usize) -> Look
+pub fn look_ahead(list: &[u8], footing: &[u8], from: Cursor, limit: usize, budget: usize) -> Look
     requires { (limit ≤ max_limit) × (budget ≤ max_budget) }
-    ensures run_value { result.run ≡ run_of limit budget (only true (entries list.now ground.now from)) }
-    ensures skipped { Skipped list.now ground.now true from result.run.count result.rest }
+    ensures run_value { result.run ≡ run_of limit budget (only true (entries list.now footing.now from)) }
+    ensures skipped { Skipped list.now footing.now true from result.run.count result.rest }
 {
     let mut c = from;
     let mut n: usize = 0;
     let mut t: usize = BaseHeader::HDR_LEN;
     let mut f: usize = 0;
     loop {
-        let st = build_sources::next_of(list, ground, true, c);
+        let st = build_sources::next_of(list, footing, true, c);
         let Pick::One(i, d) = st else {
             return Look {
                 run: PageAhead {
@@ -84,17 +84,17 @@ pub fn look_ahead(list: &[u8], ground: &[u8], from: Cursor, limit: usize, budget
 // Stores n bytes of the lent slice, or of the arena below low, from at on.
 pub fn copy_part(
     a: &mut [u8],
-    ground: usize,
+    footing: usize,
     list: &[u8],
     inside: bool,
     from: usize,
     n: usize,
     at: usize,
 )
-    requires ground_le_at { ground ≤ at }
+    requires footing_le_at { footing ≤ at }
     requires n_in_bounds { at + n ≤ length a.old }
-    requires n_in_bounds_2 { from + n ≤ length (src_of list.now (take ground a.old) inside) }
-    ensures { a.new ≡ put a.old at (part (src_of list.now (take ground a.old) inside) from n) }
+    requires n_in_bounds_2 { from + n ≤ length (src_of list.now (take footing a.old) inside) }
+    ensures { a.new ≡ put a.old at (part (src_of list.now (take footing a.old) inside) from n) }
 {
     if inside {
         spans::copy_within(a, from, at, n);
@@ -107,7 +107,7 @@ pub fn copy_part(
 // A value with its history reference: its bytes, or the address of its remote, which is `remote` where it takes a new frame.
 pub fn put_val(
     a: &mut [u8],
-    ground: usize,
+    footing: usize,
     list: &[u8],
     i: EntryAt,
     at: usize,
@@ -115,17 +115,17 @@ pub fn put_val(
     limit: usize,
     remote: usize,
 )
-    requires ground_le_at { ground ≤ at }
-    requires placed { Placed list.now (take ground a.old) i }
-    requires i_in_bounds { at + length (val_bytes limit remote h (entry_of list.now (take ground a.old) i)) ≤ length a.old }
-    ensures { a.new ≡ put a.old at (val_bytes limit remote h (entry_of list.now (take ground a.old) i)) }
+    requires footing_le_at { footing ≤ at }
+    requires placed { Placed list.now (take footing a.old) i }
+    requires i_in_bounds { at + length (val_bytes limit remote h (entry_of list.now (take footing a.old) i)) ≤ length a.old }
+    ensures { a.new ≡ put a.old at (val_bytes limit remote h (entry_of list.now (take footing a.old) i)) }
 {
     let n = i.vlen;
     let kept = i.kept;
     if n < limit {
         let k = Val::write_front(a, at, h, false, n);
         let v = at + k;
-        copy_part(a, ground, list, i.ground, i.vat, n, v);
+        copy_part(a, footing, list, i.footing, i.vat, n, v);
     } else {
         let j = Val::write_front(a, at, h, true, n);
         let w = at + j;
@@ -137,17 +137,17 @@ pub fn put_val(
 // An old version's record.
 fn old_rec(
     a: &mut [u8],
-    ground: usize,
+    footing: usize,
     list: &[u8],
     i: EntryAt,
     at: usize,
     limit: usize,
     remote: usize,
 )
-    requires ground_le_at { ground ≤ at }
-    requires placed { Placed list.now (take ground a.old) i }
-    requires i_in_bounds { at + length (old_rec limit remote (entry_of list.now (take ground a.old) i)) ≤ length a.old }
-    ensures { a.new ≡ put a.old at (old_rec limit remote (entry_of list.now (take ground a.old) i)) }
+    requires footing_le_at { footing ≤ at }
+    requires placed { Placed list.now (take footing a.old) i }
+    requires i_in_bounds { at + length (old_rec limit remote (entry_of list.now (take footing a.old) i)) ≤ length a.old }
+    ensures { a.new ≡ put a.old at (old_rec limit remote (entry_of list.now (take footing a.old) i)) }
 {
     let v = i.ver;
     let k = values::write_ver(a, at, v);
@@ -156,13 +156,13 @@ fn old_rec(
         slot: 0,
         count: 0,
     };
-    put_val(a, ground, list, i, at + k, h, limit, remote);
+    put_val(a, footing, list, i, at + k, h, limit, remote);
 }
 
 // The slots of the next n old versions; first is the first record's offset.
 fn old_slots(
     a: &mut [u8],
-    ground: usize,
+    footing: usize,
     list: &[u8],
     from: Cursor,
     n: usize,
@@ -170,17 +170,17 @@ fn old_slots(
     first: usize,
     limit: usize,
 )
-    requires ground_le_at { ground ≤ at }
-    requires n_in_bounds { at + length (old_slots limit first (these list.now a.old ground true from n)) ≤ length a.old }
-    requires n_bound { first + total (costs_of limit (these list.now a.old ground true from n)) ≤ 4294967295 }
-    ensures { a.new ≡ put a.old at (old_slots limit first (these list.now a.old ground true from n)) }
+    requires footing_le_at { footing ≤ at }
+    requires n_in_bounds { at + length (old_slots limit first (these list.now a.old footing true from n)) ≤ length a.old }
+    requires n_bound { first + total (costs_of limit (these list.now a.old footing true from n)) ≤ 4294967295 }
+    ensures { a.new ≡ put a.old at (old_slots limit first (these list.now a.old footing true from n)) }
 {
     let mut c = from;
     let mut to = at;
     let mut off = first;
     let mut k = n;
     while k > 0 {
-        let st = build_sources::next_of(list, &a[..ground], true, c);
+        let st = build_sources::next_of(list, &a[..footing], true, c);
         let Pick::One(i, d) = st else {
             return;
         };
@@ -195,7 +195,7 @@ fn old_slots(
 // Their records; a new remote frame stands at `remote`, the next one behind it.
 fn old_recs(
     a: &mut [u8],
-    ground: usize,
+    footing: usize,
     list: &[u8],
     from: Cursor,
     n: usize,
@@ -203,24 +203,24 @@ fn old_recs(
     limit: usize,
     remote: usize,
 )
-    requires ground_le_at { ground ≤ at }
-    requires n_in_bounds { at + length (old_recs limit remote (these list.now a.old ground true from n)) ≤ length a.old }
-    requires n_in_bounds_2 { remote + remotes_len limit (these list.now a.old ground true from n) ≤ length a.old }
-    ensures { a.new ≡ put a.old at (old_recs limit remote (these list.now a.old ground true from n)) }
+    requires footing_le_at { footing ≤ at }
+    requires n_in_bounds { at + length (old_recs limit remote (these list.now a.old footing true from n)) ≤ length a.old }
+    requires n_in_bounds_2 { remote + remotes_len limit (these list.now a.old footing true from n) ≤ length a.old }
+    ensures { a.new ≡ put a.old at (old_recs limit remote (these list.now a.old footing true from n)) }
 {
     let mut c = from;
     let mut to = at;
     let mut next = remote;
     let mut k = n;
     while k > 0 {
-        let st = build_sources::next_of(list, &a[..ground], true, c);
+        let st = build_sources::next_of(list, &a[..footing], true, c);
         let Pick::One(i, d) = st else {
             return;
         };
         let kept = i.kept;
         let past = to + (12 + Val::calc_size(false, limit, i.vlen as u32));
         let beyond = next + build_image::remote_len(limit, i.vlen, kept);
-        old_rec(a, ground, list, i, to, limit, next);
+        old_rec(a, footing, list, i, to, limit, next);
         to = past;
         next = beyond;
         c = d;
@@ -231,7 +231,7 @@ fn old_recs(
 // The remote frame of a value of n bytes, which stands in the lent slice, or in the arena below ground.
 pub fn remote_frame(
     a: &mut [u8],
-    ground: usize,
+    footing: usize,
     list: &[u8],
     inside: bool,
     from: usize,
@@ -239,11 +239,11 @@ pub fn remote_frame(
     at: usize,
     m: Call,
 )
-    requires ground_le_at { ground ≤ at }
+    requires footing_le_at { footing ≤ at }
     requires n_le_max_value { n ≤ max_value }
-    requires n_in_bounds { from + n ≤ length (src_of list.now (take ground a.old) inside) }
-    requires n_in_bounds_2 { at + length (remote_frame m (part (src_of list.now (take ground a.old) inside) from n)) ≤ length a.old }
-    ensures { a.new ≡ put a.old at (remote_frame m (part (src_of list.now (take ground a.old) inside) from n)) }
+    requires n_in_bounds { from + n ≤ length (src_of list.now (take footing a.old) inside) }
+    requires n_in_bounds_2 { at + length (remote_frame m (part (src_of list.now (take footing a.old) inside) from n)) ≤ length a.old }
+    ensures { a.new ≡ put a.old at (remote_frame m (part (src_of list.now (take footing a.old) inside) from n)) }
 {
     let payload = (8 + n) as u32;
     let h = BoxHeader {
@@ -260,7 +260,7 @@ pub fn remote_frame(
     let s = at + BoxHeader::HDR_LEN;
     numbers::put_u64(a, s, n as u64);
     let v = s + 8;
-    copy_part(a, ground, list, inside, from, n, v);
+    copy_part(a, footing, list, inside, from, n, v);
     let z = v + n;
     let k = frames::frame_len(payload) - (BoxHeader::HDR_LEN + (8 + n));
     spans::zeros(a, z, k);
@@ -269,17 +269,17 @@ pub fn remote_frame(
 // The remote frame of an entry, if it takes one; the address past it.
 fn remote_frame_of(
     a: &mut [u8],
-    ground: usize,
+    footing: usize,
     list: &[u8],
     i: EntryAt,
     at: usize,
     m: Call,
 ) -> usize
-    requires ground_le_at { ground ≤ at }
-    requires placed { Placed list.now (take ground a.old) i }
-    requires i_in_bounds { at + length (remote_frame_of m (entry_of list.now (take ground a.old) i)) ≤ length a.old }
-    ensures value { result ≡ at + length (remote_frame_of m (entry_of list.now (take ground a.old) i)) }
-    ensures a_after { a.new ≡ put a.old at (remote_frame_of m (entry_of list.now (take ground a.old) i)) }
+    requires footing_le_at { footing ≤ at }
+    requires placed { Placed list.now (take footing a.old) i }
+    requires i_in_bounds { at + length (remote_frame_of m (entry_of list.now (take footing a.old) i)) ≤ length a.old }
+    ensures value { result ≡ at + length (remote_frame_of m (entry_of list.now (take footing a.old) i)) }
+    ensures a_after { a.new ≡ put a.old at (remote_frame_of m (entry_of list.now (take footing a.old) i)) }
 {
     let n = i.vlen;
     let kept = i.kept;
@@ -289,14 +289,14 @@ fn remote_frame_of(
     if kept.0 != 0 {
         return at;
     }
-    remote_frame(a, ground, list, i.ground, i.vat, n, at, m);
+    remote_frame(a, footing, list, i.footing, i.vat, n, at, m);
     at + frames::frame_len((8 + n) as u32)
 }
 
 // The remote frames of the next n old versions, or heads, one by one.
 fn each_remote_frame(
     a: &mut [u8],
-    ground: usize,
+    footing: usize,
     list: &[u8],
     want: bool,
     from: Cursor,
@@ -304,19 +304,19 @@ fn each_remote_frame(
     at: usize,
     m: Call,
 )
-    requires ground_le_at { ground ≤ at }
-    requires n_in_bounds { at + length (remote_frames m (these list.now a.old ground want from n)) ≤ length a.old }
-    ensures { a.new ≡ put a.old at (remote_frames m (these list.now a.old ground want from n)) }
+    requires footing_le_at { footing ≤ at }
+    requires n_in_bounds { at + length (remote_frames m (these list.now a.old footing want from n)) ≤ length a.old }
+    ensures { a.new ≡ put a.old at (remote_frames m (these list.now a.old footing want from n)) }
 {
     let mut c = from;
     let mut to = at;
     let mut k = n;
     while k > 0 {
-        let st = build_sources::next_of(list, &a[..ground], want, c);
+        let st = build_sources::next_of(list, &a[..footing], want, c);
         let Pick::One(i, d) = st else {
             return;
         };
-        to = remote_frame_of(a, ground, list, i, to, m);
+        to = remote_frame_of(a, footing, list, i, to, m);
         c = d;
         k -= 1;
     }
@@ -325,7 +325,7 @@ fn each_remote_frame(
 // The same, which take len bytes: where that is none, no entry is read.
 pub fn remote_frames(
     a: &mut [u8],
-    ground: usize,
+    footing: usize,
     list: &[u8],
     want: bool,
     from: Cursor,
@@ -334,15 +334,15 @@ pub fn remote_frames(
     m: Call,
     len: usize,
 )
-    requires ground_le_at { ground ≤ at }
-    requires n_in_bounds { at + length (remote_frames m (these list.now a.old ground want from n)) ≤ length a.old }
-    requires len_value { len ≡ remotes_len m.limit (these list.now a.old ground want from n) }
-    ensures { a.new ≡ put a.old at (remote_frames m (these list.now a.old ground want from n)) }
+    requires footing_le_at { footing ≤ at }
+    requires n_in_bounds { at + length (remote_frames m (these list.now a.old footing want from n)) ≤ length a.old }
+    requires len_value { len ≡ remotes_len m.limit (these list.now a.old footing want from n) }
+    ensures { a.new ≡ put a.old at (remote_frames m (these list.now a.old footing want from n)) }
 {
     if len == 0 {
         return;
     }
-    each_remote_frame(a, ground, list, want, from, n, at, m);
+    each_remote_frame(a, footing, list, want, from, n, at, m);
 }
 
 // The headers of a history page.
@@ -376,19 +376,19 @@ fn link_of(more: bool, to: usize) -> usize
 // A history page with its remote frames; the address past them.
 fn hist_page(
     a: &mut [u8],
-    ground: usize,
+    footing: usize,
     list: &[u8],
     from: Cursor,
     at: usize,
     m: Call,
     r: PageAhead,
 ) -> usize
-    requires ground_le_at { ground ≤ at }
+    requires footing_le_at { footing ≤ at }
     requires sane { Sane m }
-    requires r_value { r ≡ run_of m.limit m.budget (only true (entries list.now (take ground a.old) from)) }
-    requires from_in_bounds { at + length (run_page m at r (only true (entries list.now (take ground a.old) from))) ≤ length a.old }
-    ensures value { result ≡ page_end m.limit at (these list.now a.old ground true from r.count) }
-    ensures a_after { a.new ≡ put a.old at (run_page m at r (only true (entries list.now (take ground a.old) from))) }
+    requires r_value { r ≡ run_of m.limit m.budget (only true (entries list.now (take footing a.old) from)) }
+    requires from_in_bounds { at + length (run_page m at r (only true (entries list.now (take footing a.old) from))) ≤ length a.old }
+    ensures value { result ≡ page_end m.limit at (these list.now a.old footing true from r.count) }
+    ensures a_after { a.new ≡ put a.old at (run_page m at r (only true (entries list.now (take footing a.old) from))) }
 {
     let n = r.count;
     let size = r.size;
@@ -402,7 +402,7 @@ fn hist_page(
     let s = at + BaseHeader::SLOTS_AT;
     old_slots(
         a,
-        ground,
+        footing,
         list,
         from,
         n,
@@ -411,37 +411,37 @@ fn hist_page(
         limit,
     );
     let q = s + 4 * n;
-    old_recs(a, ground, list, from, n, q, limit, end);
+    old_recs(a, footing, list, from, n, q, limit, end);
     let z = at + (BoxHeader::HDR_LEN + size);
     spans::zeros(a, z, end - z);
-    remote_frames(a, ground, list, true, from, n, end, m, remote);
+    remote_frames(a, footing, list, true, from, n, end, m, remote);
     next
 }
 
 // All history pages; the address past them.
 pub fn save_hist_regions(
     a: &mut [u8],
-    ground: usize,
+    footing: usize,
     list: &[u8],
     from: Cursor,
     at: usize,
     m: Call,
 ) -> usize
-    requires ground_le_at { ground ≤ at }
+    requires footing_le_at { footing ≤ at }
     requires sane { Sane m }
-    requires from_in_bounds { at + length (history_at m at (only true (entries list.now (take ground a.old) from))) ≤ length a.old }
-    ensures value { result ≡ history_end_at m at (only true (entries list.now (take ground a.old) from)) }
-    ensures a_after { a.new ≡ put a.old at (history_at m at (only true (entries list.now (take ground a.old) from))) }
+    requires from_in_bounds { at + length (history_at m at (only true (entries list.now (take footing a.old) from))) ≤ length a.old }
+    ensures value { result ≡ history_end_at m at (only true (entries list.now (take footing a.old) from)) }
+    ensures a_after { a.new ≡ put a.old at (history_at m at (only true (entries list.now (take footing a.old) from))) }
 {
     let mut c = from;
     let mut to = at;
     loop {
-        let s = look_ahead(list, &a[..ground], c, m.limit, m.budget);
+        let s = look_ahead(list, &a[..footing], c, m.limit, m.budget);
         let r = s.run;
         if r.count == 0 {
             return to;
         }
-        to = hist_page(a, ground, list, c, to, m, r);
+        to = hist_page(a, footing, list, c, to, m, r);
         c = s.rest;
     }
 }

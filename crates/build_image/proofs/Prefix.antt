@@ -15,11 +15,11 @@ use Rattle.build_sources.specs.Source.{Entry}
 use Rattle.build_sources.specs.Judged.{prefixed, enclosed}
 use Rattle.build_image.specs.Prefix.{common}
 
-pub common-ground : (lo hi : List ℕ) → common lo hi ≤ length lo
+pub common-footing : (lo hi : List ℕ) → common lo hi ≤ length lo
 unfolding common
-common-ground [] hi = omega arith
-common-ground (x ∷ lo) [] = omega arith
-common-ground (x ∷ lo) (y ∷ hi) = by (eqb x y) (common-ground lo hi)
+common-footing [] hi = omega arith
+common-footing (x ∷ lo) [] = omega arith
+common-footing (x ∷ lo) (y ∷ hi) = by (eqb x y) (common-footing lo hi)
   where
     by : (b : Bool) → common lo hi ≤ length lo → cond b (suc (common lo hi)) 0 ≤ suc (length lo)
     by true h = omega arith

@@ -28,7 +28,7 @@ use Rattle.build_index.proofs.Page.{length_head, page_open, size_open}
 
 -- ---- one store behind the other
 
-module _ (a : List ℕ) (ground at : ℕ) (m : Call) (n size : ℕ) (lo hi : List ℕ) (e : Boundaries) (f : Fixes (length a) ground at e n size) (w : BothWithin lo hi (take ground a) e) where
+module _ (a : List ℕ) (footing at : ℕ) (m : Call) (n size : ℕ) (lo hi : List ℕ) (e : Boundaries) (f : Fixes (length a) footing at e n size) (w : BothWithin lo hi (take footing a) e) where
   abbrev x : ℕ
   x = at + slots_at + 4 * n
 
@@ -48,47 +48,47 @@ module _ (a : List ℕ) (ground at : ℕ) (m : Call) (n size : ℕ) (lo hi : Lis
   head_asks = (omega (arith, fixed_fits, f.end), (f.few, (f.small, (omega (arith, f.first), omega (arith, f.first), omega (arith, f.first, f.shared)))))
 
   module _ (a₁ : List ℕ) (e₁ : a₁ ≡ put a at (index_head m n size e.sibling.0 e.lo.len e.hi.len e.prefix)) where
-    same₁ : take ground a₁ ≡ take ground a
-    same₁ = ap (take ground) e₁ ∙ take_put ground a at head f.over
+    same₁ : take footing a₁ ≡ take footing a
+    same₁ = ap (take footing) e₁ ∙ take_put footing a at head f.over
 
     long₁ : length a₁ ≡ length a
     long₁ = ap length e₁ ∙ length-put a at head
 
-    pub lo_asks : (ground ≤ x) × ((x + e.lo.len ≤ length a₁) × Within lo (take ground a₁) e.lo)
-    lo_asks = (omega (arith, f.over), (omega (arith, long₁, fixed_fits, f.end), rw same₁ w.ground))
+    pub lo_asks : (footing ≤ x) × ((x + e.lo.len ≤ length a₁) × Within lo (take footing a₁) e.lo)
+    lo_asks = (omega (arith, f.over), (omega (arith, long₁, fixed_fits, f.end), rw same₁ w.footing))
 
-    module _ (a₂ : List ℕ) (e₂ : a₂ ≡ put a₁ x (boundary_bytes lo (take ground a₁) e.lo)) where
-      f₂ : a₂ ≡ put a₁ x (boundary_bytes lo (take ground a) e.lo)
+    module _ (a₂ : List ℕ) (e₂ : a₂ ≡ put a₁ x (boundary_bytes lo (take footing a₁) e.lo)) where
+      f₂ : a₂ ≡ put a₁ x (boundary_bytes lo (take footing a) e.lo)
       f₂ = rw same₁ at e₂
 
-      same₂ : take ground a₂ ≡ take ground a
-      same₂ = ap (take ground) f₂ ∙ take_put ground a₁ x (boundary_bytes lo (take ground a) e.lo) (omega (arith, f.over)) ∙ same₁
+      same₂ : take footing a₂ ≡ take footing a
+      same₂ = ap (take footing) f₂ ∙ take_put footing a₁ x (boundary_bytes lo (take footing a) e.lo) (omega (arith, f.over)) ∙ same₁
 
       long₂ : length a₂ ≡ length a
-      long₂ = ap length f₂ ∙ length-put a₁ x (boundary_bytes lo (take ground a) e.lo) ∙ long₁
+      long₂ = ap length f₂ ∙ length-put a₁ x (boundary_bytes lo (take footing a) e.lo) ∙ long₁
 
-      pub hi_asks : (ground ≤ y) × ((y + e.hi.len ≤ length a₂) × Within hi (take ground a₂) e.hi)
+      pub hi_asks : (footing ≤ y) × ((y + e.hi.len ≤ length a₂) × Within hi (take footing a₂) e.hi)
       hi_asks = (omega (arith, f.over), (omega (arith, long₂, fixed_fits, f.end), rw same₂ w.high))
 
-      module _ (a₃ : List ℕ) (e₃ : a₃ ≡ put a₂ y (boundary_bytes hi (take ground a₂) e.hi)) (k : ℕ) (ek : k ≡ frame_len size) where
-        f₃ : a₃ ≡ put a₂ y (boundary_bytes hi (take ground a) e.hi)
+      module _ (a₃ : List ℕ) (e₃ : a₃ ≡ put a₂ y (boundary_bytes hi (take footing a₂) e.hi)) (k : ℕ) (ek : k ≡ frame_len size) where
+        f₃ : a₃ ≡ put a₂ y (boundary_bytes hi (take footing a) e.hi)
         f₃ = rw same₂ at e₃
 
         pub zeros_fit : z + (at + k - z) ≤ length a₃
-        zeros_fit = omega (arith, ap length f₃, length-put a₂ y (boundary_bytes hi (take ground a) e.hi), long₂, ek, fixed_fits, f.end)
+        zeros_fit = omega (arith, ap length f₃, length-put a₂ y (boundary_bytes hi (take footing a) e.hi), long₂, ek, fixed_fits, f.end)
 
         pub fixed_done : (a₄ : List ℕ) → a₄ ≡ put a₃ z (replicate (at + k - z) 0)
-            → a₄ ≡ fixed_on m at n size e (boundary_bytes lo (take ground a) e.lo) (boundary_bytes hi (take ground a) e.hi) a
+            → a₄ ≡ fixed_on m at n size e (boundary_bytes lo (take footing a) e.lo) (boundary_bytes hi (take footing a) e.hi) a
         fixed_done a₄ e₄ =
             e₄ ∙ ap (λ (j : ℕ). put a₃ z (replicate (at + j - z) 0)) ek
             ∙ ap (λ (b : List ℕ). put b z (replicate (at + frame_len size - z) 0))
-            (f₃ ∙ ap (λ (b : List ℕ). put b y (boundary_bytes hi (take ground a) e.hi)) (f₂ ∙ ap (λ (b : List ℕ). put b x (boundary_bytes lo (take ground a) e.lo)) e₁))
+            (f₃ ∙ ap (λ (b : List ℕ). put b y (boundary_bytes hi (take footing a) e.hi)) (f₂ ∙ ap (λ (b : List ℕ). put b x (boundary_bytes lo (take footing a) e.lo)) e₁))
 
 -- ---- the page of some entries
 
-module _ (a : List ℕ) (ground at : ℕ) (m : Call) (lo hi : List ℕ) (e : Boundaries) (es : List Entry) (n size : ℕ) (r : Ready a ground at lo hi e es n size) where
+module _ (a : List ℕ) (footing at : ℕ) (m : Call) (lo hi : List ℕ) (e : Boundaries) (es : List Entry) (n size : ℕ) (r : Ready a footing at lo hi e es n size) where
   abbrev b : Borders
-  b = bounds_of lo hi (take ground a) e
+  b = bounds_of lo hi (take footing a) e
 
   abbrev image : List ℕ
   image = put a at (index_image m b es)
@@ -105,16 +105,16 @@ module _ (a : List ℕ) (ground at : ℕ) (m : Call) (lo hi : List ℕ) (e : Bou
   abbrev q : ℕ
   q = at + (box_len + size)
 
-  lo-long : length (boundary_bytes lo (take ground a) e.lo) ≡ e.lo.len
-  lo-long = length_boundary lo (take ground a) e.lo r.inside.ground
+  lo-long : length (boundary_bytes lo (take footing a) e.lo) ≡ e.lo.len
+  lo-long = length_boundary lo (take footing a) e.lo r.inside.footing
 
-  hi-long : length (boundary_bytes hi (take ground a) e.hi) ≡ e.hi.len
-  hi-long = length_boundary hi (take ground a) e.hi r.inside.high
+  hi-long : length (boundary_bytes hi (take footing a) e.hi) ≡ e.hi.len
+  hi-long = length_boundary hi (take footing a) e.hi r.inside.high
 
   sized : size ≡ base_len + 4 * n + e.lo.len + e.hi.len + index_sums e.prefix es
   sized = omega (arith, size_open b es size r.whole, r.count, lo-long, hi-long)
 
-  pub fixes : Fixes (length a) ground at e n size
+  pub fixes : Fixes (length a) footing at e n size
   fixes = record { over = r.over; few = r.few; small = r.small; first = omega (arith, sized); shared = r.shared; end = r.room }
 
   pub page-fits : (rec ≤ length a) × (at + (box_len + size) ≤ length a)
@@ -136,10 +136,10 @@ module _ (a : List ℕ) (ground at : ℕ) (m : Call) (lo hi : List ℕ) (e : Bou
   bytes : index_image m b es ≡ index_head m n size e.sibling.0 e.lo.len e.hi.len e.prefix ++ (slots ++ (b.lo ++ (b.hi ++ (recs ++ pad size))))
   bytes = page_open m b es n size e.lo.len e.hi.len (rec - base) r.count r.whole (sym lo-long) (sym hi-long) (omega arith)
 
-  begin : Drawing a ground image a (stretch at (index_image m b es) ∷ []) (length a)
-  begin = draw_begin a ground at (index_image m b es) r.over (rw (length_index m b es, ← r.whole) r.room)
+  begin : Drawing a footing image a (stretch at (index_image m b es) ∷ []) (length a)
+  begin = draw_begin a footing at (index_image m b es) r.over (rw (length_index m b es, ← r.whole) r.room)
 
-  module _ (a₁ : List ℕ) (e₁ : a₁ ≡ fixed_on m at n size e (boundary_bytes lo (take ground a) e.lo) (boundary_bytes hi (take ground a) e.hi) a) where
+  module _ (a₁ : List ℕ) (e₁ : a₁ ≡ fixed_on m at n size e (boundary_bytes lo (take footing a) e.lo) (boundary_bytes hi (take footing a) e.hi) a) where
     abbrev v₁ : List ℕ
     v₁ = put a at (index_head m n size e.sibling.0 e.lo.len e.hi.len e.prefix)
 
@@ -149,40 +149,40 @@ module _ (a : List ℕ) (ground at : ℕ) (m : Call) (lo hi : List ℕ) (e : Bou
     abbrev v₃ : List ℕ
     v₃ = put v₂ (s + 4 * n + e.lo.len) b.hi
 
-    d₁ : Drawing a ground image v₁ (stretch s (slots ++ (b.lo ++ (b.hi ++ (recs ++ pad size)))) ∷ []) (length a)
+    d₁ : Drawing a footing image v₁ (stretch s (slots ++ (b.lo ++ (b.hi ++ (recs ++ pad size)))) ∷ []) (length a)
     d₁ =
-        drew a ground image a [] at _ (index_head m n size e.sibling.0 e.lo.len e.hi.len e.prefix) (slots ++ (b.lo ++ (b.hi ++ (recs ++ pad size)))) [] (length a) v₁ s begin bytes refl
+        drew a footing image a [] at _ (index_head m n size e.sibling.0 e.lo.len e.hi.len e.prefix) (slots ++ (b.lo ++ (b.hi ++ (recs ++ pad size)))) [] (length a) v₁ s begin bytes refl
         (ap (λ (j : ℕ). at + j) (sym (length_head m n size e.sibling.0 e.lo.len e.hi.len e.prefix)))
 
-    d₂ : Drawing a ground image v₁ (stretch s slots ∷ stretch (s + 4 * n) (b.lo ++ (b.hi ++ (recs ++ pad size))) ∷ []) (length a)
-    d₂ = cut a ground image v₁ [] s _ slots (b.lo ++ (b.hi ++ (recs ++ pad size))) [] (length a) (s + 4 * n) d₁ refl (omega (arith, length_index_slots e.prefix (rec - base) es, r.count))
+    d₂ : Drawing a footing image v₁ (stretch s slots ∷ stretch (s + 4 * n) (b.lo ++ (b.hi ++ (recs ++ pad size))) ∷ []) (length a)
+    d₂ = cut a footing image v₁ [] s _ slots (b.lo ++ (b.hi ++ (recs ++ pad size))) [] (length a) (s + 4 * n) d₁ refl (omega (arith, length_index_slots e.prefix (rec - base) es, r.count))
 
     abbrev fore : List Stretch
     fore = stretch s slots ∷ []
 
-    d₃ : Drawing a ground image v₂ (fore ++ stretch (s + 4 * n + e.lo.len) (b.hi ++ (recs ++ pad size)) ∷ []) (length a)
-    d₃ = drew a ground image v₁ fore (s + 4 * n) _ b.lo (b.hi ++ (recs ++ pad size)) [] (length a) v₂ (s + 4 * n + e.lo.len) d₂ refl refl (omega (arith, lo-long))
+    d₃ : Drawing a footing image v₂ (fore ++ stretch (s + 4 * n + e.lo.len) (b.hi ++ (recs ++ pad size)) ∷ []) (length a)
+    d₃ = drew a footing image v₁ fore (s + 4 * n) _ b.lo (b.hi ++ (recs ++ pad size)) [] (length a) v₂ (s + 4 * n + e.lo.len) d₂ refl refl (omega (arith, lo-long))
 
-    d₄ : Drawing a ground image v₃ (fore ++ stretch rec (recs ++ pad size) ∷ []) (length a)
-    d₄ = drew a ground image v₂ fore (s + 4 * n + e.lo.len) _ b.hi (recs ++ pad size) [] (length a) v₃ rec d₃ refl refl (omega (arith, hi-long))
+    d₄ : Drawing a footing image v₃ (fore ++ stretch rec (recs ++ pad size) ∷ []) (length a)
+    d₄ = drew a footing image v₂ fore (s + 4 * n + e.lo.len) _ b.hi (recs ++ pad size) [] (length a) v₃ rec d₃ refl refl (omega (arith, hi-long))
 
-    d₅ : Drawing a ground image v₃ (fore ++ stretch rec recs ∷ stretch q (pad size) ∷ []) (length a)
-    d₅ = cut a ground image v₃ fore rec _ recs (pad size) [] (length a) q d₄ refl (omega (arith, length_index_recs e.prefix es, sized))
+    d₅ : Drawing a footing image v₃ (fore ++ stretch rec recs ∷ stretch q (pad size) ∷ []) (length a)
+    d₅ = cut a footing image v₃ fore rec _ recs (pad size) [] (length a) q d₄ refl (omega (arith, length_index_recs e.prefix es, sized))
 
-    d₆ : Drawing a ground image a₁ ((fore ++ stretch rec recs ∷ []) ++ stretch (q + length rounding) [] ∷ []) (length a)
-    d₆ = drew a ground image v₃ (fore ++ stretch rec recs ∷ []) q _ rounding [] [] (length a) a₁ (q + length rounding) d₅ pad-is e₁ refl
+    d₆ : Drawing a footing image a₁ ((fore ++ stretch rec recs ∷ []) ++ stretch (q + length rounding) [] ∷ []) (length a)
+    d₆ = drew a footing image v₃ (fore ++ stretch rec recs ∷ []) q _ rounding [] [] (length a) a₁ (q + length rounding) d₅ pad-is e₁ refl
 
     -- slots and records are left
-    pub fixed_left : Drawing a ground image a₁ (index_left s rec base e.prefix es) (length a)
-    fixed_left = gone a ground image a₁ (fore ++ stretch rec recs ∷ []) (q + length rounding) [] [] (length a) d₆ refl
+    pub fixed_left : Drawing a footing image a₁ (index_left s rec base e.prefix es) (length a)
+    fixed_left = gone a footing image a₁ (fore ++ stretch rec recs ∷ []) (q + length rounding) [] [] (length a) d₆ refl
 
-    pub fixed_pens : Penning a ground image base e.prefix a₁ s rec es (length a)
+    pub fixed_pens : Penning a footing image base e.prefix a₁ s rec es (length a)
     fixed_pens = record { drawing = fixed_left; above = omega arith; small = omega (arith, sized, r.small); keys = r.long }
 
     pub pen_asks : Laid (length a₁) 0 s rec base e.prefix es
     pen_asks = record { order = raised fixed_left.order fixed_left.room; above = omega arith; small = omega (arith, sized, r.small); keys = r.long }
       where
-        raised : Rising ground (index_left s rec base e.prefix es) (length a) → length a ≤ length a₁ → Rising 0 (index_left s rec base e.prefix es) (length a₁)
+        raised : Rising footing (index_left s rec base e.prefix es) (length a) → length a ≤ length a₁ → Rising 0 (index_left s rec base e.prefix es) (length a₁)
         raised (i, (j, k)) h = (omega arith, (j, omega (arith, k, h)))
 
     pub page_done : (a₂ : List ℕ) → a₂ ≡ draws a₁ (index_left s rec base e.prefix es) → a₂ ≡ image

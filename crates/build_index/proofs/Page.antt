@@ -51,13 +51,13 @@ pub size_open : (b : Borders) (es : List Entry) (size : ℕ) → size ≡ index_
 unfolding index_size
 size_open b es size e = e
 
-module _ (l a : List ℕ) (ground : ℕ) (c : Cursor) (at : ℕ) (m : Call) (n size : ℕ) (lo hi : List ℕ) (e : Boundaries)
-    (r : Ready a ground at lo hi e (entries l (take ground a) c) n size) where
+module _ (l a : List ℕ) (footing : ℕ) (c : Cursor) (at : ℕ) (m : Call) (n size : ℕ) (lo hi : List ℕ) (e : Boundaries)
+    (r : Ready a footing at lo hi e (entries l (take footing a) c) n size) where
   abbrev es : List Entry
-  es = entries l (take ground a) c
+  es = entries l (take footing a) c
 
   abbrev b : Borders
-  b = bounds_of lo hi (take ground a) e
+  b = bounds_of lo hi (take footing a) e
 
   abbrev whole : List ℕ
   whole = put a at (index_image m b es)
@@ -65,11 +65,11 @@ module _ (l a : List ℕ) (ground : ℕ) (c : Cursor) (at : ℕ) (m : Call) (n s
   abbrev first : ℕ
   first = base_len + 4 * n + e.lo.len + e.hi.len
 
-  lo-long : length (boundary_bytes lo (take ground a) e.lo) ≡ e.lo.len
-  lo-long = length_boundary lo (take ground a) e.lo r.inside.ground
+  lo-long : length (boundary_bytes lo (take footing a) e.lo) ≡ e.lo.len
+  lo-long = length_boundary lo (take footing a) e.lo r.inside.footing
 
-  hi-long : length (boundary_bytes hi (take ground a) e.hi) ≡ e.hi.len
-  hi-long = length_boundary hi (take ground a) e.hi r.inside.high
+  hi-long : length (boundary_bytes hi (take footing a) e.hi) ≡ e.hi.len
+  hi-long = length_boundary hi (take footing a) e.hi r.inside.high
 
   pub sized : size ≡ first + index_sums e.prefix es
   sized = omega (arith, size_open b es size r.whole, r.count, lo-long, hi-long)
@@ -84,41 +84,41 @@ module _ (l a : List ℕ) (ground : ℕ) (c : Cursor) (at : ℕ) (m : Call) (n s
   bytes : index_image m b es ≡ index_head m n size e.sibling.0 e.lo.len e.hi.len e.prefix ++ (index_slots e.prefix first es ++ (b.lo ++ (b.hi ++ (index_recs e.prefix es ++ pad size))))
   bytes = page_open m b es n size e.lo.len e.hi.len first r.count r.whole (sym lo-long) (sym hi-long) refl
 
-  p0 : Writing a ground whole a at (index_image m b es)
-  p0 = begin a ground at _ r.over (rw (length_index m b es, ← r.whole) r.room)
+  p0 : Writing a footing whole a at (index_image m b es)
+  p0 = begin a footing at _ r.over (rw (length_index m b es, ← r.whole) r.room)
 
   module _ (a₁ : List ℕ) (e₁ : a₁ ≡ put a at (index_head m n size e.sibling.0 e.lo.len e.hi.len e.prefix)) where
-    p1 : Writing a ground whole a₁ (at + slots_at) (index_slots e.prefix first es ++ (b.lo ++ (b.hi ++ (index_recs e.prefix es ++ pad size))))
-    p1 = wrote_n a ground whole a at _ (index_head m n size e.sibling.0 e.lo.len e.hi.len e.prefix) _ p0 bytes slots_at a₁ (at + slots_at) (length_head m n size e.sibling.0 e.lo.len e.hi.len e.prefix) e₁ refl
+    p1 : Writing a footing whole a₁ (at + slots_at) (index_slots e.prefix first es ++ (b.lo ++ (b.hi ++ (index_recs e.prefix es ++ pad size))))
+    p1 = wrote_n a footing whole a at _ (index_head m n size e.sibling.0 e.lo.len e.hi.len e.prefix) _ p0 bytes slots_at a₁ (at + slots_at) (length_head m n size e.sibling.0 e.lo.len e.hi.len e.prefix) e₁ refl
 
-    pub slots_asks : (ground ≤ at + slots_at) × (Long e.prefix (entries l (take ground a₁) c) × ((at + slots_at + length (index_slots e.prefix first (entries l (take ground a₁) c)) ≤ length a₁) × (first + index_sums e.prefix (entries l (take ground a₁) c) ≤ 4294967295)))
-    slots_asks = rw p1.same (p1.over, (r.long, (front a ground whole a₁ (at + slots_at) _ (index_slots e.prefix first es) _ p1 refl, omega (arith, sized, r.small))))
+    pub slots_asks : (footing ≤ at + slots_at) × (Long e.prefix (entries l (take footing a₁) c) × ((at + slots_at + length (index_slots e.prefix first (entries l (take footing a₁) c)) ≤ length a₁) × (first + index_sums e.prefix (entries l (take footing a₁) c) ≤ 4294967295)))
+    slots_asks = rw p1.same (p1.over, (r.long, (front a footing whole a₁ (at + slots_at) _ (index_slots e.prefix first es) _ p1 refl, omega (arith, sized, r.small))))
 
-    module _ (a₂ : List ℕ) (e₂ : a₂ ≡ put a₁ (at + slots_at) (index_slots e.prefix first (entries l (take ground a₁) c))) where
-      p2 : Writing a ground whole a₂ (at + slots_at + 4 * n) (b.lo ++ (b.hi ++ (index_recs e.prefix es ++ pad size)))
-      p2 = wrote a ground whole a₁ (at + slots_at) _ (index_slots e.prefix first es) _ a₂ (at + slots_at + 4 * n) p1 refl (rw p1.same at e₂) (omega (arith, length_index_slots e.prefix first es, r.count))
+    module _ (a₂ : List ℕ) (e₂ : a₂ ≡ put a₁ (at + slots_at) (index_slots e.prefix first (entries l (take footing a₁) c))) where
+      p2 : Writing a footing whole a₂ (at + slots_at + 4 * n) (b.lo ++ (b.hi ++ (index_recs e.prefix es ++ pad size)))
+      p2 = wrote a footing whole a₁ (at + slots_at) _ (index_slots e.prefix first es) _ a₂ (at + slots_at + 4 * n) p1 refl (rw p1.same at e₂) (omega (arith, length_index_slots e.prefix first es, r.count))
 
-      pub lo_asks : (ground ≤ at + slots_at + 4 * n) × ((at + slots_at + 4 * n + e.lo.len ≤ length a₂) × Within lo (take ground a₂) e.lo)
-      lo_asks = rw p2.same (p2.over, (room-n a ground whole a₂ (at + slots_at + 4 * n) _ b.lo _ p2 refl e.lo.len lo-long, r.inside.ground))
+      pub lo_asks : (footing ≤ at + slots_at + 4 * n) × ((at + slots_at + 4 * n + e.lo.len ≤ length a₂) × Within lo (take footing a₂) e.lo)
+      lo_asks = rw p2.same (p2.over, (room-n a footing whole a₂ (at + slots_at + 4 * n) _ b.lo _ p2 refl e.lo.len lo-long, r.inside.footing))
 
-      module _ (a₃ : List ℕ) (e₃ : a₃ ≡ put a₂ (at + slots_at + 4 * n) (boundary_bytes lo (take ground a₂) e.lo)) where
-        p3 : Writing a ground whole a₃ (at + slots_at + 4 * n + e.lo.len) (b.hi ++ (index_recs e.prefix es ++ pad size))
-        p3 = wrote_n a ground whole a₂ (at + slots_at + 4 * n) _ b.lo _ p2 refl e.lo.len a₃ (at + slots_at + 4 * n + e.lo.len) lo-long (rw p2.same at e₃) refl
+      module _ (a₃ : List ℕ) (e₃ : a₃ ≡ put a₂ (at + slots_at + 4 * n) (boundary_bytes lo (take footing a₂) e.lo)) where
+        p3 : Writing a footing whole a₃ (at + slots_at + 4 * n + e.lo.len) (b.hi ++ (index_recs e.prefix es ++ pad size))
+        p3 = wrote_n a footing whole a₂ (at + slots_at + 4 * n) _ b.lo _ p2 refl e.lo.len a₃ (at + slots_at + 4 * n + e.lo.len) lo-long (rw p2.same at e₃) refl
 
-        pub hi_asks : (ground ≤ at + slots_at + 4 * n + e.lo.len) × ((at + slots_at + 4 * n + e.lo.len + e.hi.len ≤ length a₃) × Within hi (take ground a₃) e.hi)
-        hi_asks = rw p3.same (p3.over, (room-n a ground whole a₃ (at + slots_at + 4 * n + e.lo.len) _ b.hi _ p3 refl e.hi.len hi-long, r.inside.high))
+        pub hi_asks : (footing ≤ at + slots_at + 4 * n + e.lo.len) × ((at + slots_at + 4 * n + e.lo.len + e.hi.len ≤ length a₃) × Within hi (take footing a₃) e.hi)
+        hi_asks = rw p3.same (p3.over, (room-n a footing whole a₃ (at + slots_at + 4 * n + e.lo.len) _ b.hi _ p3 refl e.hi.len hi-long, r.inside.high))
 
-        module _ (a₄ : List ℕ) (e₄ : a₄ ≡ put a₃ (at + slots_at + 4 * n + e.lo.len) (boundary_bytes hi (take ground a₃) e.hi)) where
-          p4 : Writing a ground whole a₄ (at + slots_at + 4 * n + e.lo.len + e.hi.len) (index_recs e.prefix es ++ pad size)
-          p4 = wrote_n a ground whole a₃ (at + slots_at + 4 * n + e.lo.len) _ b.hi _ p3 refl e.hi.len a₄ (at + slots_at + 4 * n + e.lo.len + e.hi.len) hi-long (rw p3.same at e₄) refl
+        module _ (a₄ : List ℕ) (e₄ : a₄ ≡ put a₃ (at + slots_at + 4 * n + e.lo.len) (boundary_bytes hi (take footing a₃) e.hi)) where
+          p4 : Writing a footing whole a₄ (at + slots_at + 4 * n + e.lo.len + e.hi.len) (index_recs e.prefix es ++ pad size)
+          p4 = wrote_n a footing whole a₃ (at + slots_at + 4 * n + e.lo.len) _ b.hi _ p3 refl e.hi.len a₄ (at + slots_at + 4 * n + e.lo.len + e.hi.len) hi-long (rw p3.same at e₄) refl
 
-          pub recs_asks : (ground ≤ at + slots_at + 4 * n + e.lo.len + e.hi.len) × (Long e.prefix (entries l (take ground a₄) c) × (at + slots_at + 4 * n + e.lo.len + e.hi.len + length (index_recs e.prefix (entries l (take ground a₄) c)) ≤ length a₄))
-          recs_asks = rw p4.same (p4.over, (r.long, front a ground whole a₄ (at + slots_at + 4 * n + e.lo.len + e.hi.len) _ (index_recs e.prefix es) _ p4 refl))
+          pub recs_asks : (footing ≤ at + slots_at + 4 * n + e.lo.len + e.hi.len) × (Long e.prefix (entries l (take footing a₄) c) × (at + slots_at + 4 * n + e.lo.len + e.hi.len + length (index_recs e.prefix (entries l (take footing a₄) c)) ≤ length a₄))
+          recs_asks = rw p4.same (p4.over, (r.long, front a footing whole a₄ (at + slots_at + 4 * n + e.lo.len + e.hi.len) _ (index_recs e.prefix es) _ p4 refl))
 
-          module _ (a₅ : List ℕ) (e₅ : a₅ ≡ put a₄ (at + slots_at + 4 * n + e.lo.len + e.hi.len) (index_recs e.prefix (entries l (take ground a₄) c))) where
-            p5 : Writing a ground whole a₅ (at + (box_len + size)) (pad size)
+          module _ (a₅ : List ℕ) (e₅ : a₅ ≡ put a₄ (at + slots_at + 4 * n + e.lo.len + e.hi.len) (index_recs e.prefix (entries l (take footing a₄) c))) where
+            p5 : Writing a footing whole a₅ (at + (box_len + size)) (pad size)
             p5 =
-                wrote a ground whole a₄ (at + slots_at + 4 * n + e.lo.len + e.hi.len) _ (index_recs e.prefix es) _ a₅ (at + (box_len + size)) p4 refl (rw p4.same at e₅)
+                wrote a footing whole a₄ (at + slots_at + 4 * n + e.lo.len + e.hi.len) _ (index_recs e.prefix es) _ a₅ (at + (box_len + size)) p4 refl (rw p4.same at e₅)
                 (omega (arith, length_index_recs e.prefix es, sized))
 
             module _ (x : ℕ) (ex : x ≡ frame_len size) where
@@ -127,7 +127,7 @@ module _ (l a : List ℕ) (ground : ℕ) (c : Cursor) (at : ℕ) (m : Call) (n s
               pads = ap (λ (y : ℕ). replicate (y - (box_len + size)) 0) (sym ex)
 
               pub zeros-room : at + (box_len + size) + (x - (box_len + size)) ≤ length a₅
-              zeros-room = room-n a ground whole a₅ (at + (box_len + size)) _ (replicate (x - (box_len + size)) 0) [] p5 (pads ∙ sym (append-nil (replicate (x - (box_len + size)) 0))) _ (length-replicate _ 0)
+              zeros-room = room-n a footing whole a₅ (at + (box_len + size)) _ (replicate (x - (box_len + size)) 0) [] p5 (pads ∙ sym (append-nil (replicate (x - (box_len + size)) 0))) _ (length-replicate _ 0)
 
               pub page-whole : (a₆ : List ℕ) → a₆ ≡ put a₅ (at + (box_len + size)) (replicate (x - (box_len + size)) 0) → a₆ ≡ whole
               page-whole a₆ q = q ∙ ap (put a₅ (at + (box_len + size))) (sym pads) ∙ p5.goes

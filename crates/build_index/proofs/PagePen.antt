@@ -31,7 +31,7 @@ use Rattle.build_index.specs.Parts.{rec_of, index_rec, Ready}
 use Rattle.build_index.specs.Laid.{index_left, Laid, fixed_on}
 use Rattle.build_index.proofs.Passes.{sums_nil}
 use Rattle.build_index.proofs.Penning as penning
-use Rattle.build_index.proofs.Penning.{Penning, pen_begin, pen_end, pen_key, sums_are, off_small, slot-room, rec-over, ground-same, rec-room, pen_turn, pen_laid, part-laid, part_turn}
+use Rattle.build_index.proofs.Penning.{Penning, pen_begin, pen_end, pen_key, sums_are, off_small, slot-room, rec-over, footing-same, rec-room, pen_turn, pen_laid, part-laid, part_turn}
 use Rattle.build_index.proofs.Children.{Here, child-here, count-is, count-all}
 use Rattle.build_index.proofs.Fixed.{fixed_pens}
 
@@ -124,7 +124,7 @@ module _ (a₀ : List ℕ) (low : ℕ) (whole : List ℕ) (b : Body) (end base p
 
     module _ (a₁ : List ℕ) (e₁ : a₁ ≡ put a slot (le 4 (rec - base))) where
       same : take low a₁ ≡ take low w
-      same = ground-same a₀ low whole base p a slot rec es (length a₀) h.penning z.entry fs z.list a₁ e₁ ∙ sym (take-take low low a₀ (omega arith))
+      same = footing-same a₀ low whole base p a slot rec es (length a₀) h.penning z.entry fs z.list a₁ e₁ ∙ sym (take-take low low a₀ (omega arith))
 
       rec-is : index_rec p z.entry ≡ rec_of (drop p (key_told a₁ b x.rest_at x.rest_len)) x.page.0
       unfolding index_rec
@@ -151,14 +151,14 @@ module _ (a₀ : List ℕ) (low : ℕ) (whole : List ℕ) (b : Body) (end base p
 
 -- ---- a page of the children of two
 
-module _ (a : List ℕ) (ground at : ℕ) (m : Call) (none : List ℕ) (e : Boundaries) (b : Body) (from end : ℕ) (d : Body) (count n size : ℕ) (gb : Judged (take ground a) b 1) (gd : Judged (take ground a) d 1)
+module _ (a : List ℕ) (footing at : ℕ) (m : Call) (none : List ℕ) (e : Boundaries) (b : Body) (from end : ℕ) (d : Body) (count n size : ℕ) (gb : Judged (take footing a) b 1) (gd : Judged (take footing a) d 1)
     (up : from ≤ end) (ub : end ≤ b.elems) (ud : count ≤ d.elems)
-    (r : Ready a ground at none none e (index_entries (take ground a) b (end - from) from ++ index_entries (take ground a) d count 0) n size) where
+    (r : Ready a footing at none none e (index_entries (take footing a) b (end - from) from ++ index_entries (take footing a) d count 0) n size) where
   abbrev xs : List Entry
-  xs = index_entries (take ground a) b (end - from) from
+  xs = index_entries (take footing a) b (end - from) from
 
   abbrev ys : List Entry
-  ys = index_entries (take ground a) d count 0
+  ys = index_entries (take footing a) d count 0
 
   abbrev s : ℕ
   s = at + slots_at
@@ -170,32 +170,32 @@ module _ (a : List ℕ) (ground at : ℕ) (m : Call) (none : List ℕ) (e : Boun
   o = at + box_len
 
   abbrev image : List ℕ
-  image = put a at (index_image m (bounds_of none none (take ground a) e) (xs ++ ys))
+  image = put a at (index_image m (bounds_of none none (take footing a) e) (xs ++ ys))
 
   all : count - 0 ≡ count
   all = omega arith
 
   xs_long : length xs ≡ end - from
-  xs_long = count-is (take ground a) b end from gb up ub
+  xs_long = count-is (take footing a) b end from gb up ub
 
   pub both_long : n ≡ end - from + count
-  both_long = omega (arith, r.count, length-append xs ys, xs_long, count-all (take ground a) d count gd ud)
+  both_long = omega (arith, r.count, length-append xs ys, xs_long, count-all (take footing a) d count gd ud)
 
-  module _ (a₁ : List ℕ) (e₁ : a₁ ≡ fixed_on m at n size e (boundary_bytes none (take ground a) e.lo) (boundary_bytes none (take ground a) e.hi) a) where
-    h₁ : Penning a ground image o e.prefix a₁ s q (xs ++ ys) (length a)
-    h₁ = fixed_pens a ground at m none none e (xs ++ ys) n size r a₁ e₁
+  module _ (a₁ : List ℕ) (e₁ : a₁ ≡ fixed_on m at n size e (boundary_bytes none (take footing a) e.lo) (boundary_bytes none (take footing a) e.hi) a) where
+    h₁ : Penning a footing image o e.prefix a₁ s q (xs ++ ys) (length a)
+    h₁ = fixed_pens a footing at m none none e (xs ++ ys) n size r a₁ e₁
 
-    pub one_asks : Judged (take ground a₁) b 1 × ((end ≤ b.elems) × Laid (length a₁) ground (at + slots_at) (at + slots_at + 4 * n + e.lo.len + e.hi.len) (at + box_len) e.prefix (index_entries (take ground a₁) b (end - from) from))
-    one_asks = rw h₁.drawing.same (gb, (ub, part-laid a ground image o e.prefix a₁ s q xs ys (length a) h₁))
+    pub one_asks : Judged (take footing a₁) b 1 × ((end ≤ b.elems) × Laid (length a₁) footing (at + slots_at) (at + slots_at + 4 * n + e.lo.len + e.hi.len) (at + box_len) e.prefix (index_entries (take footing a₁) b (end - from) from))
+    one_asks = rw h₁.drawing.same (gb, (ub, part-laid a footing image o e.prefix a₁ s q xs ys (length a) h₁))
 
-    module _ (k : ℕ) (a₂ : List ℕ) (ek : k ≡ at + slots_at + 4 * n + e.lo.len + e.hi.len + index_sums e.prefix (index_entries (take ground a₁) b (end - from) from))
-        (e₂ : a₂ ≡ draws a₁ (index_left (at + slots_at) (at + slots_at + 4 * n + e.lo.len + e.hi.len) (at + box_len) e.prefix (index_entries (take ground a₁) b (end - from) from))) where
-      h₂ : Penning a ground image o e.prefix a₂ (s + 4 * (end - from)) k ys (length a)
-      h₂ = part_turn a ground image o e.prefix a₁ s q xs ys (length a) h₁ a₂ (s + 4 * (end - from)) k (rw h₁.drawing.same at e₂) (omega (arith, xs_long)) (rw h₁.drawing.same at ek)
+    module _ (k : ℕ) (a₂ : List ℕ) (ek : k ≡ at + slots_at + 4 * n + e.lo.len + e.hi.len + index_sums e.prefix (index_entries (take footing a₁) b (end - from) from))
+        (e₂ : a₂ ≡ draws a₁ (index_left (at + slots_at) (at + slots_at + 4 * n + e.lo.len + e.hi.len) (at + box_len) e.prefix (index_entries (take footing a₁) b (end - from) from))) where
+      h₂ : Penning a footing image o e.prefix a₂ (s + 4 * (end - from)) k ys (length a)
+      h₂ = part_turn a footing image o e.prefix a₁ s q xs ys (length a) h₁ a₂ (s + 4 * (end - from)) k (rw h₁.drawing.same at e₂) (omega (arith, xs_long)) (rw h₁.drawing.same at ek)
 
-      pub two_asks : Judged (take ground a₂) d 1 × ((count ≤ d.elems) × Laid (length a₂) ground (at + slots_at + 4 * (end - from)) k (at + box_len) e.prefix (index_entries (take ground a₂) d (count - 0) 0))
-      two_asks = rw (all, h₂.drawing.same) (gd, (ud, pen_laid a ground image o e.prefix a₂ (s + 4 * (end - from)) k ys (length a) h₂))
+      pub two_asks : Judged (take footing a₂) d 1 × ((count ≤ d.elems) × Laid (length a₂) footing (at + slots_at + 4 * (end - from)) k (at + box_len) e.prefix (index_entries (take footing a₂) d (count - 0) 0))
+      two_asks = rw (all, h₂.drawing.same) (gd, (ud, pen_laid a footing image o e.prefix a₂ (s + 4 * (end - from)) k ys (length a) h₂))
 
-      pub pages_done : (a₃ : List ℕ) → a₃ ≡ draws a₂ (index_left (at + slots_at + 4 * (end - from)) k (at + box_len) e.prefix (index_entries (take ground a₂) d (count - 0) 0))
-          → a₃ ≡ put a at (index_image m (bounds_of none none (take ground a) e) (index_entries (take ground a) b (end - from) from ++ index_entries (take ground a) d count 0))
+      pub pages_done : (a₃ : List ℕ) → a₃ ≡ draws a₂ (index_left (at + slots_at + 4 * (end - from)) k (at + box_len) e.prefix (index_entries (take footing a₂) d (count - 0) 0))
+          → a₃ ≡ put a at (index_image m (bounds_of none none (take footing a) e) (index_entries (take footing a) b (end - from) from ++ index_entries (take footing a) d count 0))
       pages_done a₃ e₃ = let f = rw (all, h₂.drawing.same) at e₃ in f ∙ h₂.drawing.goes

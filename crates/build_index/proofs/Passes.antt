@@ -96,55 +96,55 @@ module _ (l w : List ℕ) (p : ℕ) (c₀ c : Cursor) (n : ℕ) (h : Summing l w
 
 -- ---- slots
 
-pub record Slotting (a₀ l : List ℕ) (ground : ℕ) (whole : List ℕ) (p : ℕ) (a : List ℕ) (c : Cursor) (to off : ℕ) : Type 0 where
-  pub writing : Writing a₀ ground whole a to (index_slots p off (entries l (take ground a₀) c))
-  pub long : Long p (entries l (take ground a₀) c)
-  pub small : off + index_sums p (entries l (take ground a₀) c) ≤ 4294967295
+pub record Slotting (a₀ l : List ℕ) (footing : ℕ) (whole : List ℕ) (p : ℕ) (a : List ℕ) (c : Cursor) (to off : ℕ) : Type 0 where
+  pub writing : Writing a₀ footing whole a to (index_slots p off (entries l (take footing a₀) c))
+  pub long : Long p (entries l (take footing a₀) c)
+  pub small : off + index_sums p (entries l (take footing a₀) c) ≤ 4294967295
 
-module _ (a₀ l : List ℕ) (ground : ℕ) (whole : List ℕ) (p : ℕ) (a : List ℕ) (c : Cursor) (to off : ℕ) (h : Slotting a₀ l ground whole p a c to off) where
-  pub slots_end : entries l (take ground a₀) c ≡ [] → a ≡ whole
-  slots_end e = finished a₀ ground whole a to _ h.writing (slots_nil p off (entries l (take ground a₀) c) e)
+module _ (a₀ l : List ℕ) (footing : ℕ) (whole : List ℕ) (p : ℕ) (a : List ℕ) (c : Cursor) (to off : ℕ) (h : Slotting a₀ l footing whole p a c to off) where
+  pub slots_end : entries l (take footing a₀) c ≡ [] → a ≡ whole
+  slots_end e = finished a₀ footing whole a to _ h.writing (slots_nil p off (entries l (take footing a₀) c) e)
 
-  module _ (i : EntryAt) (d : Cursor) (f : Found l (take ground a₀) c i d) where
+  module _ (i : EntryAt) (d : Cursor) (f : Found l (take footing a₀) c i d) where
     pub slot_asks : (i.key.plen + i.key.klen ≤ max_key) × (p ≤ i.key.plen + i.key.klen)
-    slot_asks = key_asks l (take ground a₀) p c i d f h.long
+    slot_asks = key_asks l (take footing a₀) p c i d f h.long
 
     pub slot-room : to + 4 ≤ length a
-    slot-room = room-le a₀ ground whole a to _ 4 off _ h.writing (slots-found l (take ground a₀) p c i d f off)
+    slot-room = room-le a₀ footing whole a to _ 4 off _ h.writing (slots-found l (take footing a₀) p c i d f off)
 
     module _ (k : ℕ) (e : k ≡ index_key_len p (i.key.plen + i.key.klen)) where
       pub off_small : off + (k + 8) ≤ 4294967295
-      off_small = omega (arith, e, h.small, sums-found l (take ground a₀) p c i d f)
+      off_small = omega (arith, e, h.small, sums-found l (take footing a₀) p c i d f)
 
-      pub slots_turn : (a₁ : List ℕ) → a₁ ≡ put a to (le 4 off) → Slotting a₀ l ground whole p a₁ d (to + 4) (off + (k + 8))
+      pub slots_turn : (a₁ : List ℕ) → a₁ ≡ put a to (le 4 off) → Slotting a₀ l footing whole p a₁ d (to + 4) (off + (k + 8))
       slots_turn a₁ q =
           record {
-            writing = rw e (wrote_le a₀ ground whole a to _ 4 off _ h.writing (slots-found l (take ground a₀) p c i d f off) a₁ (to + 4) q refl);
-            long = (longs l (take ground a₀) p c i d f h.long).1;
-            small = omega (arith, e, h.small, sums-found l (take ground a₀) p c i d f);
+            writing = rw e (wrote_le a₀ footing whole a to _ 4 off _ h.writing (slots-found l (take footing a₀) p c i d f off) a₁ (to + 4) q refl);
+            long = (longs l (take footing a₀) p c i d f h.long).1;
+            small = omega (arith, e, h.small, sums-found l (take footing a₀) p c i d f);
           }
 
 -- ---- records
 
-pub record Recording (a₀ l : List ℕ) (ground : ℕ) (whole : List ℕ) (p : ℕ) (a : List ℕ) (c : Cursor) (to : ℕ) : Type 0 where
-  pub writing : Writing a₀ ground whole a to (index_recs p (entries l (take ground a₀) c))
-  pub long : Long p (entries l (take ground a₀) c)
+pub record Recording (a₀ l : List ℕ) (footing : ℕ) (whole : List ℕ) (p : ℕ) (a : List ℕ) (c : Cursor) (to : ℕ) : Type 0 where
+  pub writing : Writing a₀ footing whole a to (index_recs p (entries l (take footing a₀) c))
+  pub long : Long p (entries l (take footing a₀) c)
 
-module _ (a₀ l : List ℕ) (ground : ℕ) (whole : List ℕ) (p : ℕ) (a : List ℕ) (c : Cursor) (to : ℕ) (h : Recording a₀ l ground whole p a c to) where
-  pub recs-end : entries l (take ground a₀) c ≡ [] → a ≡ whole
-  recs-end e = finished a₀ ground whole a to _ h.writing (recs_nil p (entries l (take ground a₀) c) e)
+module _ (a₀ l : List ℕ) (footing : ℕ) (whole : List ℕ) (p : ℕ) (a : List ℕ) (c : Cursor) (to : ℕ) (h : Recording a₀ l footing whole p a c to) where
+  pub recs-end : entries l (take footing a₀) c ≡ [] → a ≡ whole
+  recs-end e = finished a₀ footing whole a to _ h.writing (recs_nil p (entries l (take footing a₀) c) e)
 
-  module _ (i : EntryAt) (d : Cursor) (f : Found l (take ground a₀) c i d) where
-    pub rec_asks : (ground ≤ to) × (Placed l (take ground a) i × ((p ≤ i.key.plen + i.key.klen) × (to + length (index_rec p (entry_of l (take ground a) i)) ≤ length a)))
+  module _ (i : EntryAt) (d : Cursor) (f : Found l (take footing a₀) c i d) where
+    pub rec_asks : (footing ≤ to) × (Placed l (take footing a) i × ((p ≤ i.key.plen + i.key.klen) × (to + length (index_rec p (entry_of l (take footing a) i)) ≤ length a)))
     rec_asks =
         rw h.writing.same
-        (h.writing.over, (f.placed, ((key_asks l (take ground a₀) p c i d f h.long).1, front a₀ ground whole a to _ (index_rec p (entry_of l (take ground a₀) i)) _ h.writing (recs-found l (take ground a₀) p c i d f))))
+        (h.writing.over, (f.placed, ((key_asks l (take footing a₀) p c i d f h.long).1, front a₀ footing whole a to _ (index_rec p (entry_of l (take footing a₀) i)) _ h.writing (recs-found l (take footing a₀) p c i d f))))
 
-    pub recs_turn : (a₁ : List ℕ) (to₁ : ℕ) → to₁ ≡ to + length (index_rec p (entry_of l (take ground a) i)) → a₁ ≡ put a to (index_rec p (entry_of l (take ground a) i)) → Recording a₀ l ground whole p a₁ d to₁
+    pub recs_turn : (a₁ : List ℕ) (to₁ : ℕ) → to₁ ≡ to + length (index_rec p (entry_of l (take footing a) i)) → a₁ ≡ put a to (index_rec p (entry_of l (take footing a) i)) → Recording a₀ l footing whole p a₁ d to₁
     recs_turn a₁ to₁ et ea =
         record {
-          writing = wrote a₀ ground whole a to _ (index_rec p (entry_of l (take ground a₀) i)) _ a₁ to₁ h.writing (recs-found l (take ground a₀) p c i d f) (rw h.writing.same at ea) (rw h.writing.same at et);
-          long = (longs l (take ground a₀) p c i d f h.long).1;
+          writing = wrote a₀ footing whole a to _ (index_rec p (entry_of l (take footing a₀) i)) _ a₁ to₁ h.writing (recs-found l (take footing a₀) p c i d f) (rw h.writing.same at ea) (rw h.writing.same at et);
+          long = (longs l (take footing a₀) p c i d f h.long).1;
         }
 
 -- ---- one record
@@ -153,69 +153,69 @@ same-page : (l w : List ℕ) (i : EntryAt) → (entry_of l w i).page ≡ i.page.
 unfolding entry_of
 same-page l w i = refl
 
-module _ (l a : List ℕ) (ground at : ℕ) (i : EntryAt) (p : ℕ) (over : ground ≤ at) (q : Placed l (take ground a) i) (pl : p ≤ i.key.plen + i.key.klen)
-    (room : at + length (index_rec p (entry_of l (take ground a) i)) ≤ length a) where
+module _ (l a : List ℕ) (footing at : ℕ) (i : EntryAt) (p : ℕ) (over : footing ≤ at) (q : Placed l (take footing a) i) (pl : p ≤ i.key.plen + i.key.klen)
+    (room : at + length (index_rec p (entry_of l (take footing a) i)) ≤ length a) where
   abbrev whole : List ℕ
-  whole = put a at (index_rec p (entry_of l (take ground a) i))
+  whole = put a at (index_rec p (entry_of l (take footing a) i))
 
-  key-is : length (entry_of l (take ground a) i).key ≡ i.key.plen + i.key.klen
+  key-is : length (entry_of l (take footing a) i).key ≡ i.key.plen + i.key.klen
   unfolding entry_of
-  key-is = length-key (src_of l (take ground a) i.ground) i.key q.pre q.rest
+  key-is = length-key (src_of l (take footing a) i.footing) i.key q.pre q.rest
 
-  rest-is : length (drop p (entry_of l (take ground a) i).key) ≡ i.key.plen + i.key.klen - p
-  rest-is = length-drop p (entry_of l (take ground a) i).key ∙ ap (λ (k : ℕ). k - p) key-is
+  rest-is : length (drop p (entry_of l (take footing a) i).key) ≡ i.key.plen + i.key.klen - p
+  rest-is = length-drop p (entry_of l (take footing a) i).key ∙ ap (λ (k : ℕ). k - p) key-is
 
-  bytes : index_rec p (entry_of l (take ground a) i) ≡ uleb (i.key.plen + i.key.klen - p) ++ (drop p (entry_of l (take ground a) i).key ++ (le 8 i.page.0 ++ []))
+  bytes : index_rec p (entry_of l (take footing a) i) ≡ uleb (i.key.plen + i.key.klen - p) ++ (drop p (entry_of l (take footing a) i).key ++ (le 8 i.page.0 ++ []))
   unfolding index_rec index_key
   bytes =
-      append_assoc (uleb (length (drop p (entry_of l (take ground a) i).key))) (drop p (entry_of l (take ground a) i).key) (le 8 (entry_of l (take ground a) i).page)
-      ∙ ap (λ (k : ℕ). uleb k ++ (drop p (entry_of l (take ground a) i).key ++ le 8 (entry_of l (take ground a) i).page)) rest-is
-      ∙ ap (λ (x : List ℕ). uleb (i.key.plen + i.key.klen - p) ++ (drop p (entry_of l (take ground a) i).key ++ x)) (page-is ∙ sym (append-nil (le 8 i.page.0)))
+      append_assoc (uleb (length (drop p (entry_of l (take footing a) i).key))) (drop p (entry_of l (take footing a) i).key) (le 8 (entry_of l (take footing a) i).page)
+      ∙ ap (λ (k : ℕ). uleb k ++ (drop p (entry_of l (take footing a) i).key ++ le 8 (entry_of l (take footing a) i).page)) rest-is
+      ∙ ap (λ (x : List ℕ). uleb (i.key.plen + i.key.klen - p) ++ (drop p (entry_of l (take footing a) i).key ++ x)) (page-is ∙ sym (append-nil (le 8 i.page.0)))
     where
-      page-is : le 8 (entry_of l (take ground a) i).page ≡ le 8 i.page.0
-      page-is = ap (le 8) (same-page l (take ground a) i)
+      page-is : le 8 (entry_of l (take footing a) i).page ≡ le 8 i.page.0
+      page-is = ap (le 8) (same-page l (take footing a) i)
 
-  w0 : Writing a ground whole a at (index_rec p (entry_of l (take ground a) i))
-  w0 = begin a ground at _ over room
+  w0 : Writing a footing whole a at (index_rec p (entry_of l (take footing a) i))
+  w0 = begin a footing at _ over room
 
   front-room : at + length (uleb (i.key.plen + i.key.klen - p)) ≤ length a
-  front-room = front a ground whole a at _ (uleb (i.key.plen + i.key.klen - p)) _ w0 bytes
+  front-room = front a footing whole a at _ (uleb (i.key.plen + i.key.klen - p)) _ w0 bytes
 
   module _ (k : ℕ) (a₁ : List ℕ) (st : Stored true a at (uleb (i.key.plen + i.key.klen - p)) k a₁) where
-    w1 : Writing a ground whole a₁ (at + k) (drop p (entry_of l (take ground a) i).key ++ (le 8 i.page.0 ++ []))
+    w1 : Writing a footing whole a₁ (at + k) (drop p (entry_of l (take footing a) i).key ++ (le 8 i.page.0 ++ []))
     w1 =
-        wrote a ground whole a at _ (uleb (i.key.plen + i.key.klen - p)) _ a₁ (at + k) w0 bytes
+        wrote a footing whole a at _ (uleb (i.key.plen + i.key.klen - p)) _ a₁ (at + k) w0 bytes
         (stored_bytes true a at (uleb (i.key.plen + i.key.klen - p)) k a₁ st refl front-room)
         (ap (λ (n : ℕ). at + n) (stored-count true a at (uleb (i.key.plen + i.key.klen - p)) k a₁ st refl front-room))
 
     pub len_fits : at + k ≤ length a
     len_fits = omega (arith, w1.room, w1.long)
 
-    pub rest_needs : (ground ≤ at + k) × (Placed l (take ground a₁) i × ((p ≤ i.key.plen + i.key.klen) × (at + k + length (drop p (entry_of l (take ground a₁) i).key) ≤ length a₁)))
-    rest_needs = rw w1.same (w1.over, (q, (pl, front a ground whole a₁ (at + k) _ (drop p (entry_of l (take ground a) i).key) _ w1 refl)))
+    pub rest_needs : (footing ≤ at + k) × (Placed l (take footing a₁) i × ((p ≤ i.key.plen + i.key.klen) × (at + k + length (drop p (entry_of l (take footing a₁) i).key) ≤ length a₁)))
+    rest_needs = rw w1.same (w1.over, (q, (pl, front a footing whole a₁ (at + k) _ (drop p (entry_of l (take footing a) i).key) _ w1 refl)))
 
-    module _ (v : ℕ) (a₂ : List ℕ) (ev : v ≡ at + k + length (drop p (entry_of l (take ground a₁) i).key)) (e₂ : a₂ ≡ put a₁ (at + k) (drop p (entry_of l (take ground a₁) i).key)) where
-      w2 : Writing a ground whole a₂ v (le 8 i.page.0 ++ [])
-      w2 = wrote a ground whole a₁ (at + k) _ (drop p (entry_of l (take ground a) i).key) _ a₂ v w1 refl (rw w1.same at e₂) (rw w1.same at ev)
+    module _ (v : ℕ) (a₂ : List ℕ) (ev : v ≡ at + k + length (drop p (entry_of l (take footing a₁) i).key)) (e₂ : a₂ ≡ put a₁ (at + k) (drop p (entry_of l (take footing a₁) i).key)) where
+      w2 : Writing a footing whole a₂ v (le 8 i.page.0 ++ [])
+      w2 = wrote a footing whole a₁ (at + k) _ (drop p (entry_of l (take footing a) i).key) _ a₂ v w1 refl (rw w1.same at e₂) (rw w1.same at ev)
 
       pub id-room : v + 8 ≤ length a₂
-      id-room = room-le a ground whole a₂ v _ 8 i.page.0 [] w2 refl
+      id-room = room-le a footing whole a₂ v _ 8 i.page.0 [] w2 refl
 
       pub id-fits : v + 8 ≤ length a
       id-fits = omega (arith, id-room, w2.long)
 
-      pub rec-end : (a₃ : List ℕ) → a₃ ≡ put a₂ v (le 8 i.page.0) → (v + 8 ≡ at + length (index_rec p (entry_of l (take ground a) i))) × (a₃ ≡ whole)
+      pub rec-end : (a₃ : List ℕ) → a₃ ≡ put a₂ v (le 8 i.page.0) → (v + 8 ≡ at + length (index_rec p (entry_of l (take footing a) i))) × (a₃ ≡ whole)
       rec-end a₃ e₃ =
-          let w3 = wrote_le a ground whole a₂ v _ 8 i.page.0 [] w2 refl a₃ (v + 8) e₃ refl in (
+          let w3 = wrote_le a footing whole a₂ v _ 8 i.page.0 [] w2 refl a₃ (v + 8) e₃ refl in (
             omega (
               arith,
               ap length bytes,
-              length-append (uleb (i.key.plen + i.key.klen - p)) (drop p (entry_of l (take ground a) i).key ++ (le 8 i.page.0 ++ [])),
-              length-append (drop p (entry_of l (take ground a) i).key) (le 8 i.page.0 ++ []),
+              length-append (uleb (i.key.plen + i.key.klen - p)) (drop p (entry_of l (take footing a) i).key ++ (le 8 i.page.0 ++ [])),
+              length-append (drop p (entry_of l (take footing a) i).key) (le 8 i.page.0 ++ []),
               length-append (le 8 i.page.0) [],
               length-le 8 i.page.0,
               stored-count true a at (uleb (i.key.plen + i.key.klen - p)) k a₁ st refl front-room,
               rw w1.same at ev,
             ),
-            finished a ground whole a₃ (v + 8) [] w3 refl,
+            finished a footing whole a₃ (v + 8) [] w3 refl,
           )

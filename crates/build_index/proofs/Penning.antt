@@ -182,8 +182,8 @@ module _ (a₀ : List ℕ) (low : ℕ) (whole : List ℕ) (base p : ℕ) (a : Li
       pub rec-over : low ≤ rec
       rec-over = over a₀ low whole a₁ fore rec _ [] end slotted
 
-      pub ground-same : take low a₁ ≡ take low a₀
-      ground-same = slotted.same
+      pub footing-same : take low a₁ ≡ take low a₀
+      footing-same = slotted.same
 
       pub rec-room : rec + length (index_rec p e) ≤ length a₁
       rec-room = drew-room a₀ low whole a₁ fore rec _ (index_rec p e) (index_recs p fs) [] end slotted recs_are

@@ -30,8 +30,8 @@ fixed_on m at n size e lo hi a =
     (at + (box_len + size)) (replicate (at + frame_len size - (at + (box_len + size))) 0)
 
 -- there is room for it in an arena of this length
-pub record Fixes (long ground at : ℕ) (e : Boundaries) (n size : ℕ) : Type 0 where
-  pub over : ground ≤ at
+pub record Fixes (long footing at : ℕ) (e : Boundaries) (n size : ℕ) : Type 0 where
+  pub over : footing ≤ at
   pub few : n ≤ max_entries
   pub small : size ≤ max_size
   pub first : base_len + 4 * n + e.lo.len + e.hi.len ≤ size

@@ -25,13 +25,13 @@ unfoldable pub index_head : Call → ℕ → ℕ → ℕ → ℕ → ℕ → ℕ
 index_head m n size sibling lo hi prefix = page_bytes (page_box m size node_index 0 0) (base_of size n sibling lo hi prefix 1 0)
 
 -- what the writing rests on: the judge's numbers, and that they fit
-pub record Ready (a : List ℕ) (ground at : ℕ) (lo hi : List ℕ) (e : Boundaries) (es : List Entry) (n size : ℕ) : Type 0 where
-  pub over : ground ≤ at
-  pub inside : BothWithin lo hi (take ground a) e
+pub record Ready (a : List ℕ) (footing at : ℕ) (lo hi : List ℕ) (e : Boundaries) (es : List Entry) (n size : ℕ) : Type 0 where
+  pub over : footing ≤ at
+  pub inside : BothWithin lo hi (take footing a) e
   pub long : Long e.prefix es
   pub shared : e.prefix ≤ e.lo.len
   pub count : n ≡ length es
   pub few : n ≤ max_entries
-  pub whole : size ≡ index_size (bounds_of lo hi (take ground a) e) es
+  pub whole : size ≡ index_size (bounds_of lo hi (take footing a) e) es
   pub small : size ≤ max_size
   pub room : at + frame_len size ≤ length a

@@ -35,16 +35,16 @@ fn key_len(p: usize, n: usize) -> usize
 }
 
 // The size of all records.
-pub fn index_sums(list: &[u8], ground: &[u8], from: Cursor, p: usize) -> usize
-    requires long { Long p (entries list.now ground.now from) }
-    requires from_len_bound { length (entries list.now ground.now from) ≤ max_entries }
-    ensures value { result ≡ index_sums p (entries list.now ground.now from) }
+pub fn index_sums(list: &[u8], footing: &[u8], from: Cursor, p: usize) -> usize
+    requires long { Long p (entries list.now footing.now from) }
+    requires from_len_bound { length (entries list.now footing.now from) ≤ max_entries }
+    ensures value { result ≡ index_sums p (entries list.now footing.now from) }
     ensures upper_bound { result ≤ 269283315 }
 {
     let mut c = from;
     let mut n: usize = 0;
     loop {
-        let st = build_sources::next(list, ground, c);
+        let st = build_sources::next(list, footing, c);
         match st {
             EntryRead::Got(i, d) => {
                 n += key_len(p, i.key.plen + i.key.klen) + 8;
@@ -63,24 +63,24 @@ pub fn index_sums(list: &[u8], ground: &[u8], from: Cursor, p: usize) -> usize
 // The slots; first is the first record's offset.
 fn index_slots(
     a: &mut [u8],
-    ground: usize,
+    footing: usize,
     list: &[u8],
     from: Cursor,
     at: usize,
     first: usize,
     p: usize,
 )
-    requires ground_le_at { ground ≤ at }
-    requires long { Long p (entries list.now (take ground a.old) from) }
-    requires from_in_bounds { at + length (index_slots p first (entries list.now (take ground a.old) from)) ≤ length a.old }
-    requires from_bound { first + index_sums p (entries list.now (take ground a.old) from) ≤ 4294967295 }
-    ensures { a.new ≡ put a.old at (index_slots p first (entries list.now (take ground a.old) from)) }
+    requires footing_le_at { footing ≤ at }
+    requires long { Long p (entries list.now (take footing a.old) from) }
+    requires from_in_bounds { at + length (index_slots p first (entries list.now (take footing a.old) from)) ≤ length a.old }
+    requires from_bound { first + index_sums p (entries list.now (take footing a.old) from) ≤ 4294967295 }
+    ensures { a.new ≡ put a.old at (index_slots p first (entries list.now (take footing a.old) from)) }
 {
     let mut c = from;
     let mut to = at;
     let mut off = first;
     loop {
-        let st = build_sources::next(list, &a[..ground], c);
+        let st = build_sources::next(list, &a[..footing], c);
         match st {
             EntryRead::Got(i, d) => {
                 let n = key_len(p, i.key.plen + i.key.klen) + 8;
@@ -100,36 +100,36 @@ fn index_slots(
 }
 
 // A record: the key without its first p bytes, and the page id; the address past it.
-fn index_rec(a: &mut [u8], ground: usize, list: &[u8], i: EntryAt, at: usize, p: usize) -> usize
-    requires ground_le_at { ground ≤ at }
-    requires placed { Placed list.now (take ground a.old) i }
+fn index_rec(a: &mut [u8], footing: usize, list: &[u8], i: EntryAt, at: usize, p: usize) -> usize
+    requires footing_le_at { footing ≤ at }
+    requires placed { Placed list.now (take footing a.old) i }
     requires p_bound { p ≤ i.key.plen + i.key.klen }
-    requires i_in_bounds { at + length (index_rec p (entry_of list.now (take ground a.old) i)) ≤ length a.old }
-    ensures value { result ≡ at + length (index_rec p (entry_of list.now (take ground a.old) i)) }
-    ensures a_after { a.new ≡ put a.old at (index_rec p (entry_of list.now (take ground a.old) i)) }
+    requires i_in_bounds { at + length (index_rec p (entry_of list.now (take footing a.old) i)) ≤ length a.old }
+    ensures value { result ≡ at + length (index_rec p (entry_of list.now (take footing a.old) i)) }
+    ensures a_after { a.new ≡ put a.old at (index_rec p (entry_of list.now (take footing a.old) i)) }
 {
     let n = i.key.plen + i.key.klen - p;
     let id = i.page;
     let k = lengths::write(a, at, n as u32);
-    let v = build_heads::put_rest(a, ground, list, i, at + k, p);
+    let v = build_heads::put_rest(a, footing, list, i, at + k, p);
     numbers::put_u64(a, v, id.0);
     v + 8
 }
 
 // All records.
-fn index_recs(a: &mut [u8], ground: usize, list: &[u8], from: Cursor, at: usize, p: usize)
-    requires ground_le_at { ground ≤ at }
-    requires long { Long p (entries list.now (take ground a.old) from) }
-    requires from_in_bounds { at + length (index_recs p (entries list.now (take ground a.old) from)) ≤ length a.old }
-    ensures { a.new ≡ put a.old at (index_recs p (entries list.now (take ground a.old) from)) }
+fn index_recs(a: &mut [u8], footing: usize, list: &[u8], from: Cursor, at: usize, p: usize)
+    requires footing_le_at { footing ≤ at }
+    requires long { Long p (entries list.now (take footing a.old) from) }
+    requires from_in_bounds { at + length (index_recs p (entries list.now (take footing a.old) from)) ≤ length a.old }
+    ensures { a.new ≡ put a.old at (index_recs p (entries list.now (take footing a.old) from)) }
 {
     let mut c = from;
     let mut to = at;
     loop {
-        let st = build_sources::next(list, &a[..ground], c);
+        let st = build_sources::next(list, &a[..footing], c);
         match st {
             EntryRead::Got(i, d) => {
-                to = index_rec(a, ground, list, i, to, p);
+                to = index_rec(a, footing, list, i, to, p);
                 c = d;
             }
             EntryRead::End => {
@@ -163,7 +163,7 @@ fn index_head(a: &mut [u8], at: usize, m: Call, n: usize, size: usize, e: Bounda
 // A whole index page: n entries, size bytes.
 pub fn write_index(
     a: &mut [u8],
-    ground: usize,
+    footing: usize,
     list: &[u8],
     from: Cursor,
     at: usize,
@@ -174,8 +174,8 @@ pub fn write_index(
     hi: &[u8],
     e: Boundaries,
 )
-    requires { Ready a.old ground at lo.now hi.now e (entries list.now (take ground a.old) from) n size }
-    ensures { a.new ≡ put a.old at (index_image m (bounds_of lo.now hi.now (take ground a.old) e) (entries list.now (take ground a.old) from)) }
+    requires { Ready a.old footing at lo.now hi.now e (entries list.now (take footing a.old) from) n size }
+    ensures { a.new ≡ put a.old at (index_image m (bounds_of lo.now hi.now (take footing a.old) e) (entries list.now (take footing a.old) from)) }
 {
     let p = e.prefix;
     let x = e.lo;
@@ -185,13 +185,13 @@ pub fn write_index(
     let first = BaseHeader::HDR_LEN + 4 * n + j + k;
     index_head(a, at, m, n, size, e);
     let s = at + BaseHeader::SLOTS_AT;
-    index_slots(a, ground, list, from, s, first, p);
+    index_slots(a, footing, list, from, s, first, p);
     let q = s + 4 * n;
-    build_bounds::put_boundary(a, ground, lo, x, q);
+    build_bounds::put_boundary(a, footing, lo, x, q);
     let r = q + j;
-    build_bounds::put_boundary(a, ground, hi, y, r);
+    build_bounds::put_boundary(a, footing, hi, y, r);
     let t = r + k;
-    index_recs(a, ground, list, from, t, p);
+    index_recs(a, footing, list, from, t, p);
     let z = at + (BoxHeader::HDR_LEN + size);
     spans::zeros(
         a,
@@ -243,7 +243,7 @@ fn pen_list(a: &mut [u8], list: &[u8], slots: usize, recs: usize, base: usize, p
 // What stands around the slots and the records: headers, boundaries and rounding.
 fn index_fixed(
     a: &mut [u8],
-    ground: usize,
+    footing: usize,
     at: usize,
     m: Call,
     n: usize,
@@ -252,17 +252,17 @@ fn index_fixed(
     hi: &[u8],
     e: Boundaries,
 )
-    requires fixes { Fixes (length a.old) ground at e n size }
-    requires both_within { BothWithin lo.now hi.now (take ground a.old) e }
-    ensures { a.new ≡ fixed_on m at n size e (boundary_bytes lo.now (take ground a.old) e.lo) (boundary_bytes hi.now (take ground a.old) e.hi) a.old }
+    requires fixes { Fixes (length a.old) footing at e n size }
+    requires both_within { BothWithin lo.now hi.now (take footing a.old) e }
+    ensures { a.new ≡ fixed_on m at n size e (boundary_bytes lo.now (take footing a.old) e.lo) (boundary_bytes hi.now (take footing a.old) e.hi) a.old }
 {
     let x = e.lo;
     let y = e.hi;
     index_head(a, at, m, n, size, e);
     let q = at + BaseHeader::SLOTS_AT + 4 * n;
-    build_bounds::put_boundary(a, ground, lo, x, q);
+    build_bounds::put_boundary(a, footing, lo, x, q);
     let r = q + x.len;
-    build_bounds::put_boundary(a, ground, hi, y, r);
+    build_bounds::put_boundary(a, footing, hi, y, r);
     let z = at + (BoxHeader::HDR_LEN + size);
     let end = at + frames::frame_len(size as u32);
     spans::zeros(a, z, end - z);
@@ -271,7 +271,7 @@ fn index_fixed(
 // A whole index page of an index list: n entries, size bytes.
 pub fn write_list(
     a: &mut [u8],
-    ground: usize,
+    footing: usize,
     list: &[u8],
     at: usize,
     m: Call,
@@ -282,12 +282,12 @@ pub fn write_list(
     e: Boundaries,
 )
     requires first_of_value { well_formed list.now [] (first_of 1) ≡ true }
-    requires ready { Ready a.old ground at lo.now hi.now e (listed list.now 1) n size }
-    ensures { a.new ≡ put a.old at (index_image m (bounds_of lo.now hi.now (take ground a.old) e) (listed list.now 1)) }
+    requires ready { Ready a.old footing at lo.now hi.now e (listed list.now 1) n size }
+    ensures { a.new ≡ put a.old at (index_image m (bounds_of lo.now hi.now (take footing a.old) e) (listed list.now 1)) }
 {
     let x = e.lo;
     let y = e.hi;
-    index_fixed(a, ground, at, m, n, size, lo, hi, e);
+    index_fixed(a, footing, at, m, n, size, lo, hi, e);
     let s = at + BaseHeader::SLOTS_AT;
     let r = s + 4 * n + x.len + y.len;
     pen_list(a, list, s, r, at + BoxHeader::HDR_LEN, e.prefix);
@@ -365,7 +365,7 @@ fn pen_page(
 // A whole index page of the children from..end of one page and the first of another: n entries, size bytes.
 pub fn write_pages(
     a: &mut [u8],
-    ground: usize,
+    footing: usize,
     b: Body,
     from: usize,
     end: usize,
@@ -378,18 +378,18 @@ pub fn write_pages(
     none: &[u8],
     e: Boundaries,
 )
-    requires judged { Judged (take ground a.old) b 1 × Judged (take ground a.old) d 1 }
+    requires judged { Judged (take footing a.old) b 1 × Judged (take footing a.old) d 1 }
     requires from_le_end { (from ≤ end) × (end ≤ b.elems) × (count ≤ d.elems) }
-    requires ready { Ready a.old ground at none.now none.now e (index_entries (take ground a.old) b (end - from) from ++ index_entries (take ground a.old) d count 0) n size }
-    ensures { a.new ≡ put a.old at (index_image m (bounds_of none.now none.now (take ground a.old) e) (index_entries (take ground a.old) b (end - from) from ++ index_entries (take ground a.old) d count 0)) }
+    requires ready { Ready a.old footing at none.now none.now e (index_entries (take footing a.old) b (end - from) from ++ index_entries (take footing a.old) d count 0) n size }
+    ensures { a.new ≡ put a.old at (index_image m (bounds_of none.now none.now (take footing a.old) e) (index_entries (take footing a.old) b (end - from) from ++ index_entries (take footing a.old) d count 0)) }
 {
     let x = e.lo;
     let y = e.hi;
-    index_fixed(a, ground, at, m, n, size, none, none, e);
+    index_fixed(a, footing, at, m, n, size, none, none, e);
     let s = at + BaseHeader::SLOTS_AT;
     let r = s + 4 * n + x.len + y.len;
     let base = at + BoxHeader::HDR_LEN;
-    let k = pen_page(a, ground, b, from, end, s, r, base, e.prefix);
+    let k = pen_page(a, footing, b, from, end, s, r, base, e.prefix);
     let t = s + 4 * (end - from);
-    let _ = pen_page(a, ground, d, 0, count, t, k, base, e.prefix);
+    let _ = pen_page(a, footing, d, 0, count, t, k, base, e.prefix);
 }

@@ -33,7 +33,7 @@ module _ (room at pages remotes aged : ℕ) (a : List ℕ) where
 
 -- ---- the rest
 
-module _ (a : List ℕ) (ground : ℕ) (m : Call) (t : Totals) (e : Boundaries) (remote : ℕ) (lo hi : List ℕ) (f : Fixes (length a) ground t e remote) (w : BothWithin lo hi (take ground a) e) where
+module _ (a : List ℕ) (footing : ℕ) (m : Call) (t : Totals) (e : Boundaries) (remote : ℕ) (lo hi : List ℕ) (f : Fixes (length a) footing t e remote) (w : BothWithin lo hi (take footing a) e) where
   abbrev leaf : ℕ
   leaf = t.leaf
 
@@ -53,34 +53,34 @@ module _ (a : List ℕ) (ground : ℕ) (m : Call) (t : Totals) (e : Boundaries) 
   fixed_fits = (omega (arith, f.first, f.inside, f.end), (omega (arith, f.inside), f.end))
 
   module _ (a₁ : List ℕ) (e₁ : a₁ ≡ put a leaf (leaf_head m t e)) where
-    same₁ : take ground a₁ ≡ take ground a
-    same₁ = ap (take ground) e₁ ∙ take_put ground a leaf (leaf_head m t e) f.over
+    same₁ : take footing a₁ ≡ take footing a
+    same₁ = ap (take footing) e₁ ∙ take_put footing a leaf (leaf_head m t e) f.over
 
     long₁ : length a₁ ≡ length a
     long₁ = ap length e₁ ∙ length-put a leaf (leaf_head m t e)
 
-    pub lo_asks : (ground ≤ x) × ((x + e.lo.len ≤ length a₁) × Within lo (take ground a₁) e.lo)
-    lo_asks = (omega (arith, f.over), (omega (arith, long₁, fixed_fits.0), rw same₁ w.ground))
+    pub lo_asks : (footing ≤ x) × ((x + e.lo.len ≤ length a₁) × Within lo (take footing a₁) e.lo)
+    lo_asks = (omega (arith, f.over), (omega (arith, long₁, fixed_fits.0), rw same₁ w.footing))
 
-    module _ (a₂ : List ℕ) (e₂ : a₂ ≡ put a₁ x (boundary_bytes lo (take ground a₁) e.lo)) where
-      f₂ : a₂ ≡ put a₁ x (boundary_bytes lo (take ground a) e.lo)
+    module _ (a₂ : List ℕ) (e₂ : a₂ ≡ put a₁ x (boundary_bytes lo (take footing a₁) e.lo)) where
+      f₂ : a₂ ≡ put a₁ x (boundary_bytes lo (take footing a) e.lo)
       f₂ = rw same₁ at e₂
 
-      same₂ : take ground a₂ ≡ take ground a
-      same₂ = ap (take ground) f₂ ∙ take_put ground a₁ x (boundary_bytes lo (take ground a) e.lo) (omega (arith, f.over)) ∙ same₁
+      same₂ : take footing a₂ ≡ take footing a
+      same₂ = ap (take footing) f₂ ∙ take_put footing a₁ x (boundary_bytes lo (take footing a) e.lo) (omega (arith, f.over)) ∙ same₁
 
       long₂ : length a₂ ≡ length a
-      long₂ = ap length f₂ ∙ length-put a₁ x (boundary_bytes lo (take ground a) e.lo) ∙ long₁
+      long₂ = ap length f₂ ∙ length-put a₁ x (boundary_bytes lo (take footing a) e.lo) ∙ long₁
 
-      pub hi_asks : (ground ≤ y) × ((y + e.hi.len ≤ length a₂) × Within hi (take ground a₂) e.hi)
+      pub hi_asks : (footing ≤ y) × ((y + e.hi.len ≤ length a₂) × Within hi (take footing a₂) e.hi)
       hi_asks = (omega (arith, f.over), (omega (arith, long₂, fixed_fits.0), rw same₂ w.high))
 
-      module _ (a₃ : List ℕ) (e₃ : a₃ ≡ put a₂ y (boundary_bytes hi (take ground a₂) e.hi)) where
-        f₃ : a₃ ≡ put a₂ y (boundary_bytes hi (take ground a) e.hi)
+      module _ (a₃ : List ℕ) (e₃ : a₃ ≡ put a₂ y (boundary_bytes hi (take footing a₂) e.hi)) where
+        f₃ : a₃ ≡ put a₂ y (boundary_bytes hi (take footing a) e.hi)
         f₃ = rw same₂ at e₃
 
         long₃ : length a₃ ≡ length a
-        long₃ = ap length f₃ ∙ length-put a₂ y (boundary_bytes hi (take ground a) e.hi) ∙ long₂
+        long₃ = ap length f₃ ∙ length-put a₂ y (boundary_bytes hi (take footing a) e.hi) ∙ long₂
 
         pub pad_asks : q + t.room + (remote - (q + t.room)) ≤ length a₃
         pad_asks = omega (arith, long₃, f.inside, f.end)
@@ -90,9 +90,9 @@ module _ (a : List ℕ) (ground : ℕ) (m : Call) (t : Totals) (e : Boundaries) 
           counts_asks = (omega (arith, ap length e₄, length-put a₃ (q + t.room) (replicate (remote - (q + t.room)) 0), long₃, f.inside, f.end), (omega (arith, f.small.size), (f.hints, f.few)))
 
           pub fixed_done : (a₅ : List ℕ) → a₅ ≡ hints_set t.room q t.pages t.remotes a₄
-              → a₅ ≡ fixed_on m t e remote (boundary_bytes lo (take ground a) e.lo) (boundary_bytes hi (take ground a) e.hi) a
+              → a₅ ≡ fixed_on m t e remote (boundary_bytes lo (take footing a) e.lo) (boundary_bytes hi (take footing a) e.hi) a
           fixed_done a₅ e₅ =
               e₅
               ∙ ap (hints_set t.room q t.pages t.remotes)
               (e₄ ∙ ap (λ (b : List ℕ). put b (q + t.room) (replicate (remote - (q + t.room)) 0))
-              (f₃ ∙ ap (λ (b : List ℕ). put b y (boundary_bytes hi (take ground a) e.hi)) (f₂ ∙ ap (λ (b : List ℕ). put b x (boundary_bytes lo (take ground a) e.lo)) e₁)))
+              (f₃ ∙ ap (λ (b : List ℕ). put b y (boundary_bytes hi (take footing a) e.hi)) (f₂ ∙ ap (λ (b : List ℕ). put b x (boundary_bytes lo (take footing a) e.lo)) e₁)))

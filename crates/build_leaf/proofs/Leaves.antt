@@ -32,32 +32,32 @@ use Rattle.build_leaf.proofs.Listed.{opened-same, pen_asks}
 abbrev held : List ℕ → Body → ℕ → ℕ → Body → ℕ → List Entry
 held w b from end d n = leaf_entries w b (end - from) from ++ leaf_entries w d n 0
 
-module _ (b : Body) (from end : ℕ) (d : Body) (n : ℕ) (a : List ℕ) (ground at : ℕ) (m : Call) (t : Totals) (lo hi : List ℕ) (e : Boundaries) (over : ground ≤ at) (sm : Small t e)
-    (in₁ : BothWithin lo hi (take ground a) e) (long : Long e.prefix (held (take ground a) b from end d n)) (few : length (held (take ground a) b from end d n) ≤ max_entries)
-    (te : t ≡ totals_of m (bounds_of lo hi (take ground a) e) at (held (take ground a) b from end d n)) (en : t.end ≤ length a) (x : ℕ) (ex : x ≡ frame_len (t.size + t.room))
+module _ (b : Body) (from end : ℕ) (d : Body) (n : ℕ) (a : List ℕ) (footing at : ℕ) (m : Call) (t : Totals) (lo hi : List ℕ) (e : Boundaries) (over : footing ≤ at) (sm : Small t e)
+    (in₁ : BothWithin lo hi (take footing a) e) (long : Long e.prefix (held (take footing a) b from end d n)) (few : length (held (take footing a) b from end d n) ≤ max_entries)
+    (te : t ≡ totals_of m (bounds_of lo hi (take footing a) e) at (held (take footing a) b from end d n)) (en : t.end ≤ length a) (x : ℕ) (ex : x ≡ frame_len (t.size + t.room))
     (k : HintPlaces) (ek : k ≡ hint_places t.room (t.leaf + (box_len + t.size)) t.pages t.aged) (a₁ : List ℕ)
-    (e₁ : a₁ ≡ fixed_on m t e (t.leaf + x) (boundary_bytes lo (take ground a) e.lo) (boundary_bytes hi (take ground a) e.hi) a) where
+    (e₁ : a₁ ≡ fixed_on m t e (t.leaf + x) (boundary_bytes lo (take footing a) e.lo) (boundary_bytes hi (take footing a) e.hi) a) where
   abbrev es : List Entry
-  es = held (take ground a) b from end d n
+  es = held (take footing a) b from end d n
 
-  same : take ground a₁ ≡ take ground a
-  same = opened-same es a ground at m t lo hi e over sm in₁ long few te en x ex k ek a₁ e₁
+  same : take footing a₁ ≡ take footing a
+  same = opened-same es a footing at m t lo hi e over sm in₁ long few te en x ex k ek a₁ e₁
 
-  pub still_judged : (c : Body) → Judged (take ground a) c 0 → Judged (take ground a₁) c 0
+  pub still_judged : (c : Body) → Judged (take footing a) c 0 → Judged (take footing a₁) c 0
   still_judged c j = subst (λ (w : List ℕ). Judged w c 0) (sym same) j
 
   module _ (o : Opened) (eo : o ≡ opened_at at t e (t.leaf + x) k) where
-    pub leaves_asks : AllLaid ground (length a₁) o.pen o.nib o.hint (t.leaf + box_len) m e.prefix (held (take ground a₁) b from end d n)
+    pub leaves_asks : AllLaid footing (length a₁) o.pen o.nib o.hint (t.leaf + box_len) m e.prefix (held (take footing a₁) b from end d n)
     leaves_asks =
-        subst (λ (w : List ℕ). AllLaid ground (length a₁) o.pen o.nib o.hint (t.leaf + box_len) m e.prefix (held w b from end d n)) (sym same)
-        (pen_asks es a ground at m t lo hi e over sm in₁ long few te en x ex k ek a₁ e₁ ground (omega arith) o eo)
+        subst (λ (w : List ℕ). AllLaid footing (length a₁) o.pen o.nib o.hint (t.leaf + box_len) m e.prefix (held w b from end d n)) (sym same)
+        (pen_asks es a footing at m t lo hi e over sm in₁ long few te en x ex k ek a₁ e₁ footing (omega arith) o eo)
 
     module _ (p : Penned) (ep : p ≡ record { pen = o.pen; nib = o.nib; hint = o.hint }) where
-      pub leaves-end : (z : ℕ) → z ≡ recs_end m e.prefix p (held (take ground a₁) b from end d n)
+      pub leaves-end : (z : ℕ) → z ≡ recs_end m e.prefix p (held (take footing a₁) b from end d n)
           → z ≡ o.nib.rec + length (head_recs m.limit e.prefix o.nib.remote (places_at m.limit m.budget o.pen.loc (olds es)) es)
       leaves-end z ez = ez ∙ ap (λ (w : List ℕ). recs_end m e.prefix p (held w b from end d n)) same ∙ ap (λ (q : Penned). recs_end m e.prefix q es) ep
 
-      pub leaves-drawn : (a₂ : List ℕ) → a₂ ≡ left_of m p (t.leaf + box_len) e.prefix (held (take ground a₁) b from end d n) a₁
+      pub leaves-drawn : (a₂ : List ℕ) → a₂ ≡ left_of m p (t.leaf + box_len) e.prefix (held (take footing a₁) b from end d n) a₁
           → a₂ ≡ draws a₁ (all_left m o.pen o.nib o.hint (t.leaf + box_len) e.prefix es)
       leaves-drawn a₂ ea =
           ea ∙ ap (λ (w : List ℕ). left_of m p (t.leaf + box_len) e.prefix (held w b from end d n) a₁) same ∙ ap (λ (q : Penned). left_of m q (t.leaf + box_len) e.prefix es a₁) ep

@@ -76,11 +76,11 @@ no_room : (m : Call) (es : List Entry) → leaf_room m es ≡ 0 → length (cuts
 unfolding leaf_room room_of
 no_room m es h = room_by (eqb (length (cuts_of m es) + counted m.limit es) 0) (length (cuts_of m es)) (counted m.limit es) refl h
 
-module _ (es : List Entry) (a : List ℕ) (ground at : ℕ) (m : Call) (t : Totals) (lo hi : List ℕ) (e : Boundaries) (over : ground ≤ at) (sm : Small t e)
-    (in₁ : BothWithin lo hi (take ground a) e) (long : Long e.prefix es) (few : length es ≤ max_entries)
-    (te : t ≡ totals_of m (bounds_of lo hi (take ground a) e) at es) (en : t.end ≤ length a) where
+module _ (es : List Entry) (a : List ℕ) (footing at : ℕ) (m : Call) (t : Totals) (lo hi : List ℕ) (e : Boundaries) (over : footing ≤ at) (sm : Small t e)
+    (in₁ : BothWithin lo hi (take footing a) e) (long : Long e.prefix es) (few : length es ≤ max_entries)
+    (te : t ≡ totals_of m (bounds_of lo hi (take footing a) e) at es) (en : t.end ≤ length a) where
   abbrev b : Borders
-  b = bounds_of lo hi (take ground a) e
+  b = bounds_of lo hi (take footing a) e
 
   abbrev image : List ℕ
   image = put a at (leaf_image m b at es)
@@ -94,11 +94,11 @@ module _ (es : List Entry) (a : List ℕ) (ground at : ℕ) (m : Call) (t : Tota
   sizes : t.size + t.room ≡ leaf_size m b es + leaf_room m es
   sizes = omega (arith, ts.size, ts.room)
 
-  lo-long : e.lo.len ≡ length (boundary_bytes lo (take ground a) e.lo)
-  lo-long = sym (length_boundary lo (take ground a) e.lo in₁.ground)
+  lo-long : e.lo.len ≡ length (boundary_bytes lo (take footing a) e.lo)
+  lo-long = sym (length_boundary lo (take footing a) e.lo in₁.footing)
 
-  hi-long : e.hi.len ≡ length (boundary_bytes hi (take ground a) e.hi)
-  hi-long = sym (length_boundary hi (take ground a) e.hi in₁.high)
+  hi-long : e.hi.len ≡ length (boundary_bytes hi (take footing a) e.hi)
+  hi-long = sym (length_boundary hi (take footing a) e.hi in₁.high)
 
   abbrev hist : List ℕ
   hist = history_at m at (olds es)
@@ -155,7 +155,7 @@ module _ (es : List Entry) (a : List ℕ) (ground at : ℕ) (m : Call) (t : Tota
           ),
         )
 
-    pub fixes : Fixes (length a) ground t e remote
+    pub fixes : Fixes (length a) footing t e remote
     fixes =
         record {
           over = omega (arith, over, leaf_is);
@@ -197,17 +197,17 @@ module _ (es : List Entry) (a : List ℕ) (ground at : ℕ) (m : Call) (t : Tota
     frame_is =
         frame_open m b at leaf remote es t e ts.count ts.olds ts.size ts.room lo-long hi-long refl refl (ap (λ (n : ℕ). leaf + n) ex) rounding (omega (arith, ex))
 
-    begin : Drawing a ground image a (stretch at (hist ++ (leaf_frame m b at leaf es ++ remote_frames m (heads es))) ∷ []) (length a)
+    begin : Drawing a footing image a (stretch at (hist ++ (leaf_frame m b at leaf es ++ remote_frames m (heads es))) ∷ []) (length a)
     begin =
-        subst (λ (z : List ℕ). Drawing a ground image a (stretch at z ∷ []) (length a)) opened
-        (draw_begin a ground at (leaf_image m b at es) over (omega (arith, length_leaf_image m b at es, ts.end, ts.leaf, ap (λ (n : ℕ). frame_len n) sizes, en)))
+        subst (λ (z : List ℕ). Drawing a footing image a (stretch at z ∷ []) (length a)) opened
+        (draw_begin a footing at (leaf_image m b at es) over (omega (arith, length_leaf_image m b at es, ts.end, ts.leaf, ap (λ (n : ℕ). frame_len n) sizes, en)))
 
     abbrev drawn_so_far : List ℕ
     drawn_so_far = put (put (put (put a leaf (leaf_head m t e)) (s + 4 * t.heads) b.lo) (s + 4 * t.heads + e.lo.len) b.hi) (q + t.room) (replicate rounding 0)
 
-    cuts : Drawing a ground image drawn_so_far (stretch at hist ∷ stretch s slots ∷ stretch rec recs ∷ stretch (rec + length recs) tail ∷ stretch q hs ∷ stretch remote (remote_frames m (heads es)) ∷ []) (length a)
+    cuts : Drawing a footing image drawn_so_far (stretch at hist ∷ stretch s slots ∷ stretch rec recs ∷ stretch (rec + length recs) tail ∷ stretch q hs ∷ stretch remote (remote_frames m (heads es)) ∷ []) (length a)
     cuts =
-        pieces a ground image hist (leaf_head m t e) slots b.lo b.hi recs tail hs (replicate rounding 0) (remote_frames m (heads es)) (leaf_frame m b at leaf es)
+        pieces a footing image hist (leaf_head m t e) slots b.lo b.hi recs tail hs (replicate rounding 0) (remote_frames m (heads es)) (leaf_frame m b at leaf es)
         at leaf s (s + 4 * t.heads) (s + 4 * t.heads + e.lo.len) rec (rec + length recs) q (q + t.room) remote (length a) begin frame_is
         leaf_is (omega (arith, length_leaf_head m t e)) (omega (arith, length_head_slots m.limit e.prefix es (recs_at t e), ts.count)) (omega (arith, lo-long)) (omega (arith, hi-long)) refl
         (omega (arith, recs_fit, length-replicate {A = ℕ} (t.size - (recs_at t e + length recs)) 0))
@@ -220,15 +220,15 @@ module _ (es : List Entry) (a : List ℕ) (ground at : ℕ) (m : Call) (t : Tota
             no_zero n f z = let w : ◌≡◌ {A = Bool} true false = sym (ap (λ (k : ℕ). eqb k 0) z) ∙ f in let y : ◌≡◌ {A = ℕ} 0 1 = cc in omega arith
 
     module _ (k : HintPlaces) (ek : k ≡ hint_places t.room q t.pages t.aged) (a₁ : List ℕ)
-        (e₁ : a₁ ≡ fixed_on m t e remote (boundary_bytes lo (take ground a) e.lo) (boundary_bytes hi (take ground a) e.hi) a) where
-      left : Drawing a ground image a₁
+        (e₁ : a₁ ≡ fixed_on m t e remote (boundary_bytes lo (take footing a) e.lo) (boundary_bytes hi (take footing a) e.hi) a) where
+      left : Drawing a footing image a₁
           (stretch at hist ∷ stretch s slots ∷ stretch rec recs ∷ stretch (rec + length recs) tail ∷ stretch k.pages (les 8 ps) ∷ stretch k.olds (les 8 xs) ∷ stretch k.heads (les 8 ys) ∷ stretch remote (remote_frames m (heads es)) ∷ [])
           (length a)
       left =
-          hint-left a ground image drawn_so_far (stretch at hist) (stretch s slots) (stretch rec recs) (stretch (rec + length recs) tail) (stretch remote (remote_frames m (heads es))) q t.room t.pages t.remotes t.aged (length a) ps xs ys
+          hint-left a footing image drawn_so_far (stretch at hist) (stretch s slots) (stretch rec recs) (stretch (rec + length recs) tail) (stretch remote (remote_frames m (heads es))) q t.room t.pages t.remotes t.aged (length a) ps xs ys
           ps_long remotes-long ts.aged no_hints hints_fit cuts k ek a₁ e₁
 
-      pub opened-same : take ground a₁ ≡ take ground a
+      pub opened-same : take footing a₁ ≡ take footing a
       opened-same = left.same
 
       -- the pen at its begin
@@ -261,8 +261,8 @@ module _ (es : List Entry) (a : List ℕ) (ground at : ℕ) (m : Call) (t : Tota
           rw (z.0, z.1.0, z.1.1, no_addrs, places_is, off_is) refl
 
       -- what the pen asks, with any mark below the leaf
-      module _ (low : ℕ) (lw : low ≤ ground) where
-        thin_out : Rising ground (stretch at hist ∷ stretch s slots ∷ stretch rec recs ∷ stretch (rec + length recs) tail ∷ stretch k.pages (les 8 ps) ∷ stretch k.olds (les 8 xs) ∷ stretch k.heads (les 8 ys) ∷ stretch remote (remote_frames m (heads es)) ∷ []) (length a)
+      module _ (low : ℕ) (lw : low ≤ footing) where
+        thin_out : Rising footing (stretch at hist ∷ stretch s slots ∷ stretch rec recs ∷ stretch (rec + length recs) tail ∷ stretch k.pages (les 8 ps) ∷ stretch k.olds (les 8 xs) ∷ stretch k.heads (les 8 ys) ∷ stretch remote (remote_frames m (heads es)) ∷ []) (length a)
             → length a ≤ length a₁ → Rising low (stretch at [] ∷ stretch at [] ∷ stretch at [] ∷ stretches) (length a₁)
         thin_out (i₀, (i₁, (i₂, (i₃, (i₄, (i₅, (i₆, (i₇, i₈)))))))) h =
             (omega (arith, lw, over), (omega arith, (omega arith, (omega arith, (i₁, (i₂, (omega (arith, i₃, i₄), (i₅, (i₆, (i₇, omega (arith, i₈, h)))))))))))
@@ -300,7 +300,7 @@ module _ (es : List Entry) (a : List ℕ) (ground at : ℕ) (m : Call) (t : Tota
             let n : q - z ≡ t.size - (recs_at t e + length recs) = omega (arith, z_is, recs_fit) in (
               refl,
               e₃ ∙ ap (λ (w : ℕ). put a₂ z (replicate w 0)) n ∙ ap (λ (w : ℕ). put a₂ w tail) z_is ∙ ap (λ (w : List ℕ). put w (rec + length recs) tail) drawn-is
-                  ∙ later ground a₁ (stretch at hist ∷ stretch s slots ∷ stretch rec recs ∷ []) (rec + length recs) tail
+                  ∙ later footing a₁ (stretch at hist ∷ stretch s slots ∷ stretch rec recs ∷ []) (rec + length recs) tail
                   (stretch k.pages (les 8 ps) ∷ stretch k.olds (les 8 xs) ∷ stretch k.heads (les 8 ys) ∷ stretch remote (remote_frames m (heads es)) ∷ []) (length a) left.order
                   ∙ left.goes,
             )

@@ -32,8 +32,8 @@ fixed_on m t e remote lo hi a =
     (t.leaf + (box_len + t.size) + t.room) (replicate (remote - (t.leaf + (box_len + t.size) + t.room)) 0))
 
 -- there is room for it in an arena of this length
-pub record Fixes (long ground : ℕ) (t : Totals) (e : Boundaries) (remote : ℕ) : Type 0 where
-  pub over : ground ≤ t.leaf
+pub record Fixes (long footing : ℕ) (t : Totals) (e : Boundaries) (remote : ℕ) : Type 0 where
+  pub over : footing ≤ t.leaf
   pub small : Small t e
   pub count : t.heads ≤ max_entries
   pub first : recs_at t e ≤ t.size

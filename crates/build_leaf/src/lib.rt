@@ -98,7 +98,7 @@ fn hint_counts(a: &mut [u8], at: usize, t: Totals) -> HintPlaces
 // All of a leaf's frame that no entry tells; where its hints stand.
 fn leaf_fixed(
     a: &mut [u8],
-    ground: usize,
+    footing: usize,
     m: Call,
     t: Totals,
     remote: usize,
@@ -106,19 +106,19 @@ fn leaf_fixed(
     hi: &[u8],
     e: Boundaries,
 ) -> HintPlaces
-    requires fixes { Fixes (length a.old) ground t e remote }
-    requires both_within { BothWithin lo.now hi.now (take ground a.old) e }
+    requires fixes { Fixes (length a.old) footing t e remote }
+    requires both_within { BothWithin lo.now hi.now (take footing a.old) e }
     ensures value { result ≡ hint_places t.room (t.leaf + (box_len + t.size)) t.pages t.aged }
-    ensures a_after { a.new ≡ fixed_on m t e remote (boundary_bytes lo.now (take ground a.old) e.lo) (boundary_bytes hi.now (take ground a.old) e.hi) a.old }
+    ensures a_after { a.new ≡ fixed_on m t e remote (boundary_bytes lo.now (take footing a.old) e.lo) (boundary_bytes hi.now (take footing a.old) e.hi) a.old }
 {
     let leaf = t.leaf;
     let l = e.lo;
     let h = e.hi;
     leaf_head(a, leaf, m, t, e);
     let x = leaf + BaseHeader::SLOTS_AT + 4 * t.heads;
-    build_bounds::put_boundary(a, ground, lo, l, x);
+    build_bounds::put_boundary(a, footing, lo, l, x);
     let y = x + l.len;
-    build_bounds::put_boundary(a, ground, hi, h, y);
+    build_bounds::put_boundary(a, footing, hi, h, y);
     let q = leaf + (BoxHeader::HDR_LEN + t.size);
     let w = q + t.room;
     spans::zeros(a, w, remote - w);
@@ -136,7 +136,7 @@ pub struct Opened {
 // A leaf opened for the pen: all of its frame that no entry tells is stored, and its history stands from at on.
 fn leaf_open(
     a: &mut [u8],
-    ground: usize,
+    footing: usize,
     at: usize,
     m: Call,
     t: Totals,
@@ -144,16 +144,16 @@ fn leaf_open(
     hi: &[u8],
     e: Boundaries,
 ) -> Opened
-    requires fixes { Fixes (length a.old) ground t e (t.leaf + frame_len (t.size + t.room)) }
-    requires both_within { BothWithin lo.now hi.now (take ground a.old) e }
+    requires fixes { Fixes (length a.old) footing t e (t.leaf + frame_len (t.size + t.room)) }
+    requires both_within { BothWithin lo.now hi.now (take footing a.old) e }
     ensures value { result ≡ opened_at at t e (t.leaf + frame_len (t.size + t.room)) (hint_places t.room (t.leaf + (box_len + t.size)) t.pages t.aged) }
-    ensures a_after { a.new ≡ fixed_on m t e (t.leaf + frame_len (t.size + t.room)) (boundary_bytes lo.now (take ground a.old) e.lo) (boundary_bytes hi.now (take ground a.old) e.hi) a.old }
+    ensures a_after { a.new ≡ fixed_on m t e (t.leaf + frame_len (t.size + t.room)) (boundary_bytes lo.now (take footing a.old) e.lo) (boundary_bytes hi.now (take footing a.old) e.hi) a.old }
 {
     let leaf = t.leaf;
     let l = e.lo;
     let h = e.hi;
     let remote = leaf + frames::frame_len((t.size + t.room) as u32);
-    let k = leaf_fixed(a, ground, m, t, remote, lo, hi, e);
+    let k = leaf_fixed(a, footing, m, t, remote, lo, hi, e);
     let pen = Pen {
         loc: Loc {
             page: 0,
@@ -184,7 +184,7 @@ fn leaf_open(
 // The whole leaf of a record list from this address on, its entries by the pen; the leaf's own address.
 pub fn write_list(
     a: &mut [u8],
-    ground: usize,
+    footing: usize,
     list: &[u8],
     at: usize,
     m: Call,
@@ -193,20 +193,20 @@ pub fn write_list(
     hi: &[u8],
     e: Boundaries,
 ) -> usize
-    requires ground_le_at { ground ≤ at }
+    requires footing_le_at { footing ≤ at }
     requires sane { Sane m }
     requires small { Small t e }
-    requires both_within { BothWithin lo.now hi.now (take ground a.old) e }
+    requires both_within { BothWithin lo.now hi.now (take footing a.old) e }
     requires well { Well list.now 5 }
     requires long { Long e.prefix (list_from list.now 5) }
     requires list_len_bound { length (list_from list.now 5) ≤ max_entries }
-    requires t_value { t ≡ totals_of m (bounds_of lo.now hi.now (take ground a.old) e) at (list_from list.now 5) }
+    requires t_value { t ≡ totals_of m (bounds_of lo.now hi.now (take footing a.old) e) at (list_from list.now 5) }
     requires end_in_bounds { t.end ≤ length a.old }
     ensures value { result ≡ t.leaf }
-    ensures a_after { a.new ≡ put a.old at (leaf_image m (bounds_of lo.now hi.now (take ground a.old) e) at (list_from list.now 5)) }
+    ensures a_after { a.new ≡ put a.old at (leaf_image m (bounds_of lo.now hi.now (take footing a.old) e) at (list_from list.now 5)) }
 {
     let leaf = t.leaf;
-    let o = leaf_open(a, ground, at, m, t, lo, hi, e);
+    let o = leaf_open(a, footing, at, m, t, lo, hi, e);
     let base = leaf + BoxHeader::HDR_LEN;
     let z = build_pen::pen_all(a, list, 5, o.pen, o.nib, o.hint, base, m, e.prefix);
     let q = leaf + (BoxHeader::HDR_LEN + t.size);
@@ -217,7 +217,7 @@ pub fn write_list(
 // The whole leaf of heads from..end of one sound leaf and n heads of another, both below ground, from this address on; the leaf's own address.
 pub fn write_leaves(
     a: &mut [u8],
-    ground: usize,
+    footing: usize,
     b: Body,
     from: usize,
     end: usize,
@@ -229,21 +229,21 @@ pub fn write_leaves(
     none: &[u8],
     e: Boundaries,
 ) -> usize
-    requires ground_le_at { ground ≤ at }
+    requires footing_le_at { footing ≤ at }
     requires sane { Sane m }
     requires small { Small t e }
-    requires both_within { BothWithin none.now none.now (take ground a.old) e }
-    requires judged { Judged (take ground a.old) b 0 × Judged (take ground a.old) d 0 }
+    requires both_within { BothWithin none.now none.now (take footing a.old) e }
+    requires judged { Judged (take footing a.old) b 0 × Judged (take footing a.old) d 0 }
     requires end_le_elems { (end ≤ b.elems) × (n ≤ d.elems) }
-    requires long { Long e.prefix (leaf_entries (take ground a.old) b (end - from) from ++ leaf_entries (take ground a.old) d n 0) }
-    requires n_len_bound { length (leaf_entries (take ground a.old) b (end - from) from ++ leaf_entries (take ground a.old) d n 0) ≤ max_entries }
-    requires t_value { t ≡ totals_of m (bounds_of none.now none.now (take ground a.old) e) at (leaf_entries (take ground a.old) b (end - from) from ++ leaf_entries (take ground a.old) d n 0) }
+    requires long { Long e.prefix (leaf_entries (take footing a.old) b (end - from) from ++ leaf_entries (take footing a.old) d n 0) }
+    requires n_len_bound { length (leaf_entries (take footing a.old) b (end - from) from ++ leaf_entries (take footing a.old) d n 0) ≤ max_entries }
+    requires t_value { t ≡ totals_of m (bounds_of none.now none.now (take footing a.old) e) at (leaf_entries (take footing a.old) b (end - from) from ++ leaf_entries (take footing a.old) d n 0) }
     requires end_in_bounds { t.end ≤ length a.old }
     ensures value { result ≡ t.leaf }
-    ensures a_after { a.new ≡ put a.old at (leaf_image m (bounds_of none.now none.now (take ground a.old) e) at (leaf_entries (take ground a.old) b (end - from) from ++ leaf_entries (take ground a.old) d n 0)) }
+    ensures a_after { a.new ≡ put a.old at (leaf_image m (bounds_of none.now none.now (take footing a.old) e) at (leaf_entries (take footing a.old) b (end - from) from ++ leaf_entries (take footing a.old) d n 0)) }
 {
     let leaf = t.leaf;
-    let o = leaf_open(a, ground, at, m, t, none, none, e);
+    let o = leaf_open(a, footing, at, m, t, none, none, e);
     let base = leaf + BoxHeader::HDR_LEN;
     let p = e.prefix;
     let pen = o.pen;
@@ -253,7 +253,7 @@ pub fn write_leaves(
         nib: nib,
         hint: o.hint,
     };
-    let z = build_page_pen::pen_leaves(a, ground, b, from, end, d, n, x, base, m, p);
+    let z = build_page_pen::pen_leaves(a, footing, b, from, end, d, n, x, base, m, p);
     let q = leaf + (BoxHeader::HDR_LEN + t.size);
     spans::zeros(a, z, q - z);
     leaf

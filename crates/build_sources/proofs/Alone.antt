@@ -17,7 +17,7 @@ record Same (l w : List ℕ) (c : Cursor) : Type 0 where
   list : entries l w c ≡ entries l [] c
   well : well_formed l w c ≡ well_formed l [] c
 
-item_alone : (l w : List ℕ) (i : EntryAt) → i.ground ≡ false → entry_of l w i ≡ entry_of l [] i
+item_alone : (l w : List ℕ) (i : EntryAt) → i.footing ≡ false → entry_of l w i ≡ entry_of l [] i
 unfolding entry_of
 item_alone l w i e = rw e refl
 

@@ -26,11 +26,11 @@ use Rattle.build_sources.proofs.Paged.{left-small}
 use Rattle.build_sources.proofs.Sourced.{Found}
 
 -- the key of an entry, by where it lies
-pub key_of_lem : (l w : List ℕ) (i : EntryAt) (b : Bool) → i.ground ≡ b → key_bytes (src_of l w b) i.key ≡ (entry_of l w i).key
+pub key_of_lem : (l w : List ℕ) (i : EntryAt) (b : Bool) → i.footing ≡ b → key_bytes (src_of l w b) i.key ≡ (entry_of l w i).key
 unfolding entry_of
 key_of_lem l w i b e = rw e refl
 
-pub by_keys : (l w : List ℕ) (a b : EntryAt) (x y : Bool) (o : Order) → a.ground ≡ x → b.ground ≡ y
+pub by_keys : (l w : List ℕ) (a b : EntryAt) (x y : Bool) (o : Order) → a.footing ≡ x → b.footing ≡ y
     → o ≡ cmp_bytes (key_bytes (src_of l w x) a.key) (key_bytes (src_of l w y) b.key) → o ≡ cmp_bytes (entry_of l w a).key (entry_of l w b).key
 by_keys l w a b x y o p q h = h ∙ rw (key_of_lem l w a x p, key_of_lem l w b y q) refl
 

@@ -46,7 +46,7 @@ module _ (s : List ℕ) (c : Cursor) where
       index_cut h = simp (sym ek, le-leb (c.at + 2) (length s) h₁, le-leb k max_key h₂, lt-leb (c.at + 2 + (k + 8)) (length s) h)
 
       pub index_found : c.at + 2 + (k + 8) ≤ length s → (o : Bool) (w : Ver) (x : ℕ) → o ≡ same_key s c (list_key (c.at + 2) k) → w ≡ ver_of 0 0 → x ≡ be_at 8 s (c.at + 2 + k)
-          → At (record { ground = false; old = o; key = list_key (c.at + 2) k; ver = w; vat = 0; vlen = 0; kept = addr 0; page = page_id x }) (c.at + 2 + k + 8) ≡ index_at s c
+          → At (record { footing = false; old = o; key = list_key (c.at + 2) k; ver = w; vat = 0; vlen = 0; kept = addr 0; page = page_id x }) (c.at + 2 + k + 8) ≡ index_at s c
       unfolding index_at
       index_found h o w x eo ew ex =
           rw (eo, ew, ex) (simp (sym ek, le-leb (c.at + 2) (length s) h₁, le-leb k max_key h₂, le-leb (c.at + 2 + (k + 8)) (length s) h))
@@ -63,7 +63,7 @@ module _ (s : List ℕ) (c : Cursor) where
 
         pub record_found : v ≤ max_value → c.at + 2 + k + 16 + v ≤ length s → (o : Bool) (w : Ver) (x y : ℕ) → o ≡ same_key s c (list_key (c.at + 2) k) → w ≡ ver_of x y
             → x ≡ be_at 8 s (c.at + 2 + k) → y ≡ be_at 4 s (c.at + 2 + k + 8)
-            → At (record { ground = false; old = o; key = list_key (c.at + 2) k; ver = w; vat = c.at + 2 + k + 16; vlen = v; kept = addr 0; page = page_id 0 }) (c.at + 2 + k + 16 + v) ≡ record_at s c
+            → At (record { footing = false; old = o; key = list_key (c.at + 2) k; ver = w; vat = c.at + 2 + k + 16; vlen = v; kept = addr 0; page = page_id 0 }) (c.at + 2 + k + 16 + v) ≡ record_at s c
         unfolding record_at
         record_found h g o w x y eo ew ex ey =
             rw (eo, ew, ex, ey)

@@ -51,7 +51,7 @@ unfolding be_at
 be_at_lt l i k f h = omega (arith, of_be_lt (part l i k) (bytes-part l i k h), ap (λ (m : ℕ). 256 ^ m) (length_part l i k f))
 
 record Listed (l : List ℕ) (c : Cursor) (i : EntryAt) : Type 0 where
-  ground : i.ground ≡ false
+  footing : i.footing ≡ false
   old : i.old ≡ same_key l c i.key
   kept : i.kept.0 ≡ 0
   txid : Bytes l → i.ver.txid < 256 ^ 8
@@ -78,7 +78,7 @@ record_listed l c i past e =
     let x : record_item l c k v ≡ i = cc in
     rw (← x)
     (record {
-      ground = refl;
+      footing = refl;
       old = refl;
       kept = refl;
       txid = λ b. be_at_lt l (c.at + 2 + be_at 2 l c.at) 8 (omega arith) b;
@@ -96,7 +96,7 @@ index_listed l c i past e =
     let h : c.at + 2 + (be_at 2 l c.at + 8) ≤ length l = leb-true _ _ a₃.0 in
     let x : index_item l c k ≡ i = cc in
     rw (← x)
-    (record { ground = refl; old = refl; kept = refl; txid = λ b. omega arith; cmd = λ b. omega arith; page = λ b. be_at_lt l (c.at + 2 + be_at 2 l c.at) 8 (omega arith) b })
+    (record { footing = refl; old = refl; kept = refl; txid = λ b. omega arith; cmd = λ b. omega arith; page = λ b. be_at_lt l (c.at + 2 + be_at 2 l c.at) 8 (omega arith) b })
 
 -- an entry of an index list has no version
 index_plain : (l : List ℕ) (c : Cursor) (i : EntryAt) (past : ℕ) → index_at l c ≡ At i past → i.ver ≡ ver_of 0 0
@@ -130,8 +130,8 @@ stepped false c Out i d e = absurd (no_step e)
 -- ---- what a step of any source tells of its item and of the cursor behind it
 
 pub record Stepped (l w : List ℕ) (c : Cursor) (i : EntryAt) (d : Cursor) : Type 0 where
-  pub ground : i.ground ≡ eqb c.source 2
-  pub old : i.old ≡ same_key (src_of l w i.ground) c i.key
+  pub footing : i.footing ≡ eqb c.source 2
+  pub old : i.old ≡ same_key (src_of l w i.footing) c i.key
   pub seen : d.seen ≡ true
   pub key : d.key ≡ i.key
   pub source : d.source ≡ c.source
@@ -142,7 +142,7 @@ list_stepped l w c i d n e =
     let g = stepped (leb (length l) c.at) c (spot_at l c) i d e in
     let t = spot_listed l c i g.0 g.1 in (
       t,
-      rw (← g.2) (record { ground = t.ground ∙ sym (ne_eqb c.source 2 n); old = rw t.ground t.old; seen = refl; key = refl; source = refl }),
+      rw (← g.2) (record { footing = t.footing ∙ sym (ne_eqb c.source 2 n); old = rw t.footing t.old; seen = refl; key = refl; source = refl }),
     )
 
 -- a page's cursor in front of its first record keeps what it carried
@@ -177,7 +177,7 @@ module _ (l w : List ℕ) (c : Cursor) (i : EntryAt) (d : Cursor) (k : c.source 
       let a₅ = ask (leb value.len max_value) (Got (page_item w c rest ver value kept page) (page_past c rest v)) Bad (Got i d) no_step a₄.1 in
       let ei : page_item w c rest ver value kept page ≡ i = cc in
       let ed : page_past c rest v ≡ d = cc in
-      rw (← ei, ← ed) (record { ground = sym (eq-eqb c.source 2 k); old = refl; seen = refl; key = refl; source = refl })
+      rw (← ei, ← ed) (record { footing = sym (eq-eqb c.source 2 k); old = refl; seen = refl; key = refl; source = refl })
 
   of_stepped : (st : Step) → walked_of w c st ≡ Got i d → Stepped l w c i d
   of_stepped (Step.Found x v) e = item_stepped x.key x.ver x.value x.remote (page_id 0) v e
@@ -206,8 +206,8 @@ pages_stepped l w c i d k e = go (walked w c) refl e
         let t = first_turns w c c.then (addr 0) f q in
         let s = walked_stepped l w f i d (t.source ∙ k) g in
         record {
-          ground = s.ground ∙ ap (λ (n : ℕ). eqb n 2) t.source;
-          old = s.old ∙ same-carried (src_of l w i.ground) c f i.key t.seen t.key;
+          footing = s.footing ∙ ap (λ (n : ℕ). eqb n 2) t.source;
+          old = s.old ∙ same-carried (src_of l w i.footing) c f i.key t.seen t.key;
           seen = s.seen;
           key = s.key;
           source = s.source ∙ t.source;
@@ -303,11 +303,11 @@ record Behind (l w : List ℕ) (a : Entry) (c : Cursor) : Type 0 where
 module _ (l w : List ℕ) where
   old-behind : (a : Entry) (c : Cursor) (i : EntryAt) (d : Cursor) → Behind l w a c → next_of l w c ≡ Got i d → (entry_of l w i).old ≡ is_equal (cmp_bytes a.key (entry_of l w i).key)
   unfolding entry_of same_key
-  old-behind a c i d b e = let s = step_tells l w c i d e in s.old ∙ rw (b.seen, ← b.key, s.ground)
+  old-behind a c i d b e = let s = step_tells l w c i d e in s.old ∙ rw (b.seen, ← b.key, s.footing)
 
   goes-behind : (c : Cursor) (i : EntryAt) (d : Cursor) → next_of l w c ≡ Got i d → Behind l w (entry_of l w i) d
   unfolding entry_of
-  goes-behind c i d e = let s = step_tells l w c i d e in record { seen = s.seen; key = rw (s.source, s.key, ← s.ground) }
+  goes-behind c i d e = let s = step_tells l w c i d e in record { seen = s.seen; key = rw (s.source, s.key, ← s.footing) }
 
   from_step : (a : Entry) (c : Cursor) → Behind l w a c → ((e : Entry) (d : Cursor) → left_of l w d < left_of l w c → Behind l w e d → MarkedFrom e (entries l w d)) → MarkedFrom a (entries l w c)
   unfolding MarkedFrom

@@ -37,7 +37,7 @@ use Rattle.build_sources.specs.Source.{Placed}
 module _ (w : List ℕ) (c : Cursor) (rest : Place) (ver : Ver) (value : Place) (kept : Addr) (page : PageId) (v : Walk) where
   pub item_found : leb (c.pre.at + c.pre.len) (length w) ≡ true → leb (rest.at + rest.len) (length w) ≡ true → leb (value.at + value.len) (length w) ≡ true
       → c.pre.len + rest.len ≤ max_key → value.len ≤ max_value → (o : Bool) → o ≡ same_key w c (page_key c rest)
-      → Got (record { ground = true; old = o; key = page_key c rest; ver = ver; vat = value.at; vlen = value.len; kept = kept; page = page }) (page_past c rest v)
+      → Got (record { footing = true; old = o; key = page_key c rest; ver = ver; vat = value.at; vlen = value.len; kept = kept; page = page }) (page_past c rest v)
       ≡ item_at w c rest ver value kept page v
   unfolding item_at
   item_found a b d e f o h = rw (h, a, b, d, le-leb (c.pre.len + rest.len) max_key e, le-leb value.len max_value f) refl
@@ -135,7 +135,7 @@ left-small c = go (leb c.walk.heads max_entries) refl (leb c.walk.older.left 429
 
 record Walked (l w : List ℕ) (c : Cursor) (i : EntryAt) (d : Cursor) : Type 0 where
   placed : Placed l w i
-  ground : i.ground ≡ true
+  footing : i.footing ≡ true
   sane : (c.walk.heads ≤ max_entries) × (c.walk.older.left ≤ 4294967295)
   source : d.source ≡ c.source
   then : d.then ≡ c.then
@@ -158,7 +158,7 @@ module _ (l w : List ℕ) (c : Cursor) (p : c.walk.heads ≤ max_entries) (q : c
       rw (← ei, ← ed)
       (record {
         placed = record { pre = leb-true _ _ a₁.0; rest = leb-true _ _ a₂.0; val = leb-true _ _ a₃.0; ksmall = leb-true _ _ a₄.0; vsmall = leb-true _ _ a₅.0 };
-        ground = refl;
+        footing = refl;
         sane = (p, q);
         source = refl;
         then = refl;
@@ -182,13 +182,13 @@ walked-is l w c i d e =
 
 pub record Falls (l w : List ℕ) (c : Cursor) (i : EntryAt) (d : Cursor) : Type 0 where
   pub placed : Placed l w i
-  pub ground : i.ground ≡ true
+  pub footing : i.footing ≡ true
   pub source : d.source ≡ c.source
   pub falls : pages_left d < pages_left c
 
 -- on the same page
 same-page : (l w : List ℕ) (c : Cursor) (i : EntryAt) (d : Cursor) → Walked l w c i d → Falls l w c i d
-same-page l w c i d h = record { placed = h.placed; ground = h.ground; source = h.source; falls = by (leb d.walk.older.left 4294967295) refl (eqb d.walk.heads c.walk.heads) refl }
+same-page l w c i d h = record { placed = h.placed; footing = h.footing; source = h.source; falls = by (leb d.walk.older.left 4294967295) refl (eqb d.walk.heads c.walk.heads) refl }
   where
     more : ℕ
     more = cond (eqb c.then.0 0) 0 281474976710656
@@ -232,7 +232,7 @@ module _ (l w : List ℕ) (c : Cursor) (i : EntryAt) (d : Cursor) where
       on n (Started.From f) q g =
           let t = first_then (whole_at w c.then) (bounds_at w c.then) f q in
           let k = walked-is l w f i d g in
-          record { placed = k.placed; ground = k.ground; source = k.source ∙ t.1; falls = omega (arith, at-end e n, left-last d (ap (λ (a : Addr). a.0) (k.then ∙ t.0))) }
+          record { placed = k.placed; footing = k.footing; source = k.source ∙ t.1; falls = omega (arith, at-end e n, left-last d (ap (λ (a : Addr). a.0) (k.then ∙ t.0))) }
       on n Started.Bad q g = absurd (no g)
 
       ends : (t : Bool) → eqb c.then.0 0 ≡ t → cond t End (turned_of w (page_first w c c.then (addr 0))) ≡ Got i d → Falls l w c i d

@@ -32,7 +32,7 @@ use Rattle.build_sources.proofs.Paged.{pages_fall}
 -- ---- where an item of a list lies
 
 record Lying (s : List ℕ) (at : ℕ) (i : EntryAt) (past : ℕ) : Type 0 where
-  same : i.ground ≡ false
+  same : i.footing ≡ false
   pre : i.key.pat + i.key.plen ≤ length s
   rest : i.key.kat + i.key.klen ≤ length s
   val : i.vat + i.vlen ≤ length s
@@ -93,7 +93,7 @@ stepped false c (At j past) i d e = (past, cc, cc)
 stepped false c Out i d e = absurd (let z : ◌≡◌ {A = ℕ} 0 1 = cc in omega arith)
 
 -- an entry of a list: it lies in the lent slice, whatever the ground, and the cursor past it reads the same list
-pub list_item : (l w : List ℕ) (c : Cursor) (i : EntryAt) (d : Cursor) → (c.source ≡ 2 → ⊥) → next_of l w c ≡ Got i d → (i.ground ≡ false) × (d.source ≡ c.source)
+pub list_item : (l w : List ℕ) (c : Cursor) (i : EntryAt) (d : Cursor) → (c.source ≡ 2 → ⊥) → next_of l w c ≡ Got i d → (i.footing ≡ false) × (d.source ≡ c.source)
 unfolding next_of list_next
 list_item l w c i d n e =
     let g = stepped (leb (length l) c.at) c (spot_at l c) i d (sym (rw (ne_eqb c.source 2 n) refl) ∙ e) in
@@ -166,11 +166,11 @@ module _ (l w : List ℕ) where
 
   key-long : (i : EntryAt) → Placed l w i → length (entry_of l w i).key ≡ i.key.plen + i.key.klen
   unfolding entry_of
-  key-long i p = length-key (src_of l w i.ground) i.key p.pre p.rest
+  key-long i p = length-key (src_of l w i.footing) i.key p.pre p.rest
 
   val-long : (i : EntryAt) → Placed l w i → length (entry_of l w i).val ≡ i.vlen
   unfolding entry_of
-  val-long i p = length_part (src_of l w i.ground) i.vat i.vlen p.val
+  val-long i p = length_part (src_of l w i.footing) i.vat i.vlen p.val
 
   pub found : (c : Cursor) (i : EntryAt) (d : Cursor) → next_of l w c ≡ Got i d → Found l w c i d
   unfolding after

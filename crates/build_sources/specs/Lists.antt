@@ -47,7 +47,7 @@ same_key s c k = cond c.seen (is_equal (cmp_bytes (key_bytes s c.key) (key_bytes
 abbrev pub record_item : List ℕ → Cursor → ℕ → ℕ → EntryAt
 record_item s c k v =
     record {
-      ground = false;
+      footing = false;
       old = same_key s c (list_key (c.at + 2) k);
       key = list_key (c.at + 2) k;
       ver = ver_of (be_at 8 s (c.at + 2 + k)) (be_at 4 s (c.at + 2 + k + 8));
@@ -77,7 +77,7 @@ record_at s c =
 abbrev pub index_item : List ℕ → Cursor → ℕ → EntryAt
 index_item s c k =
     record {
-      ground = false;
+      footing = false;
       old = same_key s c (list_key (c.at + 2) k);
       key = list_key (c.at + 2) k;
       ver = ver_of 0 0;

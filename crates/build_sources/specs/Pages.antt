@@ -48,7 +48,7 @@ page_key c rest = record { pat = c.pre.at; plen = c.pre.len; kat = rest.at; klen
 abbrev pub page_item : List ℕ → Cursor → Place → Ver → Place → Addr → PageId → EntryAt
 page_item w c rest ver value kept page =
     record {
-      ground = true;
+      footing = true;
       old = same_key w c (page_key c rest);
       key = page_key c rest;
       ver = ver;

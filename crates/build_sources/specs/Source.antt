@@ -64,9 +64,9 @@ left_of l w c = cond (eqb c.source 2) (pages_left c) (length l - c.at)
 
 -- an item lies in its slice, and keeps document 01's lengths
 pub record Placed (l w : List ℕ) (i : EntryAt) : Type 0 where
-  pub pre : i.key.pat + i.key.plen ≤ length (src_of l w i.ground)
-  pub rest : i.key.kat + i.key.klen ≤ length (src_of l w i.ground)
-  pub val : i.vat + i.vlen ≤ length (src_of l w i.ground)
+  pub pre : i.key.pat + i.key.plen ≤ length (src_of l w i.footing)
+  pub rest : i.key.kat + i.key.klen ≤ length (src_of l w i.footing)
+  pub val : i.vat + i.vlen ≤ length (src_of l w i.footing)
   pub ksmall : i.key.plen + i.key.klen ≤ max_key
   pub vsmall : i.vlen ≤ max_value
 
@@ -76,9 +76,9 @@ unfolding key_bytes part
 entry_of l w i =
     record {
       old = i.old;
-      key = key_bytes (src_of l w i.ground) i.key;
+      key = key_bytes (src_of l w i.footing) i.key;
       ver = i.ver;
-      val = part (src_of l w i.ground) i.vat i.vlen;
+      val = part (src_of l w i.footing) i.vat i.vlen;
       kept = i.kept.0;
       page = i.page.0;
     }

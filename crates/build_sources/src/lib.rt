@@ -49,7 +49,7 @@ impl Cursor {
 // Where an entry lies: below the free address (ground) or in the lent slice. `old` says that its key is that of the entry before.
 #[derive(Clone, Copy)]
 pub struct EntryAt {
-    pub ground: bool,
+    pub footing: bool,
     pub old: bool,
     pub key: Key,
     pub ver: Ver,
@@ -182,12 +182,12 @@ fn begins_in(s: &[u8], k: Key, pre: &[u8]) -> bool
 }
 
 // Whether an entry's key begins with pre.
-fn key_begins(list: &[u8], ground: &[u8], i: EntryAt, pre: &[u8]) -> bool
-    ensures { result ≡ starts_with pre.now (entry_of list.now ground.now i).key }
+fn key_begins(list: &[u8], footing: &[u8], i: EntryAt, pre: &[u8]) -> bool
+    ensures { result ≡ starts_with pre.now (entry_of list.now footing.now i).key }
 {
     let k = i.key;
-    if i.ground {
-        return begins_in(ground, k, pre);
+    if i.footing {
+        return begins_in(footing, k, pre);
     }
     begins_in(list, k, pre)
 }
@@ -353,7 +353,7 @@ fn record_at(
     );
     Spot::At(
         EntryAt {
-            ground: false,
+            footing: false,
             old: old,
             key: k,
             ver: v,
@@ -397,7 +397,7 @@ fn index_at(s: &[u8], c: Cursor) -> Spot
     let page = PageId(numbers::read_u64_be(s, tat));
     Spot::At(
         EntryAt {
-            ground: false,
+            footing: false,
             old: old,
             key: k,
             ver: v,
@@ -453,23 +453,23 @@ fn list_next(list: &[u8], c: Cursor) -> EntryRead
 // ---- pages below the free address
 
 // A walk over a whole page.
-fn whole(ground: &[u8], a: Addr) -> walks::Begun
-    ensures { result ≡ whole_at ground.now a }
+fn whole(footing: &[u8], a: Addr) -> walks::Begun
+    ensures { result ≡ whole_at footing.now a }
 {
-    let Opened::Is(b) = frames::open_at(ground, a) else {
+    let Opened::Is(b) = frames::open_at(footing, a) else {
         return walks::Begun::Refused(Refusal::BadFrame);
     };
-    walks::forward(ground, a, 0, b.elems)
+    walks::forward(footing, a, 0, b.elems)
 }
 
 // The cursor in front of a page's first record, with another page behind it or none; the key before stays.
-fn page_first(ground: &[u8], c: Cursor, a: Addr, then: Addr) -> Started
-    ensures { result ≡ page_first ground.now c a then }
+fn page_first(footing: &[u8], c: Cursor, a: Addr, then: Addr) -> Started
+    ensures { result ≡ page_first footing.now c a then }
 {
-    let walks::Begun::Is(v) = whole(ground, a) else {
+    let walks::Begun::Is(v) = whole(footing, a) else {
         return Started::Bad;
     };
-    let BoundsRead::Is(e) = pages::bounds_at(ground, a) else {
+    let BoundsRead::Is(e) = pages::bounds_at(footing, a) else {
         return Started::Bad;
     };
     let key = c.key;
@@ -486,15 +486,15 @@ fn page_first(ground: &[u8], c: Cursor, a: Addr, then: Addr) -> Started
 }
 
 // Opens two pages, the left one first.
-pub fn open_pages(ground: &[u8], left: Addr, right: Addr) -> Started
-    ensures { result ≡ page_first ground.now (first_of 2) left right }
+pub fn open_pages(footing: &[u8], left: Addr, right: Addr) -> Started
+    ensures { result ≡ page_first footing.now (first_of 2) left right }
 {
-    page_first(ground, first_of(Cursor::PAGES), left, right)
+    page_first(footing, first_of(Cursor::PAGES), left, right)
 }
 
 // A walk's record as an entry, with the cursor past it; none where a place lies outside or keeps no length of document 01.
 fn item_at(
-    ground: &[u8],
+    footing: &[u8],
     c: Cursor,
     rest: Place,
     ver: Ver,
@@ -503,9 +503,9 @@ fn item_at(
     page: PageId,
     v: Walk,
 ) -> EntryRead
-    ensures { result ≡ item_at ground.now c rest ver value kept page v }
+    ensures { result ≡ item_at footing.now c rest ver value kept page v }
 {
-    let n = ground.len();
+    let n = footing.len();
     let pre = c.pre;
     let then = c.then;
     if !spans::room(n, pre.at, pre.len) {
@@ -529,10 +529,10 @@ fn item_at(
         kat: rest.at,
         klen: rest.len,
     };
-    let old = same_key(ground, c, k);
+    let old = same_key(footing, c, k);
     EntryRead::Got(
         EntryAt {
-            ground: true,
+            footing: true,
             old: old,
             key: k,
             ver: ver,
@@ -554,8 +554,8 @@ fn item_at(
 }
 
 // The next record of the page that a cursor walks; its counts are those of a page.
-fn walk_next(ground: &[u8], c: Cursor) -> EntryRead
-    ensures { result ≡ walked ground.now c }
+fn walk_next(footing: &[u8], c: Cursor) -> EntryRead
+    ensures { result ≡ walked footing.now c }
 {
     let w = c.walk;
     if BaseHeader::MAX_ENTRIES < w.heads {
@@ -564,20 +564,20 @@ fn walk_next(ground: &[u8], c: Cursor) -> EntryRead
     if 4294967295 < w.older.left {
         return EntryRead::Bad;
     }
-    let st = w.step(ground);
+    let st = w.step(footing);
     match st {
         walks::Step::Found(x, v) => {
             let k = x.key;
             let r = x.ver;
             let p = x.value;
             let f = x.remote;
-            item_at(ground, c, k, r, p, f, NULL_PID, v)
+            item_at(footing, c, k, r, p, f, NULL_PID, v)
         }
         walks::Step::Leads(x, v) => {
             let k = x.key;
             let g = x.page;
             item_at(
-                ground,
+                footing,
                 c,
                 k,
                 Ver::new(0, 0),
@@ -593,27 +593,27 @@ fn walk_next(ground: &[u8], c: Cursor) -> EntryRead
 }
 
 // The first record of the page behind.
-fn turn(ground: &[u8], c: Cursor) -> EntryRead
-    ensures { result ≡ turned ground.now c }
+fn turn(footing: &[u8], c: Cursor) -> EntryRead
+    ensures { result ≡ turned footing.now c }
 {
     let then = c.then;
     if then.0 == 0 {
         return EntryRead::End;
     }
-    let Started::From(d) = page_first(ground, c, then, NULL_ADDR) else {
+    let Started::From(d) = page_first(footing, c, then, NULL_ADDR) else {
         return EntryRead::Bad;
     };
-    walk_next(ground, d)
+    walk_next(footing, d)
 }
 
 // The next record of the pages.
-fn pages_next(ground: &[u8], c: Cursor) -> EntryRead
-    ensures { result ≡ pages_next ground.now c }
+fn pages_next(footing: &[u8], c: Cursor) -> EntryRead
+    ensures { result ≡ pages_next footing.now c }
 {
-    let st = walk_next(ground, c);
+    let st = walk_next(footing, c);
     match st {
         EntryRead::Got(i, d) => EntryRead::Got(i, d),
-        EntryRead::End => turn(ground, c),
+        EntryRead::End => turn(footing, c),
         EntryRead::Bad => EntryRead::Bad,
     }
 }
@@ -621,11 +621,11 @@ fn pages_next(ground: &[u8], c: Cursor) -> EntryRead
 // ---- the step
 
 // The entry at a cursor of any source, and the cursor past it.
-fn any_next(list: &[u8], ground: &[u8], c: Cursor) -> EntryRead
-    ensures { result ≡ next_of list.now ground.now c }
+fn any_next(list: &[u8], footing: &[u8], c: Cursor) -> EntryRead
+    ensures { result ≡ next_of list.now footing.now c }
 {
     if c.source == Cursor::PAGES {
-        return pages_next(ground, c);
+        return pages_next(footing, c);
     }
     list_next(list, c)
 }
@@ -665,12 +665,12 @@ fn apart(w: Walk) -> Walk
 }
 
 // The same. A record list's step stands here, by itself: a build's passes spend their time in it.
-pub fn next(list: &[u8], ground: &[u8], c: Cursor) -> EntryRead
-    ensures { result ≡ next_of list.now ground.now c }
+pub fn next(list: &[u8], footing: &[u8], c: Cursor) -> EntryRead
+    ensures { result ≡ next_of list.now footing.now c }
 {
     if c.source != Cursor::RECORDS {
         let d = c;
-        let st = any_next(list, ground, d);
+        let st = any_next(list, footing, d);
         return st;
     }
     if list.len() <= c.at {
@@ -706,12 +706,12 @@ fn is_wanted(want: bool, old: bool) -> bool
 }
 
 // The next old version, or the next head, with the cursor past it.
-pub fn next_of(list: &[u8], ground: &[u8], want: bool, from: Cursor) -> Pick
-    ensures { ChosenBy list.now ground.now want from result }
+pub fn next_of(list: &[u8], footing: &[u8], want: bool, from: Cursor) -> Pick
+    ensures { ChosenBy list.now footing.now want from result }
 {
     let mut c = from;
     loop {
-        let st = next(list, ground, c);
+        let st = next(list, footing, c);
         match st {
             EntryRead::Got(i, d) => {
                 if is_wanted(want, i.old) {
@@ -732,12 +732,12 @@ pub fn next_of(list: &[u8], ground: &[u8], want: bool, from: Cursor) -> Pick
 // ---- judging a whole source
 
 // Whether the entries end where the source ends.
-pub fn well(list: &[u8], ground: &[u8], from: Cursor) -> bool
-    ensures { result ≡ well_formed list.now ground.now from }
+pub fn well(list: &[u8], footing: &[u8], from: Cursor) -> bool
+    ensures { result ≡ well_formed list.now footing.now from }
 {
     let mut c = from;
     loop {
-        let st = next(list, ground, c);
+        let st = next(list, footing, c);
         match st {
             EntryRead::Got(_, d) => {
                 c = d;
@@ -753,30 +753,30 @@ pub fn well(list: &[u8], ground: &[u8], from: Cursor) -> bool
 }
 
 // The keys of two entries.
-fn compare_items(list: &[u8], ground: &[u8], a: EntryAt, b: EntryAt) -> Order
-    ensures { result ≡ cmp_bytes (entry_of list.now ground.now a).key (entry_of list.now ground.now b).key }
+fn compare_items(list: &[u8], footing: &[u8], a: EntryAt, b: EntryAt) -> Order
+    ensures { result ≡ cmp_bytes (entry_of list.now footing.now a).key (entry_of list.now footing.now b).key }
 {
     let k = a.key;
     let j = b.key;
-    if a.ground {
-        if b.ground {
-            return compare_keys(ground, k, ground, j);
+    if a.footing {
+        if b.footing {
+            return compare_keys(footing, k, footing, j);
         }
-        return compare_keys(ground, k, list, j);
+        return compare_keys(footing, k, list, j);
     }
-    if b.ground {
-        return compare_keys(list, k, ground, j);
+    if b.footing {
+        return compare_keys(list, k, footing, j);
     }
     compare_keys(list, k, list, j)
 }
 
 // Whether an entry is above the one before.
-fn is_above(list: &[u8], ground: &[u8], a: EntryAt, b: EntryAt) -> bool
-    ensures { result ≡ above (entry_of list.now ground.now a) (entry_of list.now ground.now b) }
+fn is_above(list: &[u8], footing: &[u8], a: EntryAt, b: EntryAt) -> bool
+    ensures { result ≡ above (entry_of list.now footing.now a) (entry_of list.now footing.now b) }
 {
     let v = a.ver;
     let w = b.ver;
-    let o = compare_items(list, ground, a, b);
+    let o = compare_items(list, footing, a, b);
     match o {
         Order::Less => true,
         Order::Equal => v.newer(w),
@@ -796,22 +796,22 @@ fn compare_in(s: &[u8], k: Key, x: &[u8]) -> Order
 }
 
 // An entry's key against x.
-fn compare_with(list: &[u8], ground: &[u8], i: EntryAt, x: &[u8]) -> Order
-    ensures { result ≡ cmp_bytes (entry_of list.now ground.now i).key x.now }
+fn compare_with(list: &[u8], footing: &[u8], i: EntryAt, x: &[u8]) -> Order
+    ensures { result ≡ cmp_bytes (entry_of list.now footing.now i).key x.now }
 {
     let k = i.key;
-    if i.ground {
-        return compare_in(ground, k, x);
+    if i.footing {
+        return compare_in(footing, k, x);
     }
     compare_in(list, k, x)
 }
 
 // Whether keys that rise from one entry's to another's lie between the boundaries: these two decide.
-fn ends_in(list: &[u8], ground: &[u8], a: EntryAt, b: EntryAt, lo: &[u8], hi: &[u8]) -> bool
-    ensures { result ≡ spanned lo.now hi.now (entry_of list.now ground.now a).key (entry_of list.now ground.now b).key }
+fn ends_in(list: &[u8], footing: &[u8], a: EntryAt, b: EntryAt, lo: &[u8], hi: &[u8]) -> bool
+    ensures { result ≡ spanned lo.now hi.now (entry_of list.now footing.now a).key (entry_of list.now footing.now b).key }
 {
-    let low = compare_with(list, ground, a, lo);
-    let high = compare_with(list, ground, b, hi);
+    let low = compare_with(list, footing, a, lo);
+    let high = compare_with(list, footing, b, hi);
     !order::is_less(low) & order::below_by(high, hi)
 }
 
@@ -819,22 +819,22 @@ fn ends_in(list: &[u8], ground: &[u8], a: EntryAt, b: EntryAt, lo: &[u8], hi: &[
 // they are bounded.
 fn rises_from(
     list: &[u8],
-    ground: &[u8],
+    footing: &[u8],
     first: EntryAt,
     from: Cursor,
     lo: &[u8],
     hi: &[u8],
 ) -> Risen
-    ensures { result ≡ risen_of lo.now hi.now (entry_of list.now ground.now first ∷ entries list.now ground.now from) }
+    ensures { result ≡ risen_of lo.now hi.now (entry_of list.now footing.now first ∷ entries list.now footing.now from) }
 {
     let mut last = first;
     let mut c = from;
     let mut n: usize = 1;
     loop {
-        let st = next(list, ground, c);
+        let st = next(list, footing, c);
         match st {
             EntryRead::Got(i, d) => {
-                if !is_above(list, ground, last, i) {
+                if !is_above(list, footing, last, i) {
                     return Risen::Not;
                 }
                 last = i;
@@ -842,37 +842,37 @@ fn rises_from(
                 n += 1;
             }
             EntryRead::End => {
-                return Risen::Up(n, ends_in(list, ground, first, last, lo, hi));
+                return Risen::Up(n, ends_in(list, footing, first, last, lo, hi));
             }
             EntryRead::Bad => {
-                return Risen::Up(n, ends_in(list, ground, first, last, lo, hi));
+                return Risen::Up(n, ends_in(list, footing, first, last, lo, hi));
             }
         }
     }
 }
 
 // Whether each entry is above the one before; how many there are; and whether they are bounded.
-pub fn rises(list: &[u8], ground: &[u8], from: Cursor, lo: &[u8], hi: &[u8]) -> Risen
-    ensures { result ≡ risen_of lo.now hi.now (entries list.now ground.now from) }
+pub fn rises(list: &[u8], footing: &[u8], from: Cursor, lo: &[u8], hi: &[u8]) -> Risen
+    ensures { result ≡ risen_of lo.now hi.now (entries list.now footing.now from) }
 {
-    let st = any_next(list, ground, from);
+    let st = any_next(list, footing, from);
     match st {
-        EntryRead::Got(i, d) => rises_from(list, ground, i, d, lo, hi),
+        EntryRead::Got(i, d) => rises_from(list, footing, i, d, lo, hi),
         EntryRead::End => Risen::Up(0, order::below_by(order::compare(lo, hi), hi)),
         EntryRead::Bad => Risen::Up(0, order::below_by(order::compare(lo, hi), hi)),
     }
 }
 
 // Whether each key begins with pre.
-pub fn begins(list: &[u8], ground: &[u8], from: Cursor, pre: &[u8]) -> bool
-    ensures { result ≡ prefixed pre.now (entries list.now ground.now from) }
+pub fn begins(list: &[u8], footing: &[u8], from: Cursor, pre: &[u8]) -> bool
+    ensures { result ≡ prefixed pre.now (entries list.now footing.now from) }
 {
     let mut c = from;
     loop {
-        let st = next(list, ground, c);
+        let st = next(list, footing, c);
         match st {
             EntryRead::Got(i, d) => {
-                if !key_begins(list, ground, i, pre) {
+                if !key_begins(list, footing, i, pre) {
                     return false;
                 }
                 c = d;

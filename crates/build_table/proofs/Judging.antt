@@ -24,7 +24,7 @@ use Rattle.build_sources.specs.Judged.{rising, prefixed, enclosed}
 use Rattle.build_image.specs.declared.Call.{Call}
 use Rattle.build_image.specs.Image.{index_sums, index_size_at, index_size, index_image, Borders}
 use Rattle.build_image.proofs.Index.{length_index}
-use Rattle.build_image.proofs.Prefix.{common-ground, enclosed-prefixed}
+use Rattle.build_image.proofs.Prefix.{common-footing, enclosed-prefixed}
 use Rattle.build_heads.specs.Steps.{Long}
 use Rattle.build_bounds.specs.declared.Boundary.{Boundary}
 use Rattle.build_bounds.specs.declared.Boundaries.{Boundaries}
@@ -69,26 +69,26 @@ take_part s at n p h = take-take p n (lib.ListN.drop at s) h
 
 -- a whole boundary where it lies
 module _ (lo w : List ℕ) (e : Boundary) (h : Within lo w e) where
-  pub whole-ground : e.ground ≡ true → part_or w e.at e.len ≡ boundary_bytes lo w e
+  pub whole-footing : e.footing ≡ true → part_or w e.at e.len ≡ boundary_bytes lo w e
   unfolding Within boundary_bytes
-  whole-ground q =
+  whole-footing q =
       part_or_in w e.at e.len (let z : e.at + e.len ≤ length w = rw q at h in z)
       ∙ sym (ap (λ (b : Bool). part (src_of lo w b) e.at e.len) q)
 
-  pub whole_lent : e.ground ≡ false → part_or lo e.at e.len ≡ boundary_bytes lo w e
+  pub whole_lent : e.footing ≡ false → part_or lo e.at e.len ≡ boundary_bytes lo w e
   unfolding Within boundary_bytes
   whole_lent q =
       part_or_in lo e.at e.len (let z : e.at + e.len ≤ length lo = rw q at h in z)
       ∙ sym (ap (λ (b : Bool). part (src_of lo w b) e.at e.len) q)
 
 module _ (lo w : List ℕ) (e : Boundary) (p : ℕ) (h : Within lo w e) (k : p ≤ e.len) where
-  pub in_ground : e.ground ≡ true → part_or w e.at p ≡ take p (boundary_bytes lo w e)
+  pub in_ground : e.footing ≡ true → part_or w e.at p ≡ take p (boundary_bytes lo w e)
   unfolding Within boundary_bytes
   in_ground q =
       part_or_in w e.at p (let z : e.at + e.len ≤ length w = rw q at h in omega (arith, z))
       ∙ sym (ap (λ (b : Bool). take p (part (src_of lo w b) e.at e.len)) q ∙ take_part w e.at e.len p k)
 
-  pub in_lent : e.ground ≡ false → part_or lo e.at p ≡ take p (boundary_bytes lo w e)
+  pub in_lent : e.footing ≡ false → part_or lo e.at p ≡ take p (boundary_bytes lo w e)
   unfolding Within boundary_bytes
   in_lent q =
       part_or_in lo e.at p (let z : e.at + e.len ≤ length lo = rw q at h in omega (arith, z))
@@ -97,12 +97,12 @@ module _ (lo w : List ℕ) (e : Boundary) (p : ℕ) (h : Within lo w e) (k : p �
 module _ (lo hi w : List ℕ) (e : Boundaries) (h : Held lo hi w e) where
   -- the prefix is part of lo
   pub held-shared : e.prefix ≤ e.lo.len
-  held-shared = omega (arith, h.front, common-ground (boundary_bytes lo w e.lo) (boundary_bytes hi w e.hi), length_boundary lo w e.lo h.inside.ground)
+  held-shared = omega (arith, h.front, common-footing (boundary_bytes lo w e.lo) (boundary_bytes hi w e.hi), length_boundary lo w e.lo h.inside.footing)
 
   pub held-long : (es : List Entry) → prefixed (take e.prefix (boundary_bytes lo w e.lo)) es ≡ true → Long e.prefix es
   held-long es q =
       subst (λ (k : ℕ). Long k es)
-      (length-take-le e.prefix (boundary_bytes lo w e.lo) (omega (arith, length_boundary lo w e.lo h.inside.ground, held-shared)))
+      (length-take-le e.prefix (boundary_bytes lo w e.lo) (omega (arith, length_boundary lo w e.lo h.inside.footing, held-shared)))
       (longs (take e.prefix (boundary_bytes lo w e.lo)) es q)
 
   -- entries that the boundaries enclose have it
@@ -231,7 +231,7 @@ module _ (len next : ℕ) (lo hi w : List ℕ) (e : Boundaries) (h : Held lo hi 
 
 same_size : (lo hi w : List ℕ) (e : Boundaries) (es : List Entry) → BothWithin lo hi w e → index_size_at e.lo.len e.hi.len e.prefix es ≡ index_size (bounds_of lo hi w e) es
 unfolding index_size
-same_size lo hi w e es h = omega (arith, length_boundary lo w e.lo h.ground, length_boundary hi w e.hi h.high)
+same_size lo hi w e es h = omega (arith, length_boundary lo w e.lo h.footing, length_boundary hi w e.hi h.high)
 
 same_end : (next : ℕ) (m : Call) (b : Borders) (es : List Entry) → next + frame_len (index_size b es) ≡ index_end next m b es
 unfolding index_end

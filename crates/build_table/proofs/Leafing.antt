@@ -95,7 +95,7 @@ end_of_lem limit budget at os = refl
 size_of : (m : Call) (lo hi w : List ℕ) (e : Boundaries) (es : List Entry) (h s : ℕ) → BothWithin lo hi w e → h ≡ length (heads es) → s ≡ sums m.limit e.prefix false es
     → base_len + 4 * h + e.lo.len + e.hi.len + s ≡ leaf_size m (bounds_of lo hi w e) es
 unfolding leaf_size
-size_of m lo hi w e es h s i eh es' = omega (arith, eh, es', length_boundary lo w e.lo i.ground, length_boundary hi w e.hi i.high)
+size_of m lo hi w e es h s i eh es' = omega (arith, eh, es', length_boundary lo w e.lo i.footing, length_boundary hi w e.hi i.high)
 
 room_by : (m : Call) (es : List Entry) (n k : ℕ) → n ≡ length (cuts_of m es) → k ≡ counted m.limit es → room_of n k ≡ leaf_room m es
 unfolding leaf_room
@@ -307,9 +307,9 @@ module _ (a : List ℕ) (next : ℕ) (m : Call) (lo hi : List ℕ) (e : Boundari
           let k : leaf_size m bs es + leaf_room m es ≤ max_size = leb-true (leaf_size m bs es + leaf_room m es) max_size both.1 in
           record {
             size = omega (arith, ap (λ (x : Totals). x.size) leaf_totals, tot_size m bs next es, ap (λ (x : Totals). x.room) leaf_totals, tot_room m bs next es, k);
-            lo = h.ground;
+            lo = h.footing;
             hi = h.high;
-            prefix = omega (arith, held-shared lo hi (take next a) e h, h.ground);
+            prefix = omega (arith, held-shared lo hi (take next a) e h, h.footing);
           }
 
       pub leaf_long : Long e.prefix es

@@ -54,5 +54,5 @@ index_weighed len next x y n sums =
 pub record Held (lo hi w : List ℕ) (e : Boundaries) : Type 0 where
   pub inside : BothWithin lo hi w e
   pub front : e.prefix ≡ common (boundary_bytes lo w e.lo) (boundary_bytes hi w e.hi)
-  pub ground : e.lo.len ≤ max_key
+  pub footing : e.lo.len ≤ max_key
   pub high : e.hi.len ≤ max_key

@@ -67,66 +67,66 @@ pub fn limits_ok(limit: usize, budget: usize, lo: &[u8], hi: &[u8]) -> bool
 // Whether each key begins with the first p bytes of a boundary.
 pub fn begins_with(
     list: &[u8],
-    ground: &[u8],
+    footing: &[u8],
     from: Cursor,
     lo: &[u8],
     e: Boundary,
     p: usize,
 ) -> bool
-    requires within { Within lo.now ground.now e }
+    requires within { Within lo.now footing.now e }
     requires p_le_len { p ≤ e.len }
-    ensures { result ≡ prefixed (take p (boundary_bytes lo.now ground.now e)) (entries list.now ground.now from) }
+    ensures { result ≡ prefixed (take p (boundary_bytes lo.now footing.now e)) (entries list.now footing.now from) }
 {
     if p == 0 {
         return true;
     }
-    if e.ground {
-        return build_sources::begins(list, ground, from, spans::part_of(ground, e.at, p));
+    if e.footing {
+        return build_sources::begins(list, footing, from, spans::part_of(footing, e.at, p));
     }
-    build_sources::begins(list, ground, from, spans::part_of(lo, e.at, p))
+    build_sources::begins(list, footing, from, spans::part_of(lo, e.at, p))
 }
 
 // ---- 6 and 10
 
 // Whether the entries rise, and lie between boundaries of which the lower is at hand.
-fn rises_below(list: &[u8], ground: &[u8], from: Cursor, lo: &[u8], hi: &[u8], e: Boundary) -> Risen
-    requires { Within hi.now ground.now e }
-    ensures { result ≡ risen_of lo.now (boundary_bytes hi.now ground.now e) (entries list.now ground.now from) }
+fn rises_below(list: &[u8], footing: &[u8], from: Cursor, lo: &[u8], hi: &[u8], e: Boundary) -> Risen
+    requires { Within hi.now footing.now e }
+    ensures { result ≡ risen_of lo.now (boundary_bytes hi.now footing.now e) (entries list.now footing.now from) }
 {
-    if e.ground {
-        return build_sources::rises(list, ground, from, lo, spans::part_of(ground, e.at, e.len));
+    if e.footing {
+        return build_sources::rises(list, footing, from, lo, spans::part_of(footing, e.at, e.len));
     }
-    build_sources::rises(list, ground, from, lo, spans::part_of(hi, e.at, e.len))
+    build_sources::rises(list, footing, from, lo, spans::part_of(hi, e.at, e.len))
 }
 
 // Whether the entries rise, how many there are, and whether they lie between the boundaries.
-fn rises(list: &[u8], ground: &[u8], from: Cursor, lo: &[u8], hi: &[u8], e: Boundaries) -> Risen
-    requires { BothWithin lo.now hi.now ground.now e }
-    ensures { result ≡ risen_of (boundary_bytes lo.now ground.now e.lo) (boundary_bytes hi.now ground.now e.hi) (entries list.now ground.now from) }
+fn rises(list: &[u8], footing: &[u8], from: Cursor, lo: &[u8], hi: &[u8], e: Boundaries) -> Risen
+    requires { BothWithin lo.now hi.now footing.now e }
+    ensures { result ≡ risen_of (boundary_bytes lo.now footing.now e.lo) (boundary_bytes hi.now footing.now e.hi) (entries list.now footing.now from) }
 {
     let x = e.lo;
     let y = e.hi;
-    if x.ground {
+    if x.footing {
         return rises_below(
             list,
-            ground,
+            footing,
             from,
-            spans::part_of(ground, x.at, x.len),
+            spans::part_of(footing, x.at, x.len),
             hi,
             y,
         );
     }
-    rises_below(list, ground, from, spans::part_of(lo, x.at, x.len), hi, y)
+    rises_below(list, footing, from, spans::part_of(lo, x.at, x.len), hi, y)
 }
 
 // Why entries that rise and do not lie between the boundaries are refused: 7 where a key lacks the prefix, else 10. Entries that do lie
 // between them have the prefix.
-fn outside(list: &[u8], ground: &[u8], from: Cursor, lo: &[u8], e: Boundary, p: usize) -> Refusal
-    requires within { Within lo.now ground.now e }
+fn outside(list: &[u8], footing: &[u8], from: Cursor, lo: &[u8], e: Boundary, p: usize) -> Refusal
+    requires within { Within lo.now footing.now e }
     requires p_le_len { p ≤ e.len }
-    ensures { result ≡ outside_of (take p (boundary_bytes lo.now ground.now e)) (entries list.now ground.now from) }
+    ensures { result ≡ outside_of (take p (boundary_bytes lo.now footing.now e)) (entries list.now footing.now from) }
 {
-    if begins_with(list, ground, from, lo, e, p) {
+    if begins_with(list, footing, from, lo, e, p) {
         return Refusal::Outside;
     }
     Refusal::WrongPrefix
@@ -135,20 +135,20 @@ fn outside(list: &[u8], ground: &[u8], from: Cursor, lo: &[u8], e: Boundary, p: 
 // Why pages whose boundaries do not meet are not merged: 6, 7, else 10.
 pub fn apart(
     list: &[u8],
-    ground: &[u8],
+    footing: &[u8],
     from: Cursor,
     lo: &[u8],
     hi: &[u8],
     e: Boundaries,
 ) -> Refusal
-    requires { Held lo.now hi.now ground.now e }
-    ensures { result ≡ apart_of (take e.prefix (boundary_bytes lo.now ground.now e.lo)) (entries list.now ground.now from) }
+    requires { Held lo.now hi.now footing.now e }
+    ensures { result ≡ apart_of (take e.prefix (boundary_bytes lo.now footing.now e.lo)) (entries list.now footing.now from) }
 {
-    let Risen::Up(_, _) = rises(list, ground, from, lo, hi, e) else {
+    let Risen::Up(_, _) = rises(list, footing, from, lo, hi, e) else {
         return Refusal::OutOfOrder;
     };
     let x = e.lo;
-    outside(list, ground, from, lo, x, e.prefix)
+    outside(list, footing, from, lo, x, e.prefix)
 }
 
 // ---- index pages
@@ -205,7 +205,7 @@ fn weigh(len: usize, x: usize, y: usize, t: Tally, g: Pages) -> LeafVerdict
 
 // Judges heads from..end of a leaf and n heads of another, both sound, whose entries rise and lie between the boundaries: 8, 9. It writes nothing.
 fn judge_leaves(
-    ground: &[u8],
+    footing: &[u8],
     b: Body,
     from: usize,
     end: usize,
@@ -217,10 +217,10 @@ fn judge_leaves(
     none: &[u8],
     e: Boundaries,
 ) -> LeafVerdict
-    requires leaves { Leaves none.now ground.now b from end d n e (in_leaves ground.now b from end d n) }
+    requires leaves { Leaves none.now footing.now b from end d n e (in_leaves footing.now b from end d n) }
     requires sane { Sane m }
     requires next_le_len { (next ≤ len) × (len ≤ 9223372036854775807) }
-    ensures { result ≡ leaf_verdict len next m (bounds_of none.now none.now ground.now e) (in_leaves ground.now b from end d n) }
+    ensures { result ≡ leaf_verdict len next m (bounds_of none.now none.now footing.now e) (in_leaves footing.now b from end d n) }
 {
     let none = Tally {
         heads: 0,
@@ -240,12 +240,12 @@ fn judge_leaves(
         remote: 0,
     };
     let x = build_page_sweep::sweep_page(
-        ground, b, from, end, e.prefix, m.limit, m.budget, none, cut,
+        footing, b, from, end, e.prefix, m.limit, m.budget, none, cut,
     );
     let PageSwept::Fits(t, g) = x else {
         return LeafVerdict::No(Refusal::TooBig);
     };
-    let y = build_page_sweep::sweep_page(ground, d, 0, n, e.prefix, m.limit, m.budget, t, g);
+    let y = build_page_sweep::sweep_page(footing, d, 0, n, e.prefix, m.limit, m.budget, t, g);
     let PageSwept::Fits(u, h) = y else {
         return LeafVerdict::No(Refusal::TooBig);
     };
@@ -289,21 +289,21 @@ pub fn build_leaves(
 
 // Why a list that its sweep, or the test of its first and last key, did not pass is refused: 3, 6, 7, 10; one with none of these faults has too many
 // entries.
-fn refused(list: &[u8], ground: &[u8], from: Cursor, lo: &[u8], hi: &[u8], e: Boundaries) -> Refusal
-    requires { Held lo.now hi.now ground.now e }
-    ensures { result ≡ refusal_of list.now ground.now from (bounds_of lo.now hi.now ground.now e) }
+fn refused(list: &[u8], footing: &[u8], from: Cursor, lo: &[u8], hi: &[u8], e: Boundaries) -> Refusal
+    requires { Held lo.now hi.now footing.now e }
+    ensures { result ≡ refusal_of list.now footing.now from (bounds_of lo.now hi.now footing.now e) }
 {
-    if !build_sources::well(list, ground, from) {
+    if !build_sources::well(list, footing, from) {
         return Refusal::BadList;
     }
-    let Risen::Up(_, inside) = rises(list, ground, from, lo, hi, e) else {
+    let Risen::Up(_, inside) = rises(list, footing, from, lo, hi, e) else {
         return Refusal::OutOfOrder;
     };
     if inside {
         return Refusal::TooBig;
     }
     let x = e.lo;
-    outside(list, ground, from, lo, x, e.prefix)
+    outside(list, footing, from, lo, x, e.prefix)
 }
 
 // ---- a record list
@@ -311,7 +311,7 @@ fn refused(list: &[u8], ground: &[u8], from: Cursor, lo: &[u8], hi: &[u8], e: Bo
 // Judges a record list: 3, 6, 7, 10, 8, 9. It writes nothing. One sweep accepts it.
 pub fn judge_list(
     list: &[u8],
-    ground: &[u8],
+    footing: &[u8],
     from: Cursor,
     len: usize,
     next: usize,
@@ -322,19 +322,19 @@ pub fn judge_list(
 ) -> LeafVerdict
     requires from_value { from ≡ first_of 0 }
     requires lo_value { (e.lo ≡ boundary_of lo.now) × (e.hi ≡ boundary_of hi.now) }
-    requires held { Held lo.now hi.now ground.now e }
+    requires held { Held lo.now hi.now footing.now e }
     requires sane { Sane m }
     requires next_le_len { (next ≤ len) × (len ≤ 9223372036854775807) }
-    ensures { result ≡ of_list list.now ground.now 0 (LeafVerdict.No Refusal.BadList) (leaf_verdict len next m (bounds_of lo.now hi.now ground.now e)) }
+    ensures { result ≡ of_list list.now footing.now 0 (LeafVerdict.No Refusal.BadList) (leaf_verdict len next m (bounds_of lo.now hi.now footing.now e)) }
 {
     let s = build_sweep::sweep_list(list, e.prefix, next, m.limit, m.budget);
     let Swept::Fits(t, g, kat, klen) = s else {
-        return LeafVerdict::No(refused(list, ground, from, lo, hi, e));
+        return LeafVerdict::No(refused(list, footing, from, lo, hi, e));
     };
     if build_sweep::spans_ends(list, t.heads + t.olds, kat, klen, lo, hi) {
         return weigh(len, lo.len(), hi.len(), t, g);
     }
-    LeafVerdict::No(refused(list, ground, from, lo, hi, e))
+    LeafVerdict::No(refused(list, footing, from, lo, hi, e))
 }
 
 // Builds a leaf of a record list, whose boundaries are the lent slices.
@@ -373,7 +373,7 @@ pub fn build_list(
 // Judges an index list: 3, 6, 7, 10, 8, 9. It writes nothing. One sweep accepts it.
 pub fn judge_index_list(
     list: &[u8],
-    ground: &[u8],
+    footing: &[u8],
     from: Cursor,
     len: usize,
     next: usize,
@@ -383,18 +383,18 @@ pub fn judge_index_list(
 ) -> IndexVerdict
     requires from_value { from ≡ first_of 1 }
     requires lo_value { (e.lo ≡ boundary_of lo.now) × (e.hi ≡ boundary_of hi.now) }
-    requires held { Held lo.now hi.now ground.now e }
+    requires held { Held lo.now hi.now footing.now e }
     requires next_le_len { next ≤ len }
-    ensures { result ≡ of_list list.now ground.now 1 (IndexVerdict.No Refusal.BadList) (index_verdict len next (bounds_of lo.now hi.now ground.now e) e) }
+    ensures { result ≡ of_list list.now footing.now 1 (IndexVerdict.No Refusal.BadList) (index_verdict len next (bounds_of lo.now hi.now footing.now e) e) }
 {
     let s = build_sweep::sweep_index(list, e.prefix);
     let IndexSwept::Fits(n, sums, kat, klen) = s else {
-        return IndexVerdict::No(refused(list, ground, from, lo, hi, e));
+        return IndexVerdict::No(refused(list, footing, from, lo, hi, e));
     };
     if build_sweep::spans_ends(list, n, kat, klen, lo, hi) {
         return weigh_index(len, next, lo.len(), hi.len(), n, sums);
     }
-    IndexVerdict::No(refused(list, ground, from, lo, hi, e))
+    IndexVerdict::No(refused(list, footing, from, lo, hi, e))
 }
 
 // Builds an index page of an index list, whose boundaries are the lent slices.
@@ -430,7 +430,7 @@ pub fn build_index_list(
 
 // Judges the children from..end of one page and the first of another, which rise and lie between the boundaries: 8, 9. It writes nothing.
 fn judge_indexes(
-    ground: &[u8],
+    footing: &[u8],
     b: Body,
     from: usize,
     end: usize,
@@ -441,13 +441,13 @@ fn judge_indexes(
     none: &[u8],
     e: Boundaries,
 ) -> IndexVerdict
-    requires judged { Judged ground.now b 1 × Judged ground.now d 1 }
+    requires judged { Judged footing.now b 1 × Judged footing.now d 1 }
     requires from_le_end { (from ≤ end) × (end ≤ b.elems) × (count ≤ d.elems) }
-    requires held { Held none.now none.now ground.now e }
+    requires held { Held none.now none.now footing.now e }
     requires next_le_len { next ≤ len }
-    requires count_value { rising (index_entries ground.now b (end - from) from ++ index_entries ground.now d count 0) ≡ true }
-    requires count_value_2 { enclosed (boundary_bytes none.now ground.now e.lo) (boundary_bytes none.now ground.now e.hi) (index_entries ground.now b (end - from) from ++ index_entries ground.now d count 0) ≡ true }
-    ensures { result ≡ index_verdict len next (bounds_of none.now none.now ground.now e) e (index_entries ground.now b (end - from) from ++ index_entries ground.now d count 0) }
+    requires count_value { rising (index_entries footing.now b (end - from) from ++ index_entries footing.now d count 0) ≡ true }
+    requires count_value_2 { enclosed (boundary_bytes none.now footing.now e.lo) (boundary_bytes none.now footing.now e.hi) (index_entries footing.now b (end - from) from ++ index_entries footing.now d count 0) ≡ true }
+    ensures { result ≡ index_verdict len next (bounds_of none.now none.now footing.now e) e (index_entries footing.now b (end - from) from ++ index_entries footing.now d count 0) }
 {
     let x = e.lo;
     let y = e.hi;
@@ -456,8 +456,8 @@ fn judge_indexes(
     if BaseHeader::MAX_ENTRIES < n {
         return IndexVerdict::No(Refusal::TooBig);
     }
-    let one = build_index::sum_page(ground, b, from, end, p);
-    let two = build_index::sum_page(ground, d, 0, count, p);
+    let one = build_index::sum_page(footing, b, from, end, p);
+    let two = build_index::sum_page(footing, d, 0, count, p);
     weigh_index(len, next, x.len, y.len, n, one + two)
 }
 

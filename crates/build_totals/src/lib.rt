@@ -45,9 +45,9 @@ fn with_one(limit: usize, p: usize, t: Tally, i: EntryAt) -> Tally
 
 // ---- all entries
 
-pub fn tally_up(list: &[u8], ground: &[u8], from: Cursor, p: usize, limit: usize) -> Tally
-    requires { length (entries list.now ground.now from) ≤ max_entries }
-    ensures value { result ≡ tally_of limit p nothing (entries list.now ground.now from) }
+pub fn tally_up(list: &[u8], footing: &[u8], from: Cursor, p: usize, limit: usize) -> Tally
+    requires { length (entries list.now footing.now from) ≤ max_entries }
+    ensures value { result ≡ tally_of limit p nothing (entries list.now footing.now from) }
     ensures bounded { Bounded result max_entries }
 {
     let mut c = from;
@@ -62,7 +62,7 @@ pub fn tally_up(list: &[u8], ground: &[u8], from: Cursor, p: usize, limit: usize
         after: false,
     };
     loop {
-        let st = build_sources::next(list, ground, c);
+        let st = build_sources::next(list, footing, c);
         match st {
             EntryRead::Got(i, d) => {
                 t = with_one(limit, p, t, i);
@@ -82,23 +82,23 @@ pub fn tally_up(list: &[u8], ground: &[u8], from: Cursor, p: usize, limit: usize
 
 pub fn count_pages(
     list: &[u8],
-    ground: &[u8],
+    footing: &[u8],
     from: Cursor,
     at: usize,
     limit: usize,
     budget: usize,
 ) -> Pages
     requires limit_le_max_limit { (limit ≤ max_limit) × (budget ≤ max_budget) }
-    requires from_len_bound { length (only true (entries list.now ground.now from)) ≤ max_entries }
+    requires from_len_bound { length (only true (entries list.now footing.now from)) ≤ max_entries }
     requires at_bound { at ≤ 9223372036854775807 }
-    ensures value { result ≡ pages_of limit budget 0 at (only true (entries list.now ground.now from)) }
+    ensures value { result ≡ pages_of limit budget 0 at (only true (entries list.now footing.now from)) }
     ensures end_bound { (result.end ≤ at + 12890734500) × (result.count ≤ max_entries) }
 {
     let mut c = from;
     let mut n: usize = 0;
     let mut to = at;
     loop {
-        let s = build_history::look_ahead(list, ground, c, limit, budget);
+        let s = build_history::look_ahead(list, footing, c, limit, budget);
         let r = s.run;
         if r.count == 0 {
             return Pages { count: n, end: to };

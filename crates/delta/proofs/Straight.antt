@@ -22,12 +22,12 @@ use Rattle.delta.specs.Deltas.{remote_of, delta_head, delta_frame}
 use Rattle.delta.proofs.Lengths.{length_head}
 
 -- a piece of known length (it belongs in `spans`, beside `wrote`)
-module _ (a₀ : List ℕ) (ground : ℕ) (whole a : List ℕ) (to : ℕ) (z x y : List ℕ) (h : Writing a₀ ground whole a to z) (e : z ≡ x ++ y) (n : ℕ) (l : length x ≡ n) where
-  pub wrote_n : (a' : List ℕ) → a' ≡ put a to x → Writing a₀ ground whole a' (to + n) y
-  wrote_n a' p = wrote a₀ ground whole a to z x y a' (to + n) h e p (ap (λ (k : ℕ). to + k) (sym l))
+module _ (a₀ : List ℕ) (footing : ℕ) (whole a : List ℕ) (to : ℕ) (z x y : List ℕ) (h : Writing a₀ footing whole a to z) (e : z ≡ x ++ y) (n : ℕ) (l : length x ≡ n) where
+  pub wrote_n : (a' : List ℕ) → a' ≡ put a to x → Writing a₀ footing whole a' (to + n) y
+  wrote_n a' p = wrote a₀ footing whole a to z x y a' (to + n) h e p (ap (λ (k : ℕ). to + k) (sym l))
 
   pub room-n : to + n ≤ length a
-  room-n = rw l at (front a₀ ground whole a to z x y h e)
+  room-n = rw l at (front a₀ footing whole a to z x y h e)
 
 -- ---- a remote frame: its writer takes the value as a part of a slice
 

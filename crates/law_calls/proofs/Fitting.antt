@@ -15,7 +15,7 @@ use Rattle.build_sources.specs.Source.{Entry}
 use Rattle.build_sources.specs.Marks.{Each, Marked}
 use Rattle.build_sources.specs.Judged.{enclosed}
 use Rattle.build_image.specs.declared.Call.{Call}
-use Rattle.build_image.proofs.Prefix.{common-ground}
+use Rattle.build_image.proofs.Prefix.{common-footing}
 use Rattle.build_image.specs.Image.{leaf_size, leaf_room, index_size, Borders}
 use Rattle.build_image.specs.Call.{limit_ok, budget_ok, next_ok}
 use Rattle.build_image.proofs.Asked.{limit_true, budget_true, next_true}
@@ -33,7 +33,7 @@ bounds_fit lo hi sibling id boundaries =
     record {
       lo = leb-true (length lo) max_key (and_l (leb (length lo) max_key) (leb (length hi) max_key) boundaries);
       hi = leb-true (length hi) max_key (and_r (leb (length lo) max_key) (leb (length hi) max_key) boundaries);
-      prefix = common-ground lo hi;
+      prefix = common-footing lo hi;
       sibling = id;
     }
 

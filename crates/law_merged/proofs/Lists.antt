@@ -28,7 +28,7 @@ use Rattle.law_list.specs.Asked.{records_of}
 -- ---- whatever lies in the arena
 
 module _ (l w w' : List ℕ) where
-  entry_anywhere : (i : EntryAt) → i.ground ≡ false → entry_of l w i ≡ entry_of l w' i
+  entry_anywhere : (i : EntryAt) → i.footing ≡ false → entry_of l w i ≡ entry_of l w' i
   unfolding entry_of
   entry_anywhere i e = rw e refl
 
@@ -44,7 +44,7 @@ module _ (l w w' : List ℕ) where
       ∙ after_same (next_of l w' c) _ _ [] []
       (λ i d e.
       let t = step_tells l w' c i d e in
-      ap₂ (λ (x : Entry) (xs : List Entry). x ∷ xs) (entry_anywhere i (t.ground ∙ ne_eqb c.source 2 n)) (from_anywhere f d (λ k. n (sym t.source ∙ k))))
+      ap₂ (λ (x : Entry) (xs : List Entry). x ∷ xs) (entry_anywhere i (t.footing ∙ ne_eqb c.source 2 n)) (from_anywhere f d (λ k. n (sym t.source ∙ k))))
 
   pub list_anywhere : (c : Cursor) → (c.source ≡ 2 → ⊥) → entries l w c ≡ entries l w' c
   unfolding entries left_of

@@ -30,7 +30,7 @@ use Rattle.build_sources.specs.declared.Started.{Started}
 use Rattle.build_sources.specs.Lists.{first_of}
 use Rattle.build_sources.specs.Pages.{page_first}
 use Rattle.build_image.specs.Prefix.{common}
-use Rattle.build_image.proofs.Prefix.{common-ground}
+use Rattle.build_image.proofs.Prefix.{common-footing}
 use Rattle.build_bounds.specs.declared.Boundaries.{Boundaries}
 use Rattle.build_bounds.specs.Boundaries as boundaries_specs
 use Rattle.build_bounds.specs.Boundaries.{Within, boundary_bytes}
@@ -157,7 +157,7 @@ module _ (w : List ℕ) (left right : Addr) (p q : Page) (m : meaning w left ≡
 
   pub prefix-short : (bounds_in w left right).prefix ≤ length (bounds_in w left right).lo
   unfolding bounds_in
-  prefix-short = common-ground (lo_at w left) (hi_at w right)
+  prefix-short = common-footing (lo_at w left) (hi_at w right)
 
   bounds-is : boundaries_specs.bounds_of [] [] w held_boundaries ≡ bounds_in w left right
   unfolding bounds_in boundary_bytes
@@ -167,7 +167,7 @@ module _ (w : List ℕ) (left right : Addr) (p q : Page) (m : meaning w left ≡
   unfolding Within boundary_bytes
   ready =
       record {
-        held = record { inside = record { ground = lo_in; high = hi_in }; front = ap₂ common lo-part hi-part; ground = lo-few; high = hi-few };
+        held = record { inside = record { footing = lo_in; high = hi_in }; front = ap₂ common lo-part hi-part; footing = lo-few; high = hi-few };
         bounds = bounds-is;
         cursor = begun;
       }

@@ -88,7 +88,7 @@ pub record Merged {A : Type 0} (tell : Entry → A) (P : Entry → Type 0) (w : 
 -- ---- where it lies
 
 abbrev pub boundary_in : Place → Boundary
-boundary_in p = record { ground = true; at = p.at; len = p.len }
+boundary_in p = record { footing = true; at = p.at; len = p.len }
 
 abbrev pub boundaries_in : List ℕ → Bounds → Bounds → Boundaries
 boundaries_in w p q = record { lo = boundary_in p.lo; hi = boundary_in q.hi; prefix = common (part_in w p.lo) (part_in w q.hi); sibling = q.sibling }

@@ -43,14 +43,14 @@ pub enum Gathered {
 }
 
 // The kind of the page at an address, where it is sound.
-fn said_kind(ground: &[u8], a: Addr) -> Kind
-    ensures { result ≡ said_kind (meaning ground.now a) }
+fn said_kind(footing: &[u8], a: Addr) -> Kind
+    ensures { result ≡ said_kind (meaning footing.now a) }
 {
-    let x = pages::check(ground, a);
+    let x = pages::check(footing, a);
     match x {
         Checked::Refused(_) => Kind::Bad,
         Checked::Sound => {
-            let Opened::Is(b) = frames::open_at(ground, a) else {
+            let Opened::Is(b) = frames::open_at(footing, a) else {
                 return Kind::Bad;
             };
             if b.kind == 1 {
@@ -81,44 +81,44 @@ fn kinds_by(x: Kind, y: Kind) -> Kinds
 }
 
 // 4, then 5.
-fn kinds_of(ground: &[u8], left: Addr, right: Addr) -> Kinds
-    ensures { result ≡ kinds_of (meaning ground.now left) (meaning ground.now right) }
+fn kinds_of(footing: &[u8], left: Addr, right: Addr) -> Kinds
+    ensures { result ≡ kinds_of (meaning footing.now left) (meaning footing.now right) }
 {
-    let x = said_kind(ground, left);
-    let y = said_kind(ground, right);
+    let x = said_kind(footing, left);
+    let y = said_kind(footing, right);
     kinds_by(x, y)
 }
 
 // The places of what is merged.
-fn gather(ground: &[u8], left: Addr, right: Addr) -> Gathered
-    ensures { result ≡ gathered ground.now left right }
+fn gather(footing: &[u8], left: Addr, right: Addr) -> Gathered
+    ensures { result ≡ gathered footing.now left right }
 {
-    let Started::From(c) = build_sources::open_pages(ground, left, right) else {
+    let Started::From(c) = build_sources::open_pages(footing, left, right) else {
         return Gathered::Bad;
     };
-    let BoundsRead::Is(p) = pages::bounds_at(ground, left) else {
+    let BoundsRead::Is(p) = pages::bounds_at(footing, left) else {
         return Gathered::Bad;
     };
-    let BoundsRead::Is(q) = pages::bounds_at(ground, right) else {
+    let BoundsRead::Is(q) = pages::bounds_at(footing, right) else {
         return Gathered::Bad;
     };
     let x = p.lo;
     let y = q.hi;
     let n = base::calc_prefix(
-        spans::part_of(ground, x.at, x.len),
-        spans::part_of(ground, y.at, y.len),
+        spans::part_of(footing, x.at, x.len),
+        spans::part_of(footing, y.at, y.len),
     );
     let g = q.sibling;
     Gathered::Is(
         c,
         Boundaries {
             lo: Boundary {
-                ground: true,
+                footing: true,
                 at: x.at,
                 len: x.len,
             },
             hi: Boundary {
-                ground: true,
+                footing: true,
                 at: y.at,
                 len: y.len,
             },
@@ -129,24 +129,24 @@ fn gather(ground: &[u8], left: Addr, right: Addr) -> Gathered
 }
 
 // Whether the left page ends where the right one begins; a left page without hi ends nowhere.
-fn meets(ground: &[u8], left: Addr, right: Addr) -> bool
-    ensures { result ≡ meet_in ground.now left right }
+fn meets(footing: &[u8], left: Addr, right: Addr) -> bool
+    ensures { result ≡ meet_in footing.now left right }
 {
-    order::meets(pages::hi(ground, left), pages::lo(ground, right))
+    order::meets(pages::hi(footing, left), pages::lo(footing, right))
 }
 
 // Why two pages of one kind that do not meet are not merged. A merge is lent no slice: `none` is empty.
-fn apart(ground: &[u8], left: Addr, right: Addr, none: &[u8]) -> Refusal
+fn apart(footing: &[u8], left: Addr, right: Addr, none: &[u8]) -> Refusal
     requires none_value { none.now ≡ [] }
-    requires sound { Sound ground.now left }
-    requires sound_2 { Sound ground.now right }
-    requires left_value { said_kind (meaning ground.now left) ≡ said_kind (meaning ground.now right) }
-    ensures { result ≡ apart_in (bounds_in ground.now left right) (merged ground.now left right) }
+    requires sound { Sound footing.now left }
+    requires sound_2 { Sound footing.now right }
+    requires left_value { said_kind (meaning footing.now left) ≡ said_kind (meaning footing.now right) }
+    ensures { result ≡ apart_in (bounds_in footing.now left right) (merged footing.now left right) }
 {
-    let Gathered::Is(c, e) = gather(ground, left, right) else {
+    let Gathered::Is(c, e) = gather(footing, left, right) else {
         return Refusal::BadFrame;
     };
-    build_table::apart(none, ground, c, none, none, e)
+    build_table::apart(none, footing, c, none, none, e)
 }
 
 // Two index pages that were judged and meet.

@@ -149,5 +149,7 @@ pub fn lookup<'r, 'a: 'r, 'b: 'r, 'p>(
 ) -> &'r [u8]
     ensures { LentIs s.entry t.entry (laid_at s.now a t.now d probe.now) result }
 {
-    overlay_in(s, a, t, d, probe)
+    let arena: &'r [u8] = s;
+    let buffer: &'r [u8] = t;
+    overlay_in(arena, a, buffer, d, probe)
 }

@@ -3,7 +3,7 @@ use borrow.Author.Tests.{not-true, not-false}
 use mathlib.Core.List.{[]}
 use Rattle.build_image.specs.Call.{call_of}
 use Rattle.base.specs.Calls.{bounds_from}
-use Rattle.base.proofs.Calls.{next-ground, held, bounds_are, list_bad, at_first, list-opens, index_one, index_two, index_three, index_list}
+use Rattle.base.proofs.Calls.{next-footing, held, bounds_are, list_bad, at_first, list-opens, index_one, index_two, index_three, index_list}
 use Rattle.base.proofs.new_intl.Goals as goal
 
 pub returns-then-not-bounds_ok : goal.returns-then-not-bounds_ok
@@ -28,7 +28,7 @@ pub build_index_list-requires : goal.build_index_list-requires
 build_index_list-requires c = record {
   from_value = at_first _ [] _ _ c.open_index-b.ensures _ c.in-From.is;
   lo_value = (c.boundary_of-x.ensures, c.boundary_of-y.ensures);
-  next_in_bounds = next-ground _ _ _ c.next_ok.ensures (c.if-not-next_ok.false);
+  next_in_bounds = next-footing _ _ _ c.next_ok.ensures (c.if-not-next_ok.false);
   held = held c.args.lo.now c.args.hi.now _ _ _ _ _ c.boundary_of-x.ensures c.boundary_of-y.ensures c.calc_prefix-p.ensures _ c.bounds_ok.ensures (c.if-not-bounds_ok.false);
 }
 

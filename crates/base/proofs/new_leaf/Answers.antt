@@ -4,7 +4,7 @@ use borrow.Author.Tests.{not-true, not-false}
 use mathlib.Core.List.{[]}
 use Rattle.build_image.specs.Call.{call_of}
 use Rattle.base.specs.Calls.{bounds_from}
-use Rattle.base.proofs.Calls.{next-ground, held, bounds_are, list_bad, at_first, list-opens, bounds_ok_lem, sane, new_one, new_two, new_three, new_list}
+use Rattle.base.proofs.Calls.{next-footing, held, bounds_are, list_bad, at_first, list-opens, bounds_ok_lem, sane, new_one, new_two, new_three, new_list}
 use Rattle.base.proofs.new_leaf.Goals as goal
 
 pub returns-then-not-limits_ok : goal.returns-then-not-limits_ok
@@ -29,7 +29,7 @@ pub build_list-requires : goal.build_list-requires
 build_list-requires c = record {
   from_value = at_first _ [] _ _ c.open_records-b.ensures _ c.in-From.is;
   lo_value = (c.boundary_of-x.ensures, c.boundary_of-y.ensures);
-  next_in_bounds = next-ground _ _ _ c.next_ok.ensures (c.if-not-next_ok.false);
+  next_in_bounds = next-footing _ _ _ c.next_ok.ensures (c.if-not-next_ok.false);
   held = held c.args.lo.now c.args.hi.now _ _ _ _ _ c.boundary_of-x.ensures c.boundary_of-y.ensures c.calc_prefix-p.ensures _ (bounds_ok_lem c.args.limit c.args.budget c.args.lo.now c.args.hi.now _ c.limits_ok.ensures (c.if-not-limits_ok.false)) refl;
   sane = rw c.call_of-m.ensures (sane c.args.limit c.args.budget c.args.lo.now c.args.hi.now _ c.limits_ok.ensures (c.if-not-limits_ok.false) _ _ _);
 }

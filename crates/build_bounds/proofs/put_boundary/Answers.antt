@@ -4,7 +4,7 @@ use Rattle.build_bounds.proofs.put_boundary.Goals as goal
 pub copy_part-requires : goal.copy_part-requires
 unfolding Within
 copy_part-requires c = record {
-  ground_le_at = c.requires.ground_le_at;
+  footing_le_at = c.requires.footing_le_at;
   n_in_bounds = c.requires.len_in_bounds;
   n_in_bounds_2 = c.requires.within;
 }

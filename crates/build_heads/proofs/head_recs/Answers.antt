@@ -8,7 +8,7 @@ use Rattle.build_heads.proofs.HeadPass.{recs_begin, recs-end, settle_asks, beyon
 use Rattle.build_heads.proofs.head_recs.Goals as goal
 
 pub loop-i-init : goal.loop-i-init
-loop-i-init c = recs_begin _ _ _ _ _ _ _ _ _ c.requires.ground_le_at c.requires.long c.requires.from_len_bound c.requires.from_in_bounds c.requires.from_in_bounds_2 c.requires.from_in_bounds_3
+loop-i-init c = recs_begin _ _ _ _ _ _ _ _ _ c.requires.footing_le_at c.requires.long c.requires.from_len_bound c.requires.from_in_bounds c.requires.from_in_bounds_2 c.requires.from_in_bounds_3
 
 pub slice_bounds-next-end : goal.slice_bounds-next-end
 slice_bounds-next-end c = let v = c.loop-i.invariant.writing in omega (arith, v.over, v.room)
@@ -48,7 +48,7 @@ overflow_add-beyond c = let z = beyond_fits _ _ _ _ _ _ _ _ _ _ _ _ c.loop-i.inv
 
 pub put_head-to-requires : goal.put_head-to-requires
 put_head-to-requires c = let all = head_asks _ _ _ _ _ _ _ _ _ _ _ _ c.loop-i.invariant _ _ (got _ _ _ _ _ c.loop-i.invariant.writing.same c.next-st.ensures _ _ c.in-Got.is) _ c.run_of-k.ensures _ c.names-named.ensures _ c.settle-q.ensures in record {
-  ground_le_at = all.0;
+  footing_le_at = all.0;
   placed = all.1.0;
   p_bound = all.1.1.0;
   i_in_bounds = all.1.1.1;

@@ -13,7 +13,7 @@ pub returns-then-not-old : goal.returns-then-not-old
 returns-then-not-old c = run_stop _ _ _ _ _ c.loop-i.invariant _ _ (got _ _ _ _ _ refl c.next-st.ensures _ _ c.in-Got.is) (c.if-not-old.true)
 
 pub overflow_add-n : goal.overflow_add-n
-overflow_add-n c = omega (arith, c.well_formed.0, c.well_formed.1.0, c.loop-i.invariant.left, left-long c.args.list.now c.args.ground.now c.args.from, (got _ _ _ _ _ refl c.next-st.ensures _ _ c.in-Got.is).falls)
+overflow_add-n c = omega (arith, c.well_formed.0, c.well_formed.1.0, c.loop-i.invariant.left, left-long c.args.list.now c.args.footing.now c.args.from, (got _ _ _ _ _ refl c.next-st.ensures _ _ c.in-Got.is).falls)
 
 pub loop-i-smaller : goal.loop-i-smaller
 loop-i-smaller c = (got _ _ _ _ _ refl c.next-st.ensures _ _ c.in-Got.is).falls

@@ -26,7 +26,7 @@ overflow_add-n c = omega (arith, c.requires.placed.ksmall, c.key_len-k.ensures, 
 
 pub head_rec-requires : goal.head_rec-requires
 head_rec-requires c = record {
-  ground_le_at = c.requires.ground_le_at;
+  footing_le_at = c.requires.footing_le_at;
   placed = c.requires.placed;
   p_bound = c.requires.p_bound;
   i_in_bounds = rec-room c.args.a.now c.args.at c.args.limit c.args.p c.args.remote c.args.h _ (old_of _ _ _ ∙ c.if-old.false) c.requires.i_in_bounds;

@@ -10,7 +10,7 @@ use Rattle.build_history.proofs.Passes.{frames_asks, frames_turn, frames_nil, ta
 use Rattle.build_history.proofs.each_remote_frame.Goals as goal
 
 pub loop-k-init : goal.loop-k-init
-loop-k-init c = begin _ _ _ _ c.requires.ground_le_at c.requires.n_in_bounds
+loop-k-init c = begin _ _ _ _ c.requires.footing_le_at c.requires.n_in_bounds
 
 pub slice_bounds-next_of-end : goal.slice_bounds-next_of-end
 slice_bounds-next_of-end c = let v = c.loop-k.invariant in omega (arith, v.over, v.room)
@@ -26,7 +26,7 @@ returns-in_default c = finished _ _ _ _ _ _ c.loop-k.invariant (frames_nil _ _ (
 
 pub remote_frame_of-to-requires : goal.remote_frame_of-to-requires
 remote_frame_of-to-requires c = let all = frames_asks _ _ _ _ _ _ _ (one _ _ _ _ _ _ c.loop-k.invariant.same c.next_of-st.ensures _ _ c.in-One.is) _ c.loop-k-test.true _ _ _ _ c.loop-k.invariant in record {
-  ground_le_at = all.0;
+  footing_le_at = all.0;
   placed = all.1.0;
   i_in_bounds = all.1.1;
 }

@@ -10,7 +10,7 @@ use Rattle.build_history.proofs.Passes.{recs_asks, recs-room, recs_turn, recs_ni
 use Rattle.build_history.proofs.old_recs.Goals as goal
 
 pub loop-k-init : goal.loop-k-init
-loop-k-init c = (begin _ _ _ _ c.requires.ground_le_at c.requires.n_in_bounds, c.requires.n_in_bounds_2)
+loop-k-init c = (begin _ _ _ _ c.requires.footing_le_at c.requires.n_in_bounds, c.requires.n_in_bounds_2)
 
 pub slice_bounds-next_of-end : goal.slice_bounds-next_of-end
 slice_bounds-next_of-end c = let v = c.loop-k.invariant.0 in omega (arith, v.over, v.room)
@@ -41,7 +41,7 @@ overflow_add-beyond c = let z = remotes-found _ _ _ _ _ _ (one _ _ _ _ _ _ c.loo
 
 pub old_rec-requires : goal.old_rec-requires
 old_rec-requires c = let all = recs_asks _ _ _ _ _ _ _ (one _ _ _ _ _ _ c.loop-k.invariant.0.same c.next_of-st.ensures _ _ c.in-One.is) _ c.loop-k-test.true _ _ _ _ _ c.loop-k.invariant.0 in record {
-  ground_le_at = all.0;
+  footing_le_at = all.0;
   placed = all.1.0;
   i_in_bounds = all.1.1;
 }

@@ -11,7 +11,7 @@ use Rattle.build_history.proofs.Passes.{slot-room, slot_turn, slots_nil, take_ni
 use Rattle.build_history.proofs.old_slots.Goals as goal
 
 pub loop-k-init : goal.loop-k-init
-loop-k-init c = (begin _ _ _ _ c.requires.ground_le_at c.requires.n_in_bounds, c.requires.n_bound)
+loop-k-init c = (begin _ _ _ _ c.requires.footing_le_at c.requires.n_in_bounds, c.requires.n_bound)
 
 pub slice_bounds-next_of-end : goal.slice_bounds-next_of-end
 slice_bounds-next_of-end c = let v = c.loop-k.invariant.0 in omega (arith, v.over, v.room)

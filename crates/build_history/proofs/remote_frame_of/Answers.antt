@@ -16,7 +16,7 @@ returns-then-kept-ne0 c = let all = kept_ret _ _ _ _ c.requires.placed _ _ c.if-
 
 pub remote_frame-requires : goal.remote_frame-requires
 remote_frame-requires c = record {
-  ground_le_at = c.requires.ground_le_at;
+  footing_le_at = c.requires.footing_le_at;
   n_le_max_value = (remote_asks _ _ _ _ c.requires.placed c.args.a.now c.args.at c.if-n-m.false c.if-kept-ne0.false c.requires.i_in_bounds).0;
   n_in_bounds = (remote_asks _ _ _ _ c.requires.placed c.args.a.now c.args.at c.if-n-m.false c.if-kept-ne0.false c.requires.i_in_bounds).1.0;
   n_in_bounds_2 = (remote_asks _ _ _ _ c.requires.placed c.args.a.now c.args.at c.if-n-m.false c.if-kept-ne0.false c.requires.i_in_bounds).1.1;

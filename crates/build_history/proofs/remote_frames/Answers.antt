@@ -6,7 +6,7 @@ returns-then-len-eq0 c = frames_none _ _ _ _ _ c.requires.len_value c.if-len-eq0
 
 pub each_remote_frame-requires : goal.each_remote_frame-requires
 each_remote_frame-requires c = record {
-  ground_le_at = c.requires.ground_le_at;
+  footing_le_at = c.requires.footing_le_at;
   n_in_bounds = c.requires.n_in_bounds;
 }
 

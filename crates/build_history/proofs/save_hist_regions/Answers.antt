@@ -7,7 +7,7 @@ use Rattle.build_history.proofs.Page.{hist_begin, hist_done, page_asks, hist_tur
 use Rattle.build_history.proofs.save_hist_regions.Goals as goal
 
 pub loop-m-init : goal.loop-m-init
-loop-m-init c = hist_begin _ _ _ _ _ _ c.requires.ground_le_at c.requires.from_in_bounds
+loop-m-init c = hist_begin _ _ _ _ _ _ c.requires.footing_le_at c.requires.from_in_bounds
 
 pub slice_bounds-look_ahead-end : goal.slice_bounds-look_ahead-end
 slice_bounds-look_ahead-end c = let v = c.loop-m.invariant.writing in omega (arith, v.over, v.room)
@@ -29,7 +29,7 @@ returns-then-r-eq0 c = let all = hist_done _ _ _ _ _ _ _ _ _ c.requires.sane c.l
 
 pub hist_page-to-requires : goal.hist_page-to-requires
 hist_page-to-requires c = let all = page_asks _ _ _ _ _ _ _ _ _ c.requires.sane c.loop-m.invariant _ c.look_ahead-s.ensures.run_value c.if-r-eq0.false in record {
-  ground_le_at = all.0;
+  footing_le_at = all.0;
   sane = all.1.0;
   r_value = all.1.1.0;
   from_in_bounds = all.1.1.1;

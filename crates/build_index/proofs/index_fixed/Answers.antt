@@ -22,7 +22,7 @@ overflow_add-q-2 c = let z = fixed_fits _ _ _ c.args.m _ _ _ _ _ c.requires.fixe
 
 pub put_boundary-requires : goal.put_boundary-requires
 put_boundary-requires c = let all = lo_asks _ _ _ c.args.m _ _ _ _ _ c.requires.fixes c.requires.both_within _ c.index_head.ensures in record {
-  ground_le_at = all.0;
+  footing_le_at = all.0;
   len_in_bounds = all.1.0;
   within = all.1.1;
 }
@@ -32,7 +32,7 @@ overflow_add-r c = let z = fixed_fits _ _ _ c.args.m _ _ _ _ _ c.requires.fixes 
 
 pub put_boundary-requires-2 : goal.put_boundary-requires-2
 put_boundary-requires-2 c = let all = hi_asks _ _ _ c.args.m _ _ _ _ _ c.requires.fixes c.requires.both_within _ c.index_head.ensures _ c.put_boundary.ensures in record {
-  ground_le_at = all.0;
+  footing_le_at = all.0;
   len_in_bounds = all.1.0;
   within = all.1.1;
 }

@@ -8,7 +8,7 @@ use Rattle.build_index.proofs.Passes.{recs-end, rec_asks, recs_turn}
 use Rattle.build_index.proofs.index_recs.Goals as goal
 
 pub loop-i-init : goal.loop-i-init
-loop-i-init c = record { writing = begin _ _ _ _ c.requires.ground_le_at c.requires.from_in_bounds; long = c.requires.long }
+loop-i-init c = record { writing = begin _ _ _ _ c.requires.footing_le_at c.requires.from_in_bounds; long = c.requires.long }
 
 pub slice_bounds-next-end : goal.slice_bounds-next-end
 slice_bounds-next-end c = let v = c.loop-i.invariant.writing in omega (arith, v.over, v.room)
@@ -18,7 +18,7 @@ slice_bounds-next-end-in-loop-i c = let v = c.loop-i.invariant.writing in sym (l
 
 pub index_rec-to-requires : goal.index_rec-to-requires
 index_rec-to-requires c = let all = rec_asks _ _ _ _ _ _ _ _ c.loop-i.invariant _ _ (got _ _ _ _ _ c.loop-i.invariant.writing.same c.next-st.ensures _ _ c.in-Got.is) in record {
-  ground_le_at = all.0;
+  footing_le_at = all.0;
   placed = all.1.0;
   p_bound = all.1.1.0;
   i_in_bounds = all.1.1.1;

@@ -9,7 +9,7 @@ use Rattle.build_index.proofs.Passes.{slots_end, slot_asks, slot-room, off_small
 use Rattle.build_index.proofs.index_slots.Goals as goal
 
 pub loop-i-init : goal.loop-i-init
-loop-i-init c = record { writing = begin _ _ _ _ c.requires.ground_le_at c.requires.from_in_bounds; long = c.requires.long; small = c.requires.from_bound }
+loop-i-init c = record { writing = begin _ _ _ _ c.requires.footing_le_at c.requires.from_in_bounds; long = c.requires.long; small = c.requires.from_bound }
 
 pub slice_bounds-next-end : goal.slice_bounds-next-end
 slice_bounds-next-end c = let v = c.loop-i.invariant.writing in omega (arith, v.over, v.room)

@@ -28,7 +28,7 @@ overflow_add-s c = let z = fits _ _ _ _ _ c.args.m _ _ _ _ _ c.requires in let y
 
 pub index_slots-requires : goal.index_slots-requires
 index_slots-requires c = let all = slots_asks _ _ _ _ _ c.args.m _ _ _ _ _ c.requires _ c.index_head.ensures in record {
-  ground_le_at = all.0;
+  footing_le_at = all.0;
   long = all.1.0;
   from_in_bounds = all.1.1.0;
   from_bound = all.1.1.1;
@@ -42,7 +42,7 @@ overflow_add-q c = let z = fits _ _ _ _ _ c.args.m _ _ _ _ _ c.requires in let y
 
 pub put_boundary-requires : goal.put_boundary-requires
 put_boundary-requires c = let all = lo_asks _ _ _ _ _ c.args.m _ _ _ _ _ c.requires _ c.index_head.ensures _ c.index_slots.ensures in record {
-  ground_le_at = all.0;
+  footing_le_at = all.0;
   len_in_bounds = all.1.0;
   within = all.1.1;
 }
@@ -52,7 +52,7 @@ overflow_add-r c = let z = fits _ _ _ _ _ c.args.m _ _ _ _ _ c.requires in let y
 
 pub put_boundary-requires-2 : goal.put_boundary-requires-2
 put_boundary-requires-2 c = let all = hi_asks _ _ _ _ _ c.args.m _ _ _ _ _ c.requires _ c.index_head.ensures _ c.index_slots.ensures _ c.put_boundary.ensures in record {
-  ground_le_at = all.0;
+  footing_le_at = all.0;
   len_in_bounds = all.1.0;
   within = all.1.1;
 }
@@ -62,7 +62,7 @@ overflow_add-t c = let z = fits _ _ _ _ _ c.args.m _ _ _ _ _ c.requires in let y
 
 pub index_recs-requires : goal.index_recs-requires
 index_recs-requires c = let all = recs_asks _ _ _ _ _ c.args.m _ _ _ _ _ c.requires _ c.index_head.ensures _ c.index_slots.ensures _ c.put_boundary.ensures _ c.put_boundary-2.ensures in record {
-  ground_le_at = all.0;
+  footing_le_at = all.0;
   long = all.1.0;
   from_in_bounds = all.1.1;
 }

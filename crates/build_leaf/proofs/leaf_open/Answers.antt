@@ -17,7 +17,7 @@ overflow_add-remote c = omega (arith, c.requires.fixes.end, c.frame_len.ensures,
 
 pub leaf_fixed-k-requires : goal.leaf_fixed-k-requires
 leaf_fixed-k-requires c = record {
-  fixes = subst (λ (x : ℕ). Fixes (length c.args.a.now) c.args.ground c.args.t c.args.e (c.args.t.leaf + x)) (sym c.frame_len.ensures) c.requires.fixes;
+  fixes = subst (λ (x : ℕ). Fixes (length c.args.a.now) c.args.footing c.args.t c.args.e (c.args.t.leaf + x)) (sym c.frame_len.ensures) c.requires.fixes;
   both_within = c.requires.both_within;
 }
 

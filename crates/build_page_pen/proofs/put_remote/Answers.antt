@@ -17,7 +17,7 @@ returns-then-kept-ne0 c = let all = kept_done _ _ _ _ _ c.requires.value_below c
 
 pub remote_frame-requires : goal.remote_frame-requires
 remote_frame-requires c = let all = frame_asks _ _ _ _ _ c.requires.value_below c.requires.next_le_at c.requires.remote_in_bounds c.if-n-m.false c.if-kept-ne0.false in record {
-  ground_le_at = all.0;
+  footing_le_at = all.0;
   n_le_max_value = all.1.0;
   n_in_bounds = all.1.1.0;
   n_in_bounds_2 = all.1.1.1;

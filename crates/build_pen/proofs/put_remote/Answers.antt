@@ -11,7 +11,7 @@ returns-then-n-m c = let all = none_done _ _ c.requires.inside _ _ _ c.if-n-m.tr
 
 pub remote_frame-requires : goal.remote_frame-requires
 remote_frame-requires c = record {
-  ground_le_at = omega arith;
+  footing_le_at = omega arith;
   n_le_max_value = c.requires.inside.val;
   n_in_bounds = c.requires.inside.all;
   n_in_bounds_2 = frame-room _ _ c.requires.inside c.args.m c.args.a.now c.args.at c.if-n-m.false c.requires.i_in_bounds;

@@ -15,7 +15,7 @@ pub returns-then-not-room-3 : goal.returns-then-not-room-3
 returns-then-not-room-3 c = no_value _ _ _ _ _ _ _ _ (sym c.room.ensures ∙ c.if-not-room.false) (sym c.room-2.ensures ∙ c.if-not-room-2.false) (sym c.room-3.ensures ∙ c.if-not-room-3.true)
 
 pub overflow_add-pre : goal.overflow_add-pre
-overflow_add-pre c = omega (arith, room-sum c.args.c.pre.at c.args.c.pre.len c.args.rest.at c.args.rest.len (length c.args.ground.now) (sym c.room.ensures ∙ c.if-not-room.false) (sym c.room-2.ensures ∙ c.if-not-room-2.false))
+overflow_add-pre c = omega (arith, room-sum c.args.c.pre.at c.args.c.pre.len c.args.rest.at c.args.rest.len (length c.args.footing.now) (sym c.room.ensures ∙ c.if-not-room.false) (sym c.room-2.ensures ∙ c.if-not-room-2.false))
 
 pub returns-then-pre-rest-gt-MAX_KEY : goal.returns-then-pre-rest-gt-MAX_KEY
 returns-then-pre-rest-gt-MAX_KEY c = no_key _ _ _ _ _ _ _ _ (sym c.room.ensures ∙ c.if-not-room.false) (sym c.room-2.ensures ∙ c.if-not-room-2.false) (sym c.room-3.ensures ∙ c.if-not-room-3.false) c.if-pre-rest-gt-MAX_KEY.true

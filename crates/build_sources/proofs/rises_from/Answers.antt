@@ -13,7 +13,7 @@ pub returns-then-not-is_above : goal.returns-then-not-is_above
 returns-then-not-is_above c = risen_stop _ _ _ _ _ _ _ c.loop-i.invariant _ _ _ _ (got _ _ _ _ _ refl c.next-st.ensures _ _ c.in-Got.is) (sym c.is_above.ensures ∙ c.if-not-is_above.true)
 
 pub overflow_add-n : goal.overflow_add-n
-overflow_add-n c = omega (arith, c.well_formed, c.loop-i.invariant.left, left-long c.args.list.now c.args.ground.now c.args.from, (got _ _ _ _ _ refl c.next-st.ensures _ _ c.in-Got.is).falls)
+overflow_add-n c = omega (arith, c.well_formed, c.loop-i.invariant.left, left-long c.args.list.now c.args.footing.now c.args.from, (got _ _ _ _ _ refl c.next-st.ensures _ _ c.in-Got.is).falls)
 
 pub loop-i-smaller : goal.loop-i-smaller
 loop-i-smaller c = (got _ _ _ _ _ refl c.next-st.ensures _ _ c.in-Got.is).falls

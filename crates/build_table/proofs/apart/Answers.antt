@@ -14,13 +14,13 @@ pub rises-requires : goal.rises-requires
 rises-requires c = c.requires.inside
 
 pub returns-in_default : goal.returns-in_default
-returns-in_default c = sym (ap (λ (t : Bool). cond t (outside_of (take c.args.e.prefix (boundary_bytes c.args.lo.now c.args.ground.now c.args.e.lo)) (entries c.args.list.now c.args.ground.now c.args.from)) OutOfOrder) (risen_not _ _ _ (sym c.in_default.is ∙ c.rises.ensures)))
+returns-in_default c = sym (ap (λ (t : Bool). cond t (outside_of (take c.args.e.prefix (boundary_bytes c.args.lo.now c.args.footing.now c.args.e.lo)) (entries c.args.list.now c.args.footing.now c.args.from)) OutOfOrder) (risen_not _ _ _ (sym c.in_default.is ∙ c.rises.ensures)))
 
 pub outside-requires : goal.outside-requires
 outside-requires c = record {
-  within = c.requires.inside.ground;
+  within = c.requires.inside.footing;
   p_le_len = held-shared _ _ _ _ c.requires;
 }
 
 pub returns : goal.returns
-returns c = c.outside.ensures ∙ sym (ap (λ (t : Bool). cond t (outside_of (take c.args.e.prefix (boundary_bytes c.args.lo.now c.args.ground.now c.args.e.lo)) (entries c.args.list.now c.args.ground.now c.args.from)) OutOfOrder) (risen_up _ _ _ _ _ (sym c.in-Up.is ∙ c.rises.ensures)).up)
+returns c = c.outside.ensures ∙ sym (ap (λ (t : Bool). cond t (outside_of (take c.args.e.prefix (boundary_bytes c.args.lo.now c.args.footing.now c.args.e.lo)) (entries c.args.list.now c.args.footing.now c.args.from)) OutOfOrder) (risen_up _ _ _ _ _ (sym c.in-Up.is ∙ c.rises.ensures)).up)

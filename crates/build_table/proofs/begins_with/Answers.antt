@@ -10,7 +10,7 @@ pub returns-then-p-eq0 : goal.returns-then-p-eq0
 returns-then-p-eq0 c = no_prefix c.args.p _ _ c.if-p-eq0.true
 
 pub returns-then-e : goal.returns-then-e
-returns-then-e c = c.begins.ensures ∙ ap (λ (x : List ℕ). prefixed x (entries c.args.list.now c.args.ground.now c.args.from)) (c.part_of.ensures ∙ in_ground _ _ _ _ c.requires.within c.requires.p_le_len c.if-e.true)
+returns-then-e c = c.begins.ensures ∙ ap (λ (x : List ℕ). prefixed x (entries c.args.list.now c.args.footing.now c.args.from)) (c.part_of.ensures ∙ in_ground _ _ _ _ c.requires.within c.requires.p_le_len c.if-e.true)
 
 pub returns : goal.returns
-returns c = c.begins-2.ensures ∙ ap (λ (x : List ℕ). prefixed x (entries c.args.list.now c.args.ground.now c.args.from)) (c.part_of-2.ensures ∙ in_lent _ _ _ _ c.requires.within c.requires.p_le_len c.if-e.false)
+returns c = c.begins-2.ensures ∙ ap (λ (x : List ℕ). prefixed x (entries c.args.list.now c.args.footing.now c.args.from)) (c.part_of-2.ensures ∙ in_lent _ _ _ _ c.requires.within c.requires.p_le_len c.if-e.false)

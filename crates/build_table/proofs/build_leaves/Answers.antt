@@ -22,7 +22,7 @@ judge_leaves-v-requires c = record {
 
 pub write_leaves-leaf-requires : goal.write_leaves-leaf-requires
 write_leaves-leaf-requires c = record {
-  ground_le_at = omega arith;
+  footing_le_at = omega arith;
   sane = c.requires.sane;
   small = leaf_small c.args.a.now c.args.next c.args.m c.args.none.now c.args.none.now c.args.e c.requires.leaves.held (in_leaves (take c.args.next c.args.a.now) c.args.b c.args.from c.args.end c.args.d c.args.n) _ c.judge_leaves-v.ensures _ c.in-Fits.is;
   both_within = c.requires.leaves.held.inside;

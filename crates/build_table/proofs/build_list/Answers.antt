@@ -22,7 +22,7 @@ judge_list-v-requires c = record {
 
 pub write_list-leaf-requires : goal.write_list-leaf-requires
 write_list-leaf-requires c = record {
-  ground_le_at = omega arith;
+  footing_le_at = omega arith;
   sane = c.requires.sane;
   small = fit_small c.args.a.now c.args.list.now c.args.next c.args.m c.args.lo.now c.args.hi.now c.args.e c.requires.held _ c.judge_list-v.ensures _ c.in-Fits.is;
   both_within = c.requires.held.inside;

@@ -7,7 +7,7 @@ pub step_old-requires : goal.step_old-requires
 step_old-requires c = record {
   w_value = c.walk_in-w.ensures;
   left_nonzero = c.if-older-gt0.true;
-  in_bounds = omega (arith, c.if-walk-lt18.false);
+  in_bounds = omega arith;
   in_bounds_2 = omega (arith, c.if-out-lt9.false);
 }
 
@@ -21,7 +21,7 @@ pub step_head-requires : goal.step_head-requires
 step_head-requires c = record {
   w_value = c.walk_in-w.ensures;
   left_value = omega (arith, c.if-older-gt0.false);
-  in_bounds = omega (arith, c.if-walk-lt18.false);
+  in_bounds = omega arith;
   in_bounds_2 = omega (arith, c.if-out-lt9.false);
 }
 

@@ -12,7 +12,7 @@ returns-then-n-m c = simp (lt-ltb _ _ c.if-n-m.true, put_nil)
 
 pub remote_frame-requires : goal.remote_frame-requires
 remote_frame-requires c = record {
-  ground_le_at = omega arith;
+  footing_le_at = omega arith;
   n_le_max_value = c.requires.v_len_bound;
   n_in_bounds = omega arith;
   n_in_bounds_2 = remote-room c.args.a.now c.args.at c.args.m c.args.v.now c.if-n-m.false c.requires.v_in_bounds;

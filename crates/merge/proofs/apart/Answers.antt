@@ -12,4 +12,4 @@ pub apart-requires : goal.apart-requires
 apart-requires c = is_held _ _ _ c.requires.sound c.requires.sound_2 _ _ (sym c.gather.ensures ∙ c.in-Is.is) _ c.requires.none_value
 
 pub returns : goal.returns
-returns c = answered _ _ _ c.requires.sound c.requires.sound_2 _ _ (sym c.gather.ensures ∙ c.in-Is.is) _ c.requires.none_value (λ (i : ℕ). omega (arith, c.type_inv.ground i)) c.requires.left_value _ c.apart.ensures
+returns c = answered _ _ _ c.requires.sound c.requires.sound_2 _ _ (sym c.gather.ensures ∙ c.in-Is.is) _ c.requires.none_value (λ (i : ℕ). omega (arith, c.type_inv.footing i)) c.requires.left_value _ c.apart.ensures

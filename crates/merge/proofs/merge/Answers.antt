@@ -1,7 +1,7 @@
 use mathlib.Core.Path.{refl, sym, ◌∙◌}
 use borrow.Author.Tests.{not-true, not-false}
 use Rattle.build_image.specs.Call.{call_of}
-use Rattle.base.proofs.Calls.{next-ground, limits_sane}
+use Rattle.base.proofs.Calls.{next-footing, limits_sane}
 use Rattle.merge.proofs.Answering.{merge_one, merge_two, merge_on}
 use Rattle.merge.proofs.merge.Goals as goal
 
@@ -19,7 +19,7 @@ returns-then-not-next_ok c = let all = merge_two c.args.a.now c.args.next (call_
 
 pub merge_kinds-requires : goal.merge_kinds-requires
 merge_kinds-requires c = record {
-  next_in_bounds = next-ground _ _ _ c.next_ok.ensures (c.if-not-next_ok.false);
+  next_in_bounds = next-footing _ _ _ c.next_ok.ensures (c.if-not-next_ok.false);
   none_value = refl;
   sane = rw c.call_of-m.ensures (limits_sane (call_of c.args.limit c.args.budget c.args.group c.args.txid c.args.lsn c.args.checkpoint) (sym c.limits_ok.ensures ∙ c.if-not-limits_ok.false));
 }
