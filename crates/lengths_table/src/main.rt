@@ -6,8 +6,8 @@ ghost use Rattle.std.specs.Prelude.{◌≤◌};
 
 use lengths::Length;
 use replay_text::Number;
-
-const OUT: i32 = 1;
+use std::io;
+use std::io::{BufWriter, Write};
 
 // Whether a form is refused.
 fn refused(s: &[u8]) -> u64
@@ -32,49 +32,48 @@ fn reads_back(s: &[u8], x: u32, n: usize) -> bool {
     }
 }
 
-fn line(x: u32) {
+fn line<W: Write>(out: &mut W, x: u32) -> io::Result<()> {
     let mut bytes = [0u8; 8];
     let n = lengths::write(&mut bytes, 1, x);
-    io::print_decimal(OUT, x as u64);
-    io::write_all(OUT, b" ");
-    replay_text::print_bytes(OUT, spans::part_of(&bytes, 1, n));
+    write!(out, "{x} ")?;
+    replay_text::print_bytes(out, spans::part_of(&bytes, 1, n))?;
     if reads_back(&bytes, x, n) {
-        io::write_all(OUT, b"\n");
+        out.write_all(b"\n")
     } else {
-        io::write_all(OUT, b" does not read back\n");
+        out.write_all(b" does not read back\n")
     }
 }
 
-fn lines(s: &[u8]) {
+fn lines<W: Write>(out: &mut W, s: &[u8]) -> io::Result<()> {
     let mut at = 0;
     while at < s.len() {
         let Number::Is(v, next) = replay_text::number_at(s, at) else {
-            io::write_all(OUT, b"no number\n");
-            return;
+            return out.write_all(b"no number\n");
         };
         if 4294967295 < v {
-            io::write_all(OUT, b"no u32\n");
-            return;
+            return out.write_all(b"no u32\n");
         }
-        line(v as u32);
+        line(out, v as u32)?;
         if s.len() <= next {
-            return;
+            return Ok(());
         }
         at = next + 1;
     }
+    Ok(())
 }
 
-fn main() {
-    let mut buf = io::large_buffer();
-    let n = io::read_full(0, &mut buf);
-    lines(&buf[..n]);
+fn main(rt: HostRuntime) -> io::Result<()> {
+    let mut out = BufWriter::new(rt.alloc(), io::writer(&rt))?;
+    let mut buf = [0u8; 65536];
+    let n = replay_text::read_full(&mut rt.stdin(), &mut buf)?;
+    lines(&mut out, &buf[..n])?;
     let none = refused(b"");
     let cut = refused(b"\x80");
     let zeros = refused(b"\x80\x00");
     let long = refused(b"\xff\x80\x00");
     let above = refused(b"\xff\xff\xff\xff\x10");
     let six = refused(b"\x80\x80\x80\x80\x80\x01");
-    io::write_all(OUT, b"refused ");
-    io::print_decimal(OUT, none + cut + zeros + long + above + six);
-    io::write_all(OUT, b" of 6\n");
+    let count = none + cut + zeros + long + above + six;
+    writeln!(out, "refused {count} of 6")?;
+    out.flush()
 }

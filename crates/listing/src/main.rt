@@ -1,18 +1,18 @@
 // Reads a record list of at most 16,384 bytes from standard input, builds a leaf of it at limit 64, budget 256, without boundaries, in
 // an arena of 49,152 bytes from 8 on, and lists what the page says by walking it; or prints the number of the refusal.
 #![tactic(auto)]
+
 ghost use Rattle.std.specs.Prelude.{◌≡◌, length};
 
 use build_image::Built;
 use frames::{Addr, NULL_PID, Opened, Refusal};
+use std::io;
+use std::io::{BufWriter, Write};
 use walks::{Begun, Item, Step, Walk};
 
-const OUT: i32 = 1;
-
-fn refused(r: Refusal) {
-    io::write_all(OUT, b"refused ");
-    io::print_decimal(OUT, frames::number(r) as u64);
-    io::write_all(OUT, b"\n");
+fn refused<W: Write>(out: &mut W, r: Refusal) -> io::Result<()> {
+    let n = frames::number(r);
+    writeln!(out, "refused {n}")
 }
 
 // How many records a walk finds: a list of this size holds fewer than a thousand.
@@ -40,75 +40,63 @@ fn count(s: &[u8], from: Walk) -> usize {
 }
 
 // KEYHEX TXID CMD VALUEHEX
-fn line(s: &[u8], x: Item) {
+fn line<W: Write>(out: &mut W, s: &[u8], x: Item) -> io::Result<()> {
     let v = x.ver;
-    replay_text::print_bytes(OUT, walks::rest_of(s, x));
-    io::write_all(OUT, b" ");
-    io::print_decimal(OUT, v.txid);
-    io::write_all(OUT, b" ");
-    io::print_decimal(OUT, v.cmd as u64);
-    io::write_all(OUT, b" ");
-    replay_text::print_bytes(OUT, walks::value_of(s, x));
-    io::write_all(OUT, b"\n");
+    let txid = v.txid;
+    let cmd = v.cmd;
+    replay_text::print_bytes(out, walks::rest_of(s, x))?;
+    write!(out, " {txid} {cmd} ")?;
+    replay_text::print_bytes(out, walks::value_of(s, x))?;
+    out.write_all(b"\n")
 }
 
-fn lines(s: &[u8], from: Walk) {
+fn lines<W: Write>(out: &mut W, s: &[u8], from: Walk) -> io::Result<()> {
     let mut w = from;
     let mut k: usize = 0;
     while k < 16384 {
         match w.step(s) {
             Step::Found(x, next) => {
-                line(s, x);
+                line(out, s, x)?;
                 w = next;
             }
             Step::Leads(_, next) => {
                 w = next;
             }
             Step::End => {
-                return;
+                return Ok(());
             }
             Step::Refused(r) => {
-                refused(r);
-                return;
+                return refused(out, r);
             }
         }
         k += 1;
     }
+    Ok(())
 }
 
 // What the page at an address says.
-fn listed(s: &[u8], a: Addr) {
+fn listed<W: Write>(out: &mut W, s: &[u8], a: Addr) -> io::Result<()> {
     let Opened::Is(b) = frames::open_at(s, a) else {
-        refused(Refusal::BadFrame);
-        return;
+        return refused(out, Refusal::BadFrame);
     };
     let keys = b.elems;
     let begun = walks::forward(s, a, 0, keys);
     match begun {
         Begun::Is(w) => {
-            io::write_all(OUT, b"keys ");
-            io::print_decimal(OUT, keys as u64);
-            io::write_all(OUT, b" records ");
-            io::print_decimal(OUT, count(s, w) as u64);
-            io::write_all(OUT, b"\n");
-            lines(s, w);
+            let records = count(s, w);
+            writeln!(out, "keys {keys} records {records}")?;
+            lines(out, s, w)
         }
-        Begun::Refused(r) => {
-            refused(r);
-        }
+        Begun::Refused(r) => refused(out, r),
     }
 }
 
 // Builds the list's leaf, and lists it.
-fn built(arena: &mut [u8], list: &[u8]) {
+fn built<W: Write>(out: &mut W, arena: &mut [u8], list: &[u8]) -> io::Result<()> {
     let r = base::new_leaf(arena, 8, list, b"", b"", NULL_PID, 64, 256, 0, 0, 0, 0);
     match r {
-        Built::At(a, _) => {
-            listed(&arena[..], a);
-        }
-        Built::Refused(n) => {
-            refused(n);
-        }
+        Built::At(a, _) => listed(out, &arena[..], a),
+        Built::Refused(n) => refused(out, n),
     }
 }
 
@@ -119,13 +107,15 @@ fn whole_arena() -> [u8; 49152]
     [0; 49152]
 }
 
-fn main() {
-    let mut buf = io::large_buffer();
-    let n = io::read_full(0, &mut buf);
+fn main(rt: HostRuntime) -> io::Result<()> {
+    let mut out = BufWriter::new(rt.alloc(), io::writer(&rt))?;
+    let mut buf = [0u8; 65536];
+    let n = replay_text::read_full(&mut rt.stdin(), &mut buf)?;
     if 16384 < n {
-        refused(Refusal::BadList);
-        return;
+        refused(&mut out, Refusal::BadList)?;
+        return out.flush();
     }
     let mut arena = whole_arena();
-    built(&mut arena, &buf[..n]);
+    built(&mut out, &mut arena, &buf[..n])?;
+    out.flush()
 }

@@ -1,7 +1,11 @@
 // Replays the judge's vectors: reads tests/vectors (tools/test puts them together), leaves every answer out, prints every other line again
 // with our own answer behind it, and must so write what it read, byte for byte.
 #![tactic(auto)]
-ghost use Rattle.std.specs.Prelude.{◌≡◌, ◌+◌, ◌≤◌, length};
+
+ghost use Rattle.std.specs.Prelude.{◌≡◌, ◌+◌, ◌≤◌, length, IfOk};
+
+use std::io;
+use std::io::{BufWriter, Read, Write};
 
 // How far the arena and the second buffer go in the room for them.
 #[derive(Clone, Copy)]
@@ -39,45 +43,57 @@ fn store(l: &[u8], arena: &mut [u8]) {
 }
 
 // Carries out a command on an arena and a second buffer, and prints its answer.
-fn answered(l: &[u8], arena: &mut [u8], second: &[u8]) {
+fn answered<W: Write>(out: &mut W, l: &[u8], arena: &mut [u8], second: &[u8]) -> io::Result<()> {
     if replay_text::says(l, 0, b"put ") {
         store(l, arena);
-        return;
+        return Ok(());
     }
-    if replay_writers::carried_out(l, arena) {
-        return;
+    if replay_writers::carried_out(out, l, arena)? {
+        return Ok(());
     }
-    replay_readers::answer(l, arena, second);
+    replay_readers::answer(out, l, arena, second)
 }
 
 // The same on the rooms that the two lie in.
-fn in_rooms(l: &[u8], arena: &mut [u8], second: &mut [u8], st: State) {
+fn in_rooms<W: Write>(
+    out: &mut W,
+    l: &[u8],
+    arena: &mut [u8],
+    second: &mut [u8],
+    st: State,
+) -> io::Result<()> {
     let n = at_most(st.arena as u64, arena.len());
     let m = at_most(st.second as u64, second.len());
-    answered(l, &mut arena[..n], &second[..m]);
+    answered(out, l, &mut arena[..n], &second[..m])
 }
 
 // One line: left out where it is an answer, else printed again and carried out. buffer BYTES is the second buffer from here on.
-fn turn(l: &[u8], arena: &mut [u8], second: &mut [u8], st: State) -> State {
+fn turn<W: Write>(
+    out: &mut W,
+    l: &[u8],
+    arena: &mut [u8],
+    second: &mut [u8],
+    st: State,
+) -> io::Result<State> {
     if replay_script::is_answer(l) {
-        return st;
+        return Ok(st);
     }
-    replay_script::say(l);
-    replay_script::end_line();
+    replay_script::say(out, l)?;
+    replay_script::end_line(out)?;
     if replay_text::says(l, 0, b"arena ") {
-        return State {
+        return Ok(State {
             arena: begun(l, arena),
             second: st.second,
-        };
+        });
     }
     if replay_text::says(l, 0, b"buffer ") {
-        return State {
+        return Ok(State {
             arena: st.arena,
             second: replay_text::bytes_at(l, replay_script::place(l, 1), second),
-        };
+        });
     }
-    in_rooms(l, arena, second, st);
-    st
+    in_rooms(out, l, arena, second, st)?;
+    Ok(st)
 }
 
 // How much of a text has been carried out, and the state behind it.
@@ -88,20 +104,26 @@ struct Done {
 }
 
 // The whole lines of a text.
-fn lines(t: &[u8], arena: &mut [u8], second: &mut [u8], st: State) -> Done
-    ensures { result.upto ≤ length t.now }
+fn lines<W: Write>(
+    out: &mut W,
+    t: &[u8],
+    arena: &mut [u8],
+    second: &mut [u8],
+    st: State,
+) -> io::Result<Done>
+    ensures { IfOk result (λ d. d.upto ≤ length t.now) }
 {
     let mut at = 0;
     let mut now = st;
     while at < t.len() {
         let e = replay_text::find(t, at, b'\n');
         if t.len() <= e {
-            return Done { upto: at, st: now };
+            return Ok(Done { upto: at, st: now });
         }
-        now = turn(&t[at..e], arena, second, now);
+        now = turn(out, &t[at..e], arena, second, now)?;
         at = e + 1;
     }
-    Done { upto: at, st: now }
+    Ok(Done { upto: at, st: now })
 }
 
 // Moves the n bytes from index from on to the front.
@@ -116,31 +138,44 @@ fn to_front(buf: &mut [u8], from: usize, n: usize)
 }
 
 // Reads what fits behind the bytes at hand; how many there are then.
-fn filled(buf: &mut [u8], have: usize) -> usize
-    ensures { result ≤ length buf.new }
+fn filled<R: Read>(from: &mut R, buf: &mut [u8], have: usize) -> io::Result<usize>
+    ensures { IfOk result (λ n. n ≤ length buf.new) }
 {
     let at = at_most(have as u64, buf.len());
-    let got = io::read_full(0, &mut buf[at..]);
-    at_most((at as u64) + (got as u64), buf.len())
+    let got = replay_text::read_full(from, &mut buf[at..])?;
+    Ok(at_most((at as u64) + (got as u64), buf.len()))
 }
 
 // Carries out the whole lines of the first n bytes, and keeps the rest at the front; the count of that, and the state.
-fn carried(buf: &mut [u8], n: usize, arena: &mut [u8], second: &mut [u8], st: State) -> Done
+fn carried<W: Write>(
+    out: &mut W,
+    buf: &mut [u8],
+    n: usize,
+    arena: &mut [u8],
+    second: &mut [u8],
+    st: State,
+) -> io::Result<Done>
     requires { n ≤ length buf.old }
 {
-    let d = lines(&buf[..n], arena, second, st);
+    let d = lines(out, &buf[..n], arena, second, st)?;
     let from = d.upto;
     let left = n - from;
     to_front(buf, from, left);
     let after = d.st;
-    Done {
+    Ok(Done {
         upto: left,
         st: after,
-    }
+    })
 }
 
 // Standard input in rounds of what buf holds, 256 of them: 16 MB in all.
-fn rounds(buf: &mut [u8], arena: &mut [u8], second: &mut [u8]) {
+fn rounds<R: Read, W: Write>(
+    from: &mut R,
+    out: &mut W,
+    buf: &mut [u8],
+    arena: &mut [u8],
+    second: &mut [u8],
+) -> io::Result<()> {
     let mut have = 0;
     let mut st = State {
         arena: 0,
@@ -148,13 +183,14 @@ fn rounds(buf: &mut [u8], arena: &mut [u8], second: &mut [u8]) {
     };
     let mut k: usize = 0;
     while k < 256 {
-        let n = filled(buf, have);
-        let d = carried(buf, n, arena, second, st);
+        let n = filled(from, buf, have)?;
+        let d = carried(out, buf, n, arena, second, st)?;
         have = d.upto;
         let after = d.st;
         st = after;
         k += 1;
     }
+    Ok(())
 }
 
 // Zeros for an arena and for a second buffer. The `ensures` gives the length, which lending the array needs.
@@ -170,9 +206,11 @@ fn second_room() -> [u8; 16384]
     [0; 16384]
 }
 
-fn main() {
-    let mut buf = io::large_buffer();
+fn main(rt: HostRuntime) -> io::Result<()> {
+    let mut out = BufWriter::new(rt.alloc(), io::writer(&rt))?;
+    let mut buf = [0u8; 65536];
     let mut arena = arena_room();
     let mut second = second_room();
-    rounds(&mut buf, &mut arena, &mut second);
+    rounds(&mut rt.stdin(), &mut out, &mut buf, &mut arena, &mut second)?;
+    out.flush()
 }

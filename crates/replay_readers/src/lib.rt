@@ -1,5 +1,6 @@
 // The commands of the judge's vectors that read: each is carried out on the lent arena, and what it answers is printed.
 #![tactic(auto)]
+
 ghost use Rattle.std.specs.Prelude.{◌≡◌, length};
 
 use delta::{Child, IndexKey, LeafKey, Value};
@@ -9,276 +10,276 @@ use order::Ver;
 use overlay::Laid;
 use pages::{BoundsRead, Checked, Hint, Hints, HintsRead};
 use sst::{Bound, Floor, Found};
+use std::io;
+use std::io::Write;
 use walks::{Begun, Branch, Item, Step, Walk};
 
 // ---- pages
 
-fn check(s: &[u8], a: Addr) {
+fn check<W: Write>(out: &mut W, s: &[u8], a: Addr) -> io::Result<()> {
     match pages::check(s, a) {
-        Checked::Sound => replay_script::is_number(1),
-        Checked::Refused(r) => replay_script::refused(r),
+        Checked::Sound => replay_script::is_number(out, 1),
+        Checked::Refused(r) => replay_script::refused(out, r),
     }
 }
 
 // hi, which is none where it is empty.
-fn high(b: &[u8]) {
+fn high<W: Write>(out: &mut W, b: &[u8]) -> io::Result<()> {
     if b.len() == 0 {
-        replay_script::nothing();
-        return;
+        return replay_script::nothing(out);
     }
-    replay_script::is_bytes(b);
+    replay_script::is_bytes(out, b)
 }
 
-fn boundary(s: &[u8], a: Addr, which: u8) {
+fn boundary<W: Write>(out: &mut W, s: &[u8], a: Addr, which: u8) -> io::Result<()> {
     match pages::bounds_at(s, a) {
-        BoundsRead::Refused(r) => replay_script::refused(r),
+        BoundsRead::Refused(r) => replay_script::refused(out, r),
         BoundsRead::Is(_) => {
             if which == b'l' {
-                replay_script::is_bytes(pages::lo(s, a));
+                replay_script::is_bytes(out, pages::lo(s, a))
             } else {
                 if which == b'h' {
-                    high(pages::hi(s, a));
+                    high(out, pages::hi(s, a))
                 } else {
-                    replay_script::is_bytes(pages::prefix(s, a));
+                    replay_script::is_bytes(out, pages::prefix(s, a))
                 }
             }
         }
     }
 }
 
-fn addresses(s: &[u8], h: Hints) {
-    replay_script::say(b"=");
+fn addresses<W: Write>(out: &mut W, s: &[u8], h: Hints) -> io::Result<()> {
+    replay_script::say(out, b"=")?;
     let n = h.count;
     let mut k = 0;
     while k < n {
         match pages::hint_at(s, h, k) {
-            Hint::Is(a) => replay_script::say_number(a.0),
-            Hint::Nothing => replay_script::say_number(0),
+            Hint::Is(a) => replay_script::say_number(out, a.0)?,
+            Hint::Nothing => replay_script::say_number(out, 0)?,
         }
         k += 1;
     }
-    replay_script::end_line();
+    replay_script::end_line(out)
 }
 
-fn hints(s: &[u8], h: HintsRead) {
+fn hints<W: Write>(out: &mut W, s: &[u8], h: HintsRead) -> io::Result<()> {
     match h {
-        HintsRead::Are(x) => addresses(s, x),
-        HintsRead::Nothing => replay_script::nothing(),
-        HintsRead::Refused(r) => replay_script::refused(r),
+        HintsRead::Are(x) => addresses(out, s, x),
+        HintsRead::Nothing => replay_script::nothing(out),
+        HintsRead::Refused(r) => replay_script::refused(out, r),
     }
 }
 
 // check, lo, hi, prefix, hists, remotes: ADDR. Each `of_..` answers its commands and says whether the line was one.
-fn of_page(l: &[u8], s: &[u8], a: Addr) -> bool {
+fn of_page<W: Write>(out: &mut W, l: &[u8], s: &[u8], a: Addr) -> io::Result<bool> {
     if replay_text::says(l, 0, b"check ") {
-        check(s, a);
-        return true;
+        check(out, s, a)?;
+        return Ok(true);
     }
     if replay_text::says(l, 0, b"lo ") {
-        boundary(s, a, b'l');
-        return true;
+        boundary(out, s, a, b'l')?;
+        return Ok(true);
     }
     if replay_text::says(l, 0, b"hi ") {
-        boundary(s, a, b'h');
-        return true;
+        boundary(out, s, a, b'h')?;
+        return Ok(true);
     }
     if replay_text::says(l, 0, b"prefix ") {
-        boundary(s, a, b'p');
-        return true;
+        boundary(out, s, a, b'p')?;
+        return Ok(true);
     }
     if replay_text::says(l, 0, b"hists ") {
-        hints(s, pages::history_hints(s, a));
-        return true;
+        hints(out, s, pages::history_hints(s, a))?;
+        return Ok(true);
     }
     if replay_text::says(l, 0, b"remotes ") {
-        hints(s, pages::remote_hints(s, a));
-        return true;
+        hints(out, s, pages::remote_hints(s, a))?;
+        return Ok(true);
     }
-    false
+    Ok(false)
 }
 
 // ---- walks
 
-fn row(s: &[u8], x: Item) {
+fn row<W: Write>(out: &mut W, s: &[u8], x: Item) -> io::Result<()> {
     let ver = x.ver;
     let named = x.named;
-    replay_script::say(b"r");
-    replay_script::say_bytes(walks::rest_of(s, x));
-    replay_script::say_number(ver.txid);
-    replay_script::say_number(ver.cmd as u64);
-    replay_script::say_bytes(walks::value_of(s, x));
-    replay_script::say_number(named.0);
-    replay_script::end_line();
+    replay_script::say(out, b"r")?;
+    replay_script::say_bytes(out, walks::rest_of(s, x))?;
+    replay_script::say_number(out, ver.txid)?;
+    replay_script::say_number(out, ver.cmd as u64)?;
+    replay_script::say_bytes(out, walks::value_of(s, x))?;
+    replay_script::say_number(out, named.0)?;
+    replay_script::end_line(out)
 }
 
-fn child(s: &[u8], x: Branch) {
+fn child<W: Write>(out: &mut W, s: &[u8], x: Branch) -> io::Result<()> {
     let page = x.page;
-    replay_script::say(b"i");
-    replay_script::say_bytes(walks::branch_rest_of(s, x));
-    replay_script::say_number(page.0);
-    replay_script::end_line();
+    replay_script::say(out, b"i")?;
+    replay_script::say_bytes(out, walks::branch_rest_of(s, x))?;
+    replay_script::say_number(out, page.0)?;
+    replay_script::end_line(out)
 }
 
 // All steps of a walk, of which the vectors have fewer than a million.
-fn steps(s: &[u8], from: Walk) {
+fn steps<W: Write>(out: &mut W, s: &[u8], from: Walk) -> io::Result<()> {
     let mut w = from;
     let mut k: usize = 0;
     while k < 1000000 {
         match w.step(s) {
             Step::Found(x, next) => {
-                row(s, x);
+                row(out, s, x)?;
                 w = next;
             }
             Step::Leads(x, next) => {
-                child(s, x);
+                child(out, s, x)?;
                 w = next;
             }
             Step::End => {
-                replay_script::say(b"end\n");
-                return;
+                return replay_script::say(out, b"end\n");
             }
             Step::Refused(r) => {
-                replay_script::refused(r);
-                return;
+                return replay_script::refused(out, r);
             }
         }
         k += 1;
     }
+    Ok(())
 }
 
-fn walked(s: &[u8], b: Begun) {
+fn walked<W: Write>(out: &mut W, s: &[u8], b: Begun) -> io::Result<()> {
     match b {
-        Begun::Is(w) => steps(s, w),
-        Begun::Refused(r) => replay_script::refused(r),
+        Begun::Is(w) => steps(out, s, w),
+        Begun::Refused(r) => replay_script::refused(out, r),
     }
 }
 
 // walk ADDR BEGIN END
 // back ADDR START END
-fn of_walk(l: &[u8], s: &[u8], a: Addr) -> bool {
+fn of_walk<W: Write>(out: &mut W, l: &[u8], s: &[u8], a: Addr) -> io::Result<bool> {
     if replay_text::says(l, 0, b"walk ") {
         let begin = replay_script::number(l, 2) as usize;
         let end = replay_script::number(l, 3) as usize;
-        walked(s, walks::forward(s, a, begin, end));
-        return true;
+        walked(out, s, walks::forward(s, a, begin, end))?;
+        return Ok(true);
     }
     if replay_text::says(l, 0, b"back ") {
         let start = replay_script::signed(l, 2);
         let end = replay_script::signed(l, 3);
-        walked(s, walks::backward(s, a, start, end));
-        return true;
+        walked(out, s, walks::backward(s, a, start, end))?;
+        return Ok(true);
     }
-    false
+    Ok(false)
 }
 
 // ---- deltas
 
-fn delta_key(s: &[u8], a: Addr) {
+fn delta_key<W: Write>(out: &mut W, s: &[u8], a: Addr) -> io::Result<()> {
     match delta::key(s, a) {
         LeafKey::Is { ver, key } => {
-            replay_script::say(b"=");
-            replay_script::say_bytes(pages::part_at(s, key));
-            replay_script::say_number(ver.txid);
-            replay_script::say_number(ver.cmd as u64);
-            replay_script::end_line();
+            replay_script::say(out, b"=")?;
+            replay_script::say_bytes(out, pages::part_at(s, key))?;
+            replay_script::say_number(out, ver.txid)?;
+            replay_script::say_number(out, ver.cmd as u64)?;
+            replay_script::end_line(out)
         }
-        LeafKey::Refused(r) => replay_script::refused(r),
+        LeafKey::Refused(r) => replay_script::refused(out, r),
     }
 }
 
-fn delta_val(s: &[u8], a: Addr) {
+fn delta_val<W: Write>(out: &mut W, s: &[u8], a: Addr) -> io::Result<()> {
     match delta::val(s, a) {
-        Value::Is(p) => replay_script::is_bytes(pages::part_at(s, p)),
-        Value::Refused(r) => replay_script::refused(r),
+        Value::Is(p) => replay_script::is_bytes(out, pages::part_at(s, p)),
+        Value::Refused(r) => replay_script::refused(out, r),
     }
 }
 
-fn index_key(s: &[u8], a: Addr) {
+fn index_key<W: Write>(out: &mut W, s: &[u8], a: Addr) -> io::Result<()> {
     match delta::index_key(s, a) {
-        IndexKey::Is(p) => replay_script::is_bytes(pages::part_at(s, p)),
-        IndexKey::Refused(r) => replay_script::refused(r),
+        IndexKey::Is(p) => replay_script::is_bytes(out, pages::part_at(s, p)),
+        IndexKey::Refused(r) => replay_script::refused(out, r),
     }
 }
 
-fn index_page(s: &[u8], a: Addr) {
+fn index_page<W: Write>(out: &mut W, s: &[u8], a: Addr) -> io::Result<()> {
     match delta::index(s, a) {
-        Child::Is(p) => replay_script::is_number(p.0),
-        Child::Refused(r) => replay_script::refused(r),
+        Child::Is(p) => replay_script::is_number(out, p.0),
+        Child::Refused(r) => replay_script::refused(out, r),
     }
 }
 
 // dkey, dval, ikey, ipid: ADDR
-fn of_delta(l: &[u8], s: &[u8], a: Addr) -> bool {
+fn of_delta<W: Write>(out: &mut W, l: &[u8], s: &[u8], a: Addr) -> io::Result<bool> {
     if replay_text::says(l, 0, b"dkey ") {
-        delta_key(s, a);
-        return true;
+        delta_key(out, s, a)?;
+        return Ok(true);
     }
     if replay_text::says(l, 0, b"dval ") {
-        delta_val(s, a);
-        return true;
+        delta_val(out, s, a)?;
+        return Ok(true);
     }
     if replay_text::says(l, 0, b"ikey ") {
-        index_key(s, a);
-        return true;
+        index_key(out, s, a)?;
+        return Ok(true);
     }
     if replay_text::says(l, 0, b"ipid ") {
-        index_page(s, a);
-        return true;
+        index_page(out, s, a)?;
+        return Ok(true);
     }
-    false
+    Ok(false)
 }
 
 // ---- lengths
 
 // length N
-fn of_length(l: &[u8]) -> bool {
+fn of_length<W: Write>(out: &mut W, l: &[u8]) -> io::Result<bool> {
     if replay_text::says(l, 0, b"length ") {
         let mut b = [0u8; 8];
         let n = lengths::write(&mut b, 0, replay_script::word32(l, 1));
-        replay_script::is_bytes(spans::part_of(&b, 0, n));
-        return true;
+        replay_script::is_bytes(out, spans::part_of(&b, 0, n))?;
+        return Ok(true);
     }
-    false
+    Ok(false)
 }
 
-fn unlength(b: &[u8]) {
+fn unlength<W: Write>(out: &mut W, b: &[u8]) -> io::Result<()> {
     match lengths::read(b, 0) {
-        Length::Is(v, next) => replay_script::are_numbers(v as u64, next as u64),
-        Length::Bad => replay_script::refused(Refusal::BadFrame),
+        Length::Is(v, next) => replay_script::are_numbers(out, v as u64, next as u64),
+        Length::Bad => replay_script::refused(out, Refusal::BadFrame),
     }
 }
 
 // ---- commands that give bytes
 
-fn nothing_after(reads: usize) {
-    replay_script::say(b"none");
-    replay_script::say_number(reads as u64);
-    replay_script::end_line();
+fn nothing_after<W: Write>(out: &mut W, reads: usize) -> io::Result<()> {
+    replay_script::say(out, b"none")?;
+    replay_script::say_number(out, reads as u64)?;
+    replay_script::end_line(out)
 }
 
-fn lower(s: &[u8], a: Addr, key: &[u8], v: Ver) {
+fn lower<W: Write>(out: &mut W, s: &[u8], a: Addr, key: &[u8], v: Ver) -> io::Result<()> {
     match sst::lower_bound(s, a, key, v) {
-        Bound::At { pos, reads } => replay_script::are_numbers(pos as u64, reads as u64),
-        Bound::PastEnd { pos, reads } => replay_script::are_numbers(pos as u64, reads as u64),
-        Bound::Refused(r) => replay_script::refused(r),
+        Bound::At { pos, reads } => replay_script::are_numbers(out, pos as u64, reads as u64),
+        Bound::PastEnd { pos, reads } => replay_script::are_numbers(out, pos as u64, reads as u64),
+        Bound::Refused(r) => replay_script::refused(out, r),
     }
 }
 
-fn floor(s: &[u8], a: Addr, key: &[u8]) {
+fn floor<W: Write>(out: &mut W, s: &[u8], a: Addr, key: &[u8]) -> io::Result<()> {
     match sst::floor_pid_by_raw(s, a, key) {
         Floor::Is { slot, page, reads } => {
-            replay_script::say(b"=");
-            replay_script::say_number(slot as u64);
-            replay_script::say_number(page.0);
-            replay_script::say_number(reads as u64);
-            replay_script::end_line();
+            replay_script::say(out, b"=")?;
+            replay_script::say_number(out, slot as u64)?;
+            replay_script::say_number(out, page.0)?;
+            replay_script::say_number(out, reads as u64)?;
+            replay_script::end_line(out)
         }
-        Floor::Nothing { reads } => nothing_after(reads),
-        Floor::Refused(r) => replay_script::refused(r),
+        Floor::Nothing { reads } => nothing_after(out, reads),
+        Floor::Refused(r) => replay_script::refused(out, r),
     }
 }
 
-fn search(s: &[u8], a: Addr, key: &[u8]) {
+fn search<W: Write>(out: &mut W, s: &[u8], a: Addr, key: &[u8]) -> io::Result<()> {
     match sst::search_ver_val_by_raw(s, a, key) {
         Found::Is {
             slot,
@@ -287,32 +288,32 @@ fn search(s: &[u8], a: Addr, key: &[u8]) {
             value,
             reads,
         } => {
-            replay_script::say(b"=");
-            replay_script::say_number(slot as u64);
-            replay_script::say_number(ver.txid);
-            replay_script::say_number(ver.cmd as u64);
-            replay_script::say_bytes(pages::part_at(s, value));
-            replay_script::say_number(reads as u64);
-            replay_script::end_line();
+            replay_script::say(out, b"=")?;
+            replay_script::say_number(out, slot as u64)?;
+            replay_script::say_number(out, ver.txid)?;
+            replay_script::say_number(out, ver.cmd as u64)?;
+            replay_script::say_bytes(out, pages::part_at(s, value))?;
+            replay_script::say_number(out, reads as u64)?;
+            replay_script::end_line(out)
         }
-        Found::Nothing { reads } => nothing_after(reads),
-        Found::Refused(r) => replay_script::refused(r),
+        Found::Nothing { reads } => nothing_after(out, reads),
+        Found::Refused(r) => replay_script::refused(out, r),
     }
 }
 
 // Bytes of an overlay, behind a word that says whose they are.
-fn lent_by(which: &[u8], b: &[u8]) {
-    replay_script::say(which);
-    replay_script::say_bytes(b);
-    replay_script::end_line();
+fn lent_by<W: Write>(out: &mut W, which: &[u8], b: &[u8]) -> io::Result<()> {
+    replay_script::say(out, which)?;
+    replay_script::say_bytes(out, b)?;
+    replay_script::end_line(out)
 }
 
-fn laid(s: &[u8], a: Addr, t: &[u8], d: Addr, key: &[u8]) {
+fn laid<W: Write>(out: &mut W, s: &[u8], a: Addr, t: &[u8], d: Addr, key: &[u8]) -> io::Result<()> {
     match overlay::answer(s, a, t, d, key) {
-        Laid::Delta(p) => lent_by(b"= d", pages::part_at(t, p)),
-        Laid::Page(p) => lent_by(b"= p", pages::part_at(s, p)),
-        Laid::Nothing => replay_script::nothing(),
-        Laid::Refused(r) => replay_script::refused(r),
+        Laid::Delta(p) => lent_by(out, b"= d", pages::part_at(t, p)),
+        Laid::Page(p) => lent_by(out, b"= p", pages::part_at(s, p)),
+        Laid::Nothing => replay_script::nothing(out),
+        Laid::Refused(r) => replay_script::refused(out, r),
     }
 }
 
@@ -332,37 +333,49 @@ fn bytes_word(l: &[u8]) -> usize {
 // search ADDR KEY
 // overlay ADDR DELTA KEY
 // unlength BYTES
-fn of_bytes(l: &[u8], s: &[u8], a: Addr, t: &[u8], key: &[u8]) {
+fn of_bytes<W: Write>(
+    out: &mut W,
+    l: &[u8],
+    s: &[u8],
+    a: Addr,
+    t: &[u8],
+    key: &[u8],
+) -> io::Result<()> {
     if replay_text::says(l, 0, b"search ") {
-        search(s, a, key);
-        return;
+        return search(out, s, a, key);
     }
     if replay_text::says(l, 0, b"lower ") {
-        lower(
+        return lower(
+            out,
             s,
             a,
             key,
             Ver::new(replay_script::number(l, 3), replay_script::word32(l, 4)),
         );
-        return;
     }
     if replay_text::says(l, 0, b"floor ") {
-        floor(s, a, key);
-        return;
+        return floor(out, s, a, key);
     }
     if replay_text::says(l, 0, b"overlay ") {
-        laid(s, a, t, replay_script::address(l, 2), key);
-        return;
+        return laid(out, s, a, t, replay_script::address(l, 2), key);
     }
     if replay_text::says(l, 0, b"unlength ") {
-        unlength(key);
+        return unlength(out, key);
     }
+    Ok(())
 }
 
 // The same with room for the bytes.
-fn with_bytes(l: &[u8], s: &[u8], a: Addr, t: &[u8], room: &mut [u8]) {
+fn with_bytes<W: Write>(
+    out: &mut W,
+    l: &[u8],
+    s: &[u8],
+    a: Addr,
+    t: &[u8],
+    room: &mut [u8],
+) -> io::Result<()> {
     let n = replay_text::bytes_at(l, replay_script::place(l, bytes_word(l)), room);
-    of_bytes(l, s, a, t, &room[..n]);
+    of_bytes(out, l, s, a, t, &room[..n])
 }
 
 // ---- all of them
@@ -375,20 +388,20 @@ fn probe_room() -> [u8; 16384]
 }
 
 // Answers the command of a line on an arena and a second buffer; prints nothing where the line is no reader's.
-pub fn answer(l: &[u8], s: &[u8], t: &[u8]) {
+pub fn answer<W: Write>(out: &mut W, l: &[u8], s: &[u8], t: &[u8]) -> io::Result<()> {
     let a = replay_script::address(l, 1);
-    if of_page(l, s, a) {
-        return;
+    if of_page(out, l, s, a)? {
+        return Ok(());
     }
-    if of_walk(l, s, a) {
-        return;
+    if of_walk(out, l, s, a)? {
+        return Ok(());
     }
-    if of_delta(l, s, a) {
-        return;
+    if of_delta(out, l, s, a)? {
+        return Ok(());
     }
-    if of_length(l) {
-        return;
+    if of_length(out, l)? {
+        return Ok(());
     }
     let mut room = probe_room();
-    with_bytes(l, s, a, t, &mut room);
+    with_bytes(out, l, s, a, t, &mut room)
 }

@@ -1,9 +1,15 @@
 // The language of the judge's vectors (rust/oracle/README.md): a command's words read, and the pieces of an answer printed.
 #![tactic(auto)]
 
-use frames::{Addr, Refusal};
+ghost use Rattle.std.specs.Prelude.{◌++◌, codes, OnOk};
+ghost use Rattle.std.specs.Io.KnownBytes.{Appends};
+ghost use Rattle.frames.specs.Refusals.{number_of};
+ghost use Rattle.replay_text.specs.Text.{runs_text};
+ghost use Rattle.replay_script.specs.Pieces.{number_text, refused_text};
 
-const OUT: i32 = 1;
+use frames::{Addr, Refusal};
+use std::io;
+use std::io::Write;
 
 // ---- a command's words
 
@@ -66,53 +72,70 @@ pub fn signed(l: &[u8], k: usize) -> i64 {
     9223372036854775807
 }
 
-// ---- an answer's pieces
+// ---- an answer's pieces; a failed write ends each, and some of it may be written
 
-pub fn say(b: &[u8]) {
-    io::write_all(OUT, b);
+pub fn say<W: Write>(out: &mut W, b: &[u8]) -> io::Result<()>
+    ensures { OnOk result (Appends (W.contents out.old) (W.contents out.new) (b.now)) }
+{
+    out.write_all(b)
 }
 
-pub fn end_line() {
-    io::write_all(OUT, b"\n");
+pub fn end_line<W: Write>(out: &mut W) -> io::Result<()>
+    ensures { OnOk result (Appends (W.contents out.old) (W.contents out.new) (codes "\n")) }
+{
+    out.write_all(b"\n")
 }
 
 // A number behind a space.
-pub fn say_number(n: u64) {
-    io::write_all(OUT, b" ");
-    io::print_decimal(OUT, n);
+pub fn say_number<W: Write>(out: &mut W, n: u64) -> io::Result<()>
+    ensures { OnOk result (Appends (W.contents out.old) (W.contents out.new) (number_text n)) }
+{
+    write!(out, " {n}")
 }
 
 // Bytes behind a space.
-pub fn say_bytes(b: &[u8]) {
-    io::write_all(OUT, b" ");
-    replay_text::print_runs(OUT, b);
+pub fn say_bytes<W: Write>(out: &mut W, b: &[u8]) -> io::Result<()>
+    ensures { OnOk result (Appends (W.contents out.old) (W.contents out.new) (codes " " ++ runs_text b.now)) }
+{
+    out.write_all(b" ")?;
+    replay_text::print_runs(out, b)
 }
 
-pub fn refused(r: Refusal) {
-    io::write_all(OUT, b"!");
-    say_number(frames::number(r) as u64);
-    end_line();
+pub fn refused<W: Write>(out: &mut W, r: Refusal) -> io::Result<()>
+    ensures { OnOk result (Appends (W.contents out.old) (W.contents out.new) (refused_text (number_of r))) }
+{
+    out.write_all(b"!")?;
+    say_number(out, frames::number(r) as u64)?;
+    end_line(out)
 }
 
-pub fn nothing() {
-    io::write_all(OUT, b"none\n");
+pub fn nothing<W: Write>(out: &mut W) -> io::Result<()>
+    ensures { OnOk result (Appends (W.contents out.old) (W.contents out.new) (codes "none\n")) }
+{
+    out.write_all(b"none\n")
 }
 
-pub fn is_bytes(b: &[u8]) {
-    io::write_all(OUT, b"=");
-    say_bytes(b);
-    end_line();
+pub fn is_bytes<W: Write>(out: &mut W, b: &[u8]) -> io::Result<()>
+    ensures { OnOk result (Appends (W.contents out.old) (W.contents out.new) (codes "=" ++ ((codes " " ++ runs_text b.now) ++ codes "\n"))) }
+{
+    out.write_all(b"=")?;
+    say_bytes(out, b)?;
+    end_line(out)
 }
 
-pub fn is_number(n: u64) {
-    io::write_all(OUT, b"=");
-    say_number(n);
-    end_line();
+pub fn is_number<W: Write>(out: &mut W, n: u64) -> io::Result<()>
+    ensures { OnOk result (Appends (W.contents out.old) (W.contents out.new) (codes "=" ++ (number_text n ++ codes "\n"))) }
+{
+    out.write_all(b"=")?;
+    say_number(out, n)?;
+    end_line(out)
 }
 
-pub fn are_numbers(a: u64, b: u64) {
-    io::write_all(OUT, b"=");
-    say_number(a);
-    say_number(b);
-    end_line();
+pub fn are_numbers<W: Write>(out: &mut W, a: u64, b: u64) -> io::Result<()>
+    ensures { OnOk result (Appends (W.contents out.old) (W.contents out.new) (codes "=" ++ (number_text a ++ (number_text b ++ codes "\n")))) }
+{
+    out.write_all(b"=")?;
+    say_number(out, a)?;
+    say_number(out, b)?;
+    end_line(out)
 }

@@ -1,4 +1,4 @@
--- Where what was read ends: in the text, so that a loop over it goes on and ends. What a text means is tested by running, not proved.
+-- Where what was read ends: in the text, so that a loop over it goes on and ends. What a text that is read means is tested by running, not proved.
 -- Assumes nothing.
 use Rattle.std.specs.Prelude.{ℕ, ◌+◌, ◌≤◌, ◌<◌, List, length}
 use Rattle.replay_text.specs.declared.Number.{Number}

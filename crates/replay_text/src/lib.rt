@@ -1,8 +1,13 @@
 // Text for the programs: lines, words, decimal numbers and hexadecimal bytes (runs as hh*N.), read from a slice and printed.
 #![tactic(auto)]
 
-ghost use Rattle.std.specs.Prelude.{◌≤◌, ◌<◌, length};
+ghost use Rattle.std.specs.Prelude.{◌≤◌, ◌<◌, ◌≡◌, ◌+◌, length, take, drop, slice_index, IfOk, OnOk};
+ghost use Rattle.std.specs.Io.KnownBytes.{Appends, Consumes, IsAtEnd};
 ghost use Rattle.replay_text.specs.Ends.{Ends, Reaches, Behind, Within};
+ghost use Rattle.replay_text.specs.Text.{hex_of, bytes_text, run_length, runs_text};
+
+use std::io;
+use std::io::{Read, Write};
 
 // A decimal number, and the place of the byte that ends it.
 #[derive(Clone, Copy)]
@@ -195,7 +200,8 @@ pub fn bytes_at(s: &[u8], at: usize, dst: &mut [u8]) -> usize
 // How many bytes from at on are the same as the one there.
 fn run_of(s: &[u8], at: usize) -> usize
     requires { at < length s.now }
-    ensures { Within s.now at result }
+    ensures within { Within s.now at result }
+    ensures count { result ≡ 1 + run_length (slice_index s.now at) (drop (at + 1) s.now) }
 {
     let b = s[at];
     let mut n = 1;
@@ -208,40 +214,63 @@ fn run_of(s: &[u8], at: usize) -> usize
     n
 }
 
-// Writes the bytes in hexadecimal, a run of four or more as hh*N., or - where there are none.
-pub fn print_runs(fd: i32, s: &[u8]) {
+// Writes the bytes in hexadecimal, a run of four or more as hh*N., or - where there are none. A failed write ends it; some may be written.
+pub fn print_runs<W: Write>(out: &mut W, s: &[u8]) -> io::Result<()>
+    ensures { OnOk result (Appends (W.contents out.old) (W.contents out.new) (runs_text s.now)) }
+{
     if s.len() == 0 {
-        io::write_all(fd, b"-");
-        return;
+        return out.write_all(b"-");
     }
     let mut i = 0;
     while i < s.len() {
         let n = run_of(s, i);
-        io::print_hex(fd, wide(s[i]), 2);
+        print_byte(out, s[i])?;
         if n < 4 {
             i += 1;
         } else {
-            io::write_all(fd, b"*");
-            io::print_decimal(fd, n as u64);
-            io::write_all(fd, b".");
+            write!(out, "*{n}.")?;
             i += n;
         }
     }
+    Ok(())
 }
 
-// Writes the bytes in hexadecimal, two digits a byte, or - where there are none.
-pub fn print_bytes(fd: i32, s: &[u8]) {
+// Writes the bytes in hexadecimal, two digits a byte, or - where there are none. A failed write ends it; some may be written.
+pub fn print_bytes<W: Write>(out: &mut W, s: &[u8]) -> io::Result<()>
+    ensures { OnOk result (Appends (W.contents out.old) (W.contents out.new) (bytes_text s.now)) }
+{
     if s.len() == 0 {
-        io::write_all(fd, b"-");
-        return;
+        return out.write_all(b"-");
     }
     let mut i = 0;
     while i < s.len() {
-        io::print_hex(fd, wide(s[i]), 2);
+        print_byte(out, s[i])?;
         i += 1;
     }
+    Ok(())
 }
 
-fn wide(b: u8) -> u64 {
-    b as u64
+// Two hexadecimal digits.
+fn print_byte<W: Write>(out: &mut W, b: u8) -> io::Result<()>
+    ensures { OnOk result (Appends (W.contents out.old) (W.contents out.new) (hex_of b)) }
+{
+    write!(out, "{b:02x}")
+}
+
+// Reads until buf is full or the input ends, and answers how many bytes stand at its front. A failed read ends it; buf then holds
+// anything.
+pub fn read_full<R: Read>(from: &mut R, buf: &mut [u8]) -> io::Result<usize>
+    ensures bound { IfOk result (λ n. n ≤ length buf.new) }
+    ensures bytes { IfOk result (λ n. Consumes (R.remaining from.old) (R.remaining from.new) (take n buf.new)) }
+    ensures end { IfOk result (λ n. n < length buf.new → IsAtEnd (R.remaining from.new)) }
+{
+    let mut done = 0;
+    while done < buf.len() {
+        let n = from.read(&mut buf[done..])?;
+        if n == 0 {
+            return Ok(done);
+        }
+        done += n;
+    }
+    Ok(done)
 }

@@ -1,10 +1,13 @@
 // The commands of the judge's vectors that build: each is carried out in the lent arena, and its answer and what it wrote are printed.
 #![tactic(auto)]
+
 ghost use Rattle.std.specs.Prelude.{◌≡◌, ◌≤◌, ◌<◌, length};
 
 use build_image::Built;
 use frames::{Addr, PageId};
 use order::Ver;
+use std::io;
+use std::io::Write;
 
 // ---- what was built
 
@@ -17,34 +20,42 @@ fn piece(left: usize) -> usize
 }
 
 // What a build wrote, from one address up to another, in lines of at most 32,768 bytes.
-fn written(a: &[u8], from: usize, upto: usize) {
+fn written<W: Write>(out: &mut W, a: &[u8], from: usize, upto: usize) -> io::Result<()> {
     let mut at = from;
     while at < upto {
         let n = piece(upto - at);
-        replay_script::say(b"bytes");
-        replay_script::say_number(at as u64);
-        replay_script::say_bytes(spans::part_of(a, at, n));
-        replay_script::end_line();
+        replay_script::say(out, b"bytes")?;
+        replay_script::say_number(out, at as u64)?;
+        replay_script::say_bytes(out, spans::part_of(a, at, n))?;
+        replay_script::end_line(out)?;
         at += n;
     }
+    Ok(())
 }
 
-fn built_at(a: &[u8], next: usize, x: Addr, upto: usize) {
-    replay_script::are_numbers(x.0, upto as u64);
-    written(a, next, upto);
+fn built_at<W: Write>(out: &mut W, a: &[u8], next: usize, x: Addr, upto: usize) -> io::Result<()> {
+    replay_script::are_numbers(out, x.0, upto as u64)?;
+    written(out, a, next, upto)
 }
 
-fn built(a: &[u8], next: usize, b: Built) {
+fn built<W: Write>(out: &mut W, a: &[u8], next: usize, b: Built) -> io::Result<()> {
     match b {
-        Built::At(x, upto) => built_at(a, next, x, upto),
-        Built::Refused(r) => replay_script::refused(r),
+        Built::At(x, upto) => built_at(out, a, next, x, upto),
+        Built::Refused(r) => replay_script::refused(out, r),
     }
 }
 
 // ---- pages of lists
 
 // index NEXT TXID GROUP LSN CKPT SIBLING LO HI LIST
-fn index(l: &[u8], a: &mut [u8], lo: &[u8], hi: &[u8], list: &[u8]) {
+fn index<W: Write>(
+    out: &mut W,
+    l: &[u8],
+    a: &mut [u8],
+    lo: &[u8],
+    hi: &[u8],
+    list: &[u8],
+) -> io::Result<()> {
     let next = replay_script::number(l, 1) as usize;
     let page = PageId(replay_script::number(l, 6));
     let b = base::new_intl(
@@ -59,11 +70,18 @@ fn index(l: &[u8], a: &mut [u8], lo: &[u8], hi: &[u8], list: &[u8]) {
         replay_script::number(l, 4),
         replay_script::number(l, 5),
     );
-    built(a, next, b);
+    built(out, a, next, b)
 }
 
 // leaf NEXT LIMIT BUDGET TXID GROUP LSN CKPT SIBLING LO HI LIST
-fn leaf(l: &[u8], a: &mut [u8], lo: &[u8], hi: &[u8], list: &[u8]) {
+fn leaf<W: Write>(
+    out: &mut W,
+    l: &[u8],
+    a: &mut [u8],
+    lo: &[u8],
+    hi: &[u8],
+    list: &[u8],
+) -> io::Result<()> {
     let next = replay_script::number(l, 1) as usize;
     let page = PageId(replay_script::number(l, 8));
     let b = base::new_leaf(
@@ -80,7 +98,7 @@ fn leaf(l: &[u8], a: &mut [u8], lo: &[u8], hi: &[u8], list: &[u8]) {
         replay_script::number(l, 6),
         replay_script::number(l, 7),
     );
-    built(a, next, b);
+    built(out, a, next, b)
 }
 
 // Which word of a line is LO; 0 where the line builds no page of a list.
@@ -100,33 +118,46 @@ fn low_word(l: &[u8]) -> usize
 }
 
 // common LO HI, or one of the two above.
-fn of_list(l: &[u8], a: &mut [u8], lo: &[u8], hi: &[u8], list: &[u8]) {
+fn of_list<W: Write>(
+    out: &mut W,
+    l: &[u8],
+    a: &mut [u8],
+    lo: &[u8],
+    hi: &[u8],
+    list: &[u8],
+) -> io::Result<()> {
     if replay_text::says(l, 0, b"leaf ") {
-        leaf(l, a, lo, hi, list);
-        return;
+        return leaf(out, l, a, lo, hi, list);
     }
     if replay_text::says(l, 0, b"index ") {
-        index(l, a, lo, hi, list);
-        return;
+        return index(out, l, a, lo, hi, list);
     }
-    replay_script::is_number(base::calc_prefix(lo, hi) as u64);
+    replay_script::is_number(out, base::calc_prefix(lo, hi) as u64)
 }
 
 // The same with room for the bytes, from word k on.
-fn with_list(l: &[u8], k: usize, a: &mut [u8], lo: &mut [u8], hi: &mut [u8], list: &mut [u8]) {
+fn with_list<W: Write>(
+    out: &mut W,
+    l: &[u8],
+    k: usize,
+    a: &mut [u8],
+    lo: &mut [u8],
+    hi: &mut [u8],
+    list: &mut [u8],
+) -> io::Result<()> {
     let p = replay_script::place(l, k);
     let q = replay_text::next_word(l, p);
     let r = replay_text::next_word(l, q);
     let x = replay_text::bytes_at(l, p, lo);
     let y = replay_text::bytes_at(l, q, hi);
     let z = replay_text::bytes_at(l, r, list);
-    of_list(l, a, &lo[..x], &hi[..y], &list[..z]);
+    of_list(out, l, a, &lo[..x], &hi[..y], &list[..z])
 }
 
 // ---- merges
 
 // merge NEXT LIMIT BUDGET TXID GROUP LSN CKPT LEFT RIGHT
-fn merge(l: &[u8], a: &mut [u8]) {
+fn merge<W: Write>(out: &mut W, l: &[u8], a: &mut [u8]) -> io::Result<()> {
     let next = replay_script::number(l, 1) as usize;
     let b = merge::merge(
         a,
@@ -140,13 +171,19 @@ fn merge(l: &[u8], a: &mut [u8]) {
         replay_script::number(l, 6),
         replay_script::number(l, 7),
     );
-    built(a, next, b);
+    built(out, a, next, b)
 }
 
 // ---- deltas
 
 // dleaf NEXT LIMIT GROUP LSN CKPT TXID CMD KEY VALUE
-fn leaf_delta(l: &[u8], a: &mut [u8], key: &[u8], value: &[u8]) {
+fn leaf_delta<W: Write>(
+    out: &mut W,
+    l: &[u8],
+    a: &mut [u8],
+    key: &[u8],
+    value: &[u8],
+) -> io::Result<()> {
     let next = replay_script::number(l, 1) as usize;
     let limit = replay_script::number(l, 2) as usize;
     let ver = Ver::new(replay_script::number(l, 6), replay_script::word32(l, 7));
@@ -161,20 +198,26 @@ fn leaf_delta(l: &[u8], a: &mut [u8], key: &[u8], value: &[u8]) {
         key,
         value,
     );
-    built(a, next, b);
+    built(out, a, next, b)
 }
 
 // The same with room for key and value.
-fn with_value(l: &[u8], a: &mut [u8], key: &mut [u8], value: &mut [u8]) {
+fn with_value<W: Write>(
+    out: &mut W,
+    l: &[u8],
+    a: &mut [u8],
+    key: &mut [u8],
+    value: &mut [u8],
+) -> io::Result<()> {
     let p = replay_script::place(l, 8);
     let q = replay_text::next_word(l, p);
     let x = replay_text::bytes_at(l, p, key);
     let y = replay_text::bytes_at(l, q, value);
-    leaf_delta(l, a, &key[..x], &value[..y]);
+    leaf_delta(out, l, a, &key[..x], &value[..y])
 }
 
 // dindex NEXT TXID GROUP LSN CKPT KEY PID
-fn index_delta(l: &[u8], a: &mut [u8], key: &[u8]) {
+fn index_delta<W: Write>(out: &mut W, l: &[u8], a: &mut [u8], key: &[u8]) -> io::Result<()> {
     let next = replay_script::number(l, 1) as usize;
     let page = PageId(replay_script::number(l, 7));
     let b = delta::from_key_index(
@@ -187,13 +230,13 @@ fn index_delta(l: &[u8], a: &mut [u8], key: &[u8]) {
         key,
         page,
     );
-    built(a, next, b);
+    built(out, a, next, b)
 }
 
 // The same with room for the key.
-fn with_key(l: &[u8], a: &mut [u8], key: &mut [u8]) {
+fn with_key<W: Write>(out: &mut W, l: &[u8], a: &mut [u8], key: &mut [u8]) -> io::Result<()> {
     let n = replay_text::bytes_at(l, replay_script::place(l, 6), key);
-    index_delta(l, a, &key[..n]);
+    index_delta(out, l, a, &key[..n])
 }
 
 // ---- all of them
@@ -211,42 +254,42 @@ fn key_room() -> [u8; 16384]
     [0; 16384]
 }
 
-fn list_built(l: &[u8], k: usize, a: &mut [u8]) {
+fn list_built<W: Write>(out: &mut W, l: &[u8], k: usize, a: &mut [u8]) -> io::Result<()> {
     let mut lo = key_room();
     let mut hi = key_room();
     let mut list = list_room();
-    with_list(l, k, a, &mut lo, &mut hi, &mut list);
+    with_list(out, l, k, a, &mut lo, &mut hi, &mut list)
 }
 
-fn leaf_delta_built(l: &[u8], a: &mut [u8]) {
+fn leaf_delta_built<W: Write>(out: &mut W, l: &[u8], a: &mut [u8]) -> io::Result<()> {
     let mut key = key_room();
     let mut value = list_room();
-    with_value(l, a, &mut key, &mut value);
+    with_value(out, l, a, &mut key, &mut value)
 }
 
-fn index_delta_built(l: &[u8], a: &mut [u8]) {
+fn index_delta_built<W: Write>(out: &mut W, l: &[u8], a: &mut [u8]) -> io::Result<()> {
     let mut key = key_room();
-    with_key(l, a, &mut key);
+    with_key(out, l, a, &mut key)
 }
 
 // Carries out the command of a line in an arena; false where the line builds nothing.
-pub fn carried_out(l: &[u8], a: &mut [u8]) -> bool {
+pub fn carried_out<W: Write>(out: &mut W, l: &[u8], a: &mut [u8]) -> io::Result<bool> {
     let k = low_word(l);
     if 0 < k {
-        list_built(l, k, a);
-        return true;
+        list_built(out, l, k, a)?;
+        return Ok(true);
     }
     if replay_text::says(l, 0, b"merge ") {
-        merge(l, a);
-        return true;
+        merge(out, l, a)?;
+        return Ok(true);
     }
     if replay_text::says(l, 0, b"dleaf ") {
-        leaf_delta_built(l, a);
-        return true;
+        leaf_delta_built(out, l, a)?;
+        return Ok(true);
     }
     if replay_text::says(l, 0, b"dindex ") {
-        index_delta_built(l, a);
-        return true;
+        index_delta_built(out, l, a)?;
+        return Ok(true);
     }
-    false
+    Ok(false)
 }

@@ -6,7 +6,5 @@ use Rattle.replay.proofs.to_front.Given as goal
 abbrev pub invariant-loop-i : goal.invariant-loop-i
 invariant-loop-i l = (length l.buf ≡ length l.initial.buf) × (l.i ≤ l.n)
 
-
 abbrev pub decreases-loop-i : goal.decreases-loop-i
 decreases-loop-i l = l.n - l.i
-

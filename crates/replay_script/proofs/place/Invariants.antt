@@ -1,4 +1,4 @@
-use Prim.Native.Nat.{◌-◌, ◌≤◌}
+use Prim.Native.Nat.{◌≤◌}
 use Rattle.replay_script.proofs.place.Given as goal
 
 abbrev pub invariant-loop-left : goal.invariant-loop-left

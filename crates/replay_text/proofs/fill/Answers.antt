@@ -1,6 +1,5 @@
-use Prim.Native.Nat.{◌-◌}
 use native.Mathlib.Omega.{arith}
-use lib.ListN.{length, length-set}
+use lib.ListN.{length-set}
 use Rattle.replay_text.proofs.fill.Goals as goal
 
 pub loop-left-preserved : goal.loop-left-preserved
