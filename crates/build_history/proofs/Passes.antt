@@ -102,7 +102,7 @@ module _ (l w : List ℕ) (b : Bool) (c : Cursor) (i : EntryAt) (d : Cursor) (g 
         → Writing a₀ footing whole a' (to + 4) (old_slots limit (off + (12 + x)) (take (k - 1) (only b (entries l w d))))
     slot_turn a' x e ex = rw ex (wrote_le a₀ footing whole a to _ 4 off _ h (slots-found limit off) a' (to + 4) e refl)
 
--- records: the ground is still that of a₀
+-- records: the footing is still that of a₀
 module _ (l a₀ : List ℕ) (footing : ℕ) (b : Bool) (c : Cursor) (i : EntryAt) (d : Cursor) (g : Chosen l (take footing a₀) b c i d) (k : ℕ) (p : 0 < k) (whole a : List ℕ) (to : ℕ) where
   module _ (limit remote : ℕ) (h : Writing a₀ footing whole a to (old_recs limit remote (take k (only b (entries l (take footing a₀) c))))) where
     pub recs_asks : (footing ≤ to) × (Placed l (take footing a) i × (to + length (old_rec limit remote (entry_of l (take footing a) i)) ≤ length a))

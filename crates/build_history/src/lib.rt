@@ -228,7 +228,7 @@ fn old_recs(
     }
 }
 
-// The remote frame of a value of n bytes, which stands in the lent slice, or in the arena below ground.
+// The remote frame of a value of n bytes, which stands in the lent slice, or in the arena below the footing.
 pub fn remote_frame(
     a: &mut [u8],
     footing: usize,

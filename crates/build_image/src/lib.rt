@@ -74,7 +74,7 @@ pub fn limits_ok(limit: usize, budget: usize) -> bool
 }
 
 // The two budgets that have a name: the default, and the Rust's. A Rattle caller passes one of them; the contracts hold the constants to the
-// definitions, of which `named-budgets` says that number 1 accepts both.
+// definitions, of which `named_budgets` says that number 1 accepts both.
 pub fn default_budget() -> usize
     ensures { result ≡ default_budget }
 {

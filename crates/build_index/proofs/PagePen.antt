@@ -96,7 +96,7 @@ module _ (a₀ : List ℕ) (low : ℕ) (whole : List ℕ) (b : Body) (end base p
       let z = slots_end _ w b end i l in
       (omega (arith, h.ends, sums_nil p es z), pen_end a₀ low whole base p a slot rec es (length a₀) h.penning z)
 
-  -- the ground is as it was
+  -- the footing is as it was
   pub walk-low : low ≤ length a
   walk-low = drawing_low a₀ low whole a (index_left slot rec base p es) (length a₀) h.penning.drawing
 

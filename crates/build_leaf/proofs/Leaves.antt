@@ -1,4 +1,4 @@
--- Leaves written anew by the pen: what they hold lies below the ground, which the opened frame leaves as it was.
+-- Leaves written anew by the pen: what they hold lies below the footing, which the opened frame leaves as it was.
 -- Assumes nothing.
 use mathlib.Core.Path.{◌≡◌, sym, ap, subst, ◌∙◌}
 use mathlib.Core.List.{List, ◌++◌}

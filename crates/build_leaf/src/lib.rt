@@ -214,7 +214,7 @@ pub fn write_list(
     leaf
 }
 
-// The whole leaf of heads from..end of one sound leaf and n heads of another, both below ground, from this address on; the leaf's own address.
+// The whole leaf of heads from..end of one sound leaf and n heads of another, both below the footing, from this address on; the leaf's own address.
 pub fn write_leaves(
     a: &mut [u8],
     footing: usize,

@@ -92,7 +92,7 @@ stepped true c sp i d e = absurd (let z : ◌≡◌ {A = ℕ} 0 1 = cc in omega 
 stepped false c (At j past) i d e = (past, cc, cc)
 stepped false c Out i d e = absurd (let z : ◌≡◌ {A = ℕ} 0 1 = cc in omega arith)
 
--- an entry of a list: it lies in the lent slice, whatever the ground, and the cursor past it reads the same list
+-- an entry of a list: it lies in the lent slice, whatever the footing, and the cursor past it reads the same list
 pub list_item : (l w : List ℕ) (c : Cursor) (i : EntryAt) (d : Cursor) → (c.source ≡ 2 → ⊥) → next_of l w c ≡ Got i d → (i.footing ≡ false) × (d.source ≡ c.source)
 unfolding next_of list_next
 list_item l w c i d n e =
@@ -192,7 +192,7 @@ module _ (l w : List ℕ) where
   unfolding after
   odd c e = (rw e at (step c), rw e at (well c))
 
--- the same from a call's words: its answer r, of a ground w' that is still w
+-- the same from a call's words: its answer r, of a footing w' that is still w
 module _ (l w w' : List ℕ) (c : Cursor) (r : EntryRead) (e : w' ≡ w) (p : r ≡ next_of l w' c) where
   still : r ≡ next_of l w c
   still = p ∙ ap (λ (v : List ℕ). next_of l v c) e
@@ -223,7 +223,7 @@ pub none : (l w : List ℕ) (b : Bool) (c₀ c : Cursor) → only b (entries l w
 unfolding only
 none l w b c₀ c h e = sym h ∙ rw e
 
--- from a call's words: its answer r, of a ground w' that is still w
+-- from a call's words: its answer r, of a footing w' that is still w
 chosen_is : (l w : List ℕ) (b : Bool) (c : Cursor) (r : Pick) (i : EntryAt) (d : Cursor) → ChosenBy l w b c r → r ≡ One i d → Chosen l w b c i d
 chosen_is l w b c r i d p q = rw q at p
 

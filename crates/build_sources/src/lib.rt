@@ -1,6 +1,6 @@
 // Sources of entries: a record list, an index list, or two pages one behind the other, read by a cursor by value with a step. A pass over
 // a source knows the step's equation and the laws that follow from it, never the cursor, so a source that is added here (a part of a
-// page, more pages) changes no pass. `list` is the lent slice, `ground` the arena below the next free address.
+// page, more pages) changes no pass. `list` is the lent slice, `footing` the arena below the next free address.
 #![tactic(auto)]
 
 ghost use Rattle.std.specs.Prelude.{◌≡◌, ◌∷◌, ◌++◌, ◌+◌, ◌<◌, length, get_or};
@@ -46,7 +46,7 @@ impl Cursor {
     pub const PAGES: u8 = 2;
 }
 
-// Where an entry lies: below the free address (ground) or in the lent slice. `old` says that its key is that of the entry before.
+// Where an entry lies: below the free address (footing) or in the lent slice. `old` says that its key is that of the entry before.
 #[derive(Clone, Copy)]
 pub struct EntryAt {
     pub footing: bool,

@@ -1,5 +1,5 @@
--- No second answer fits the contracts of the lent clerk. They have no `Reads`, so each contract's own assertion is shown to be the fact
--- that is decided.
+-- No second answer fits the contracts of the lent clerk. Each contract's own assertion is shown to be the fact that is decided, so a
+-- contract that is weakened fails here.
 -- Assumes nothing.
 use mathlib.Core.Path.{◌≡◌, refl, sym, ◌∙◌}
 use Prim.Native.Nat.{ℕ}

@@ -19,7 +19,7 @@ pub fn alloc(c: &mut Clerk, size: u64) -> Addr
     t.addr
 }
 
-// The same for a clerk at next with an arena of limit bytes: makes the clerk, lends it, and hands both back. Who calls this needs no walk.
+// The same for a clerk at next with an arena of limit bytes: makes the clerk, lends it, and hands both back.
 pub fn alloc_from(next: Addr, limit: u64, size: u64) -> Taken
     ensures { result ≡ taken_of (clerk_of next limit) size }
 {

@@ -471,7 +471,7 @@ fn plain(x: BoxHeader, h: BaseHeader, at: usize, len: usize) -> bool
         & (h.size <= x.payload_size)
 }
 
-// Whether both headers are those of a history page, likewise: `history-ok`.
+// Whether both headers are those of a history page, likewise: `history_ok_lem` (proofs/Judged.antt).
 fn history(x: BoxHeader, h: BaseHeader, at: usize, len: usize) -> bool
     requires { (at ≤ len) × (len < 2 ^ 63) }
     ensures { result ≡ true → Passes x h at len × (x.flag ≡ flag_sibling) }

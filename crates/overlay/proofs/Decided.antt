@@ -45,7 +45,7 @@ pub overlay_in_decided : (κs : Lfts 2) (s : Bor (List ℕ)) (a : Addr) (t : Bor
     → over-at.Post κs (s, (a, (t, (d, (probe, tt))))) r x → over-at.Post κs (s, (a, (t, (d, (probe, tt))))) r' x' → Same r r'
 overlay_in_decided κs s a t d probe r r' x x' h h' = part_decided _ _ r r' h h'
 
--- `lookup` has no `Reads`, so its contract's own assertion is shown to be the fact that is decided
+-- the assertion of `lookup`'s own contract is shown to be the fact that is decided, so a contract that is weakened fails here
 pub lookup_says : {M : Type 1} {𝓤 : Ura M} (𝓛 : Logic 𝓤) (mem : Memory → SProp 𝓤) (run : Routine → Fun 𝓤) (κs : Lfts 4) (s : Bor (List ℕ)) (a : Addr) (t : Bor (List ℕ)) (d : Addr) (probe r : Bor (List ℕ)) (x : AtExit lookup.ended κs)
     → (lookup.clauses 𝓛 mem run κs (s, (a, (t, (d, (probe, tt)))))).ensures tt r x ≡ fact 𝓤 (LentIs s t (laid_at s.now a t.now d probe.now) r)
 lookup_says 𝓛 mem run κs s a t d probe r x = refl

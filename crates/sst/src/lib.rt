@@ -136,7 +136,7 @@ fn mark_of(b: Body, n: usize) -> usize
     m
 }
 
-// Where the record of slot i starts, if the byte there is the mark. A second text of `records::slot_at`, for speed: `marked-lies` (proofs/Narrows.antt)
+// Where the record of slot i starts, if the byte there is the mark. A second text of `records::slot_at`, for speed: `marked_lies` (proofs/Narrows.antt)
 // proves that the key there is the one that the decoder reads.
 fn marked_at(s: &[u8], b: Body, i: usize, mark: usize) -> SlotRead
     requires inside { Inside s.now b }
