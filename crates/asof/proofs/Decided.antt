@@ -8,11 +8,13 @@ use denote.Triple.Clauses.{AtExit}
 use Rattle.spans.specs.Only.{Decides, decides}
 use Rattle.order.specs.declared.Ver.{Ver}
 use Rattle.frames.specs.declared.Addr.{Addr}
-use Rattle.asof.specs.declared.AsOf.{AsOf}
 use Rattle.asof.specs.AsOf.{as_of_at}
 use Rattle.asof.specs.contracts.as_of as as_of_fn
 use Rattle.asof.proofs.as_of.Reads as as_of_at_lem
+use Rattle.std.proofs.Common.{Result}
+use Rattle.asof.specs.declared.AsOf.{AsOf}
+use Rattle.frames.specs.declared.Refusal.{Refusal}
 
 pub as_of_decided : (κs : Lfts 2) (s : Bor (List ℕ)) (a : Addr) (probe : Bor (List ℕ)) (v : Ver) (x : AtExit as_of_fn.ended κs)
-    → Decides (λ (r : AsOf). as_of_at_lem.Post κs (s, (a, (probe, (v, tt)))) r x) (λ (r : AsOf). r)
-as_of_decided κs s a probe v x = decides (λ (r : AsOf). r) (as_of_at s.now a probe.now v)
+    → Decides (λ (r : Result AsOf Refusal). as_of_at_lem.Post κs (s, (a, (probe, (v, tt)))) r x) (λ (r : Result AsOf Refusal). r)
+as_of_decided κs s a probe v x = decides (λ (r : Result AsOf Refusal). r) (as_of_at s.now a probe.now v)

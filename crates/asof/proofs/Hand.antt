@@ -9,12 +9,9 @@ use lib.ListN.{length}
 use Rattle.order.specs.declared.Ver.{Ver}
 use Rattle.order.specs.Version.{newer_than}
 use Rattle.frames.specs.declared.Body.{Body}
-use Rattle.frames.specs.declared.Opened.{Opened}
 use Rattle.frames.specs.Limits.{max_key}
 use Rattle.values.specs.Keys.{ver_in}
 use Rattle.records.specs.declared.Rec.{Rec}
-use Rattle.records.specs.declared.RecRead.{RecRead}
-use Rattle.records.specs.declared.SlotRead.{SlotRead}
 use Rattle.records.specs.Records.{slot_at, rec_at}
 use Rattle.records.proofs.Inside.{slot-inside}
 use Rattle.pages.specs.Boundaries.{place}
@@ -22,13 +19,14 @@ use Rattle.walks.specs.declared.OldPlace.{OldPlace}
 use Rattle.walks.specs.Walk.{older_of, body_of}
 use Rattle.walks.proofs.Lying.{body-inside, body_reads}
 use Rattle.walks.proofs.Ages.{aged-slot, aged-rec}
-use Rattle.asof.specs.declared.AsOf.{AsOf}
 use Rattle.asof.specs.declared.InHand.{InHand}
 use Rattle.asof.specs.AsOf.{handed_of, old_as_of}
 use Rattle.asof.specs.InHand.{further_of, GoesOn, Passes, InHands}
 use Rattle.asof.proofs.Olds.{old_newer, old-found}
+use Rattle.std.proofs.Common.{Some, None, Ok}
+use Rattle.asof.specs.declared.AsOf.{AsOf}
 
-pub rec_none : (r : Rec) → RecRead.Bad ≡ RecRead.Is r → ⊥
+pub rec_none : (r : Rec) → None ≡ Some r → ⊥
 rec_none r e = let z : ◌≡◌ {A = ℕ} 0 1 = cc in omega arith
 
 -- one more
@@ -51,8 +49,8 @@ pub passes_none : (s : List ℕ) (v : Ver) (p : OldPlace) → p.slot < 2 ^ 64 �
 passes_none s v p h =
     record { few = omega arith; word = omega arith; on = subst (λ (q : OldPlace). GoesOn s v p q) (sym (further_none p)) (goes_none s v p) }
 
-module _ (s : List ℕ) (v : Ver) (p : OldPlace) (b : Body) (o : body_of s p.page 2 ≡ Opened.Is b) (n : ℕ) (f : Passes s v p n) where
-  pub passes_more : length s < 2 ^ 64 → n < p.left → (q : ℕ) → slot_at s b (p.slot + n) ≡ SlotRead.At q → q + 12 ≤ b.end → b.prefix_len ≤ max_key
+module _ (s : List ℕ) (v : Ver) (p : OldPlace) (b : Body) (o : body_of s p.page 2 ≡ Some b) (n : ℕ) (f : Passes s v p n) where
+  pub passes_more : length s < 2 ^ 64 → n < p.left → (q : ℕ) → slot_at s b (p.slot + n) ≡ Some q → q + 12 ≤ b.end → b.prefix_len ≤ max_key
       → {ver : Ver} → ver ≡ ver_in s q → newer_than ver v ≡ true → Passes s v p (n + 1)
   passes_more w l q e h m {ver} d t =
       let i = body-inside s p.page 2 b o in
@@ -74,12 +72,12 @@ module _ (s : List ℕ) (v : Ver) (p : OldPlace) (b : Body) (o : body_of s p.pag
     pub hand_on : GoesOn s v p here
     hand_on = subst (λ (q : OldPlace). GoesOn s v p q) (sym u) f.on
 
-    pub hand_is : (here.left ≡ 0 → ⊥) → (r : Rec) → rec_at s b here.slot ≡ RecRead.Is r → {ver : Ver} → ver ≡ ver_in s r.ver_at → newer_than ver v ≡ false
+    pub hand_is : (here.left ≡ 0 → ⊥) → (r : Rec) → rec_at s b here.slot ≡ Some r → {ver : Ver} → ver ≡ ver_in s r.ver_at → newer_than ver v ≡ false
         → InHands s v p (InHand.Is ver (place r.val_at r.val_len))
     hand_is z r e {ver} d t =
-        let e' : rec_at s b (p.slot + n) ≡ RecRead.Is r = ap (λ (q : OldPlace). rec_at s b q.slot) (sym u) ∙ e in
+        let e' : rec_at s b (p.slot + n) ≡ Some r = ap (λ (q : OldPlace). rec_at s b q.slot) (sym u) ∙ e in
         let z' : p.left - n ≡ 0 → ⊥ = λ x. z (ap (λ (q : OldPlace). q.left) u ∙ x) in
         λ slot reads. sym (f.on.same slot reads)
         ∙ old-found s v slot reads (further_of p n) (ver_in s r.ver_at) (p.slot + n) (further_of (further_of p n) 1) (aged-rec s (further_of p n) b o z' r e') (ap (λ (x : Ver). newer_than x v) (sym d) ∙ t)
         ∙ ap (handed_of slot (ver_in s r.ver_at) reads) (body_reads s p.page 2 b o (p.slot + n) ∙ e')
-        ∙ ap (λ (x : Ver). AsOf.Is slot x (place r.val_at r.val_len) reads) (sym d)
+        ∙ ap (λ (x : Ver). Ok (AsOf.Is slot x (place r.val_at r.val_len) reads)) (sym d)

@@ -1,6 +1,6 @@
 -- Rows as of versions, over whole arenas: P7, P7 with a linked history page, P13; worked out by hand from their lists.
 -- Assumes nothing.
-use Rattle.std.specs.Prelude.{ℕ, ◌≡◌, refl, List, [], ◌∷◌, set}
+use Rattle.std.specs.Prelude.{ℕ, ◌≡◌, refl, List, [], ◌∷◌, set, Result, Ok, Err}
 use Rattle.spans.specs.Span.{part, part_or}
 use Rattle.numbers.specs.Number.{of_le, le_at}
 use Rattle.order.specs.declared.Ver.{Ver}
@@ -23,9 +23,10 @@ use Rattle.walks.specs.Walk.{fits_in, read_at, enter_at}
 use Rattle.walks.specs.Turned.{turned_at}
 use Rattle.walks.specs.Aged.{key_old, aged_in, aged_at}
 use Rattle.walks.specs.Cases.{linked}
-use Rattle.asof.specs.declared.AsOf.{AsOf}
 use Rattle.asof.specs.AsOf.{old_as_of, old_enter, older_as_of, as_of_at}
 use Rattle.asof.specs.Refused.{as_of_number}
+use Rattle.asof.specs.declared.AsOf.{AsOf}
+use Rattle.frames.specs.declared.Refusal.{Refusal}
 
 -- an answer with its value's bytes: slot, version, value, keys read; or keys read; or the number
 pub data Shown : Type 0 where
@@ -33,10 +34,10 @@ pub data Shown : Type 0 where
   none : ℕ → Shown
   refused : ℕ → Shown
 
-abbrev shown_of : List ℕ → AsOf → Shown
-shown_of s (AsOf.Is i v p n) = row i v (part_in s p) n
-shown_of s (AsOf.Nothing n) = none n
-shown_of s (AsOf.Refused r) = refused (as_of_number (AsOf.Refused r))
+abbrev shown_of : List ℕ → Result AsOf Refusal → Shown
+shown_of s (Ok (AsOf.Is i v p n)) = row i v (part_in s p) n
+shown_of s (Ok (AsOf.Nothing n)) = none n
+shown_of s (Err r) = refused (as_of_number (Err r))
 
 abbrev pub shown : List ℕ → ℕ → List ℕ → Ver → Shown
 shown s a probe v = shown_of s (as_of_at s (addr a) probe v)

@@ -1,12 +1,12 @@
 -- What the history page in hand comes to in a lookup as of a version: "finishing from there gives the answer".
 -- Assumes nothing.
-use Rattle.std.specs.Prelude.{ℕ, ◌+◌, ◌-◌, ◌^◌, ◌≤◌, ◌<◌, ◌≡◌, List}
+use Rattle.std.specs.Prelude.{ℕ, ◌+◌, ◌-◌, ◌^◌, ◌≤◌, ◌<◌, ◌≡◌, List, Ok}
 use Rattle.order.specs.declared.Ver.{Ver}
 use Rattle.walks.specs.declared.OldPlace.{OldPlace}
 use Rattle.walks.specs.Walk.{older_of}
-use Rattle.asof.specs.declared.AsOf.{AsOf}
 use Rattle.asof.specs.declared.InHand.{InHand}
 use Rattle.asof.specs.AsOf.{old_as_of}
+use Rattle.asof.specs.declared.AsOf.{AsOf}
 
 -- behind n old versions of the same page
 abbrev pub further_of : OldPlace → ℕ → OldPlace
@@ -24,5 +24,5 @@ pub record Passes (s : List ℕ) (v : Ver) (from : OldPlace) (n : ℕ) : Type 0 
   pub on : GoesOn s v from (further_of from n)
 
 abbrev pub InHands : List ℕ → Ver → OldPlace → InHand → Type 0
-InHands s v from (InHand.Is ver value) = (slot reads : ℕ) → old_as_of s v slot reads from.left from ≡ AsOf.Is slot ver value reads
+InHands s v from (InHand.Is ver value) = (slot reads : ℕ) → old_as_of s v slot reads from.left from ≡ Ok (AsOf.Is slot ver value reads)
 InHands s v from (InHand.On to) = GoesOn s v from to

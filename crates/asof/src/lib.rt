@@ -1,20 +1,19 @@
 // A row as of a version: the newest record of a key that is no newer than it, head or history, across linked pages.
 #![tactic(auto)]
 
-ghost use Rattle.std.specs.Prelude.{◌≡◌, ◌+◌, ◌<◌, ◌≤◌, ◌^◌};
+ghost use Rattle.std.specs.Prelude.{◌≡◌, ◌+◌, ◌<◌, ◌≤◌, ◌^◌, Some};
 ghost use Rattle.frames.specs.Layout.{Inside};
-ghost use Rattle.frames.specs.declared.Opened.{Opened};
 ghost use Rattle.walks.specs.Walk.{body_of};
 ghost use Rattle.asof.specs.AsOf.{handed_of, old_as_of, old_enter, older_as_of, as_of_at};
 ghost use Rattle.asof.specs.InHand.{further_of, Passes, InHands};
 
-use frames::{Addr, BaseHeader, Body, Opened, Refusal};
+use frames::{Addr, BaseHeader, Body, Refusal};
 use order::Ver;
 use pages::Place;
-use records::{RecRead, SlotRead};
+use records::Rec;
 use search_head::Head;
 use values::{HistRef, Val};
-use walks::{Aged, Entered, OldPlace};
+use walks::{Aged, OldPlace};
 
 // The key's slot in the leaf, the record's own version, the place of its value, and the number of keys that the halving read, as a search
 // counts them.
@@ -29,25 +28,24 @@ pub enum AsOf {
     Nothing {
         reads: usize,
     },
-    Refused(Refusal),
 }
 
 // The record handed back, whole: a remote is resolved here alone.
-fn handed(r: RecRead, slot: usize, ver: Ver, reads: usize) -> AsOf
+fn handed(r: Option<Rec>, slot: usize, ver: Ver, reads: usize) -> Result<AsOf, Refusal>
     ensures { result ≡ handed_of slot ver reads r }
 {
-    let RecRead::Is(x) = r else {
-        return AsOf::Refused(Refusal::BadFrame);
+    let Some(x) = r else {
+        return Err(Refusal::BadFrame);
     };
-    AsOf::Is {
-        slot: slot,
-        ver: ver,
+    Ok(AsOf::Is {
+        slot,
+        ver,
         value: Place {
             at: x.val_at,
             len: x.val_len,
         },
-        reads: reads,
-    }
+        reads,
+    })
 }
 
 // Behind n old versions, on the same page.
@@ -59,8 +57,8 @@ fn further(p: OldPlace, n: usize) -> OldPlace
     let page = p.page;
     let link = p.link;
     OldPlace {
-        page: page,
-        link: link,
+        page,
+        link,
         slot: p.slot + n,
         left: p.left - n,
     }
@@ -69,7 +67,7 @@ fn further(p: OldPlace, n: usize) -> OldPlace
 // How many of the next old versions are newer than v, as far as they stand in the page in hand: each is passed over by its slot and its version
 // alone.
 fn newer_in(s: &[u8], b: Body, from: OldPlace, v: Ver) -> usize
-    requires { body_of s.now from.page 2 ≡ Opened.Is b }
+    requires { body_of s.now from.page 2 ≡ Some b }
     ensures { Passes s.now v from result }
 {
     if BaseHeader::MAX_KEY < b.prefix_len {
@@ -77,7 +75,7 @@ fn newer_in(s: &[u8], b: Body, from: OldPlace, v: Ver) -> usize
     }
     let mut n: usize = 0;
     while n < from.left {
-        let SlotRead::At(p) = records::slot_at(s, b, from.slot + n) else {
+        let Some(p) = records::slot_at(s, b, from.slot + n) else {
             return n;
         };
         if b.end - p < 12 {
@@ -104,14 +102,14 @@ fn in_hand(s: &[u8], from: OldPlace, v: Ver) -> InHand
     ensures { InHands s.now v from result }
 {
     let page = from.page;
-    let Opened::Is(b) = walks::body_of(s, page, Body::HISTORY) else {
+    let Some(b) = walks::body_of(s, page, Body::HISTORY) else {
         return InHand::On(from);
     };
     let here = further(from, newer_in(s, b, from, v));
     if here.left == 0 {
         return InHand::On(here);
     }
-    let RecRead::Is(x) = records::quick_old(s, b, here.slot) else {
+    let Some(x) = records::quick_old(s, b, here.slot) else {
         return InHand::On(here);
     };
     let ver = records::ver_at(s, x.ver_at);
@@ -128,22 +126,22 @@ fn in_hand(s: &[u8], from: OldPlace, v: Ver) -> InHand
 }
 
 // Of what is left of the history, newest first: the first that is no newer than v.
-fn old_as_of(s: &[u8], from: OldPlace, v: Ver, slot: usize, reads: usize) -> AsOf
+fn old_as_of(s: &[u8], from: OldPlace, v: Ver, slot: usize, reads: usize) -> Result<AsOf, Refusal>
     ensures { result ≡ old_as_of s.now v slot reads from.left from }
 {
     let mut older = from;
     loop {
         match in_hand(s, older, v) {
             InHand::Is(ver, value) => {
-                return AsOf::Is {
-                    slot: slot,
-                    ver: ver,
-                    value: value,
-                    reads: reads,
-                };
+                return Ok(AsOf::Is {
+                    slot,
+                    ver,
+                    value,
+                    reads,
+                });
             }
             InHand::On(here) => match here.aged(s) {
-                Aged::Is { ver, slot: i, rest } => {
+                Some(Aged::Is { ver, slot: i, rest }) => {
                     if ver.newer(v) {
                         older = rest;
                     } else {
@@ -151,11 +149,11 @@ fn old_as_of(s: &[u8], from: OldPlace, v: Ver, slot: usize, reads: usize) -> AsO
                         return handed(walks::read(s, page, Body::HISTORY, i), slot, ver, reads);
                     }
                 }
-                Aged::End => {
-                    return AsOf::Nothing { reads: reads };
+                Some(Aged::End) => {
+                    return Ok(AsOf::Nothing { reads });
                 }
-                Aged::Bad => {
-                    return AsOf::Refused(Refusal::BadFrame);
+                None => {
+                    return Err(Refusal::BadFrame);
                 }
             },
         }
@@ -163,52 +161,65 @@ fn old_as_of(s: &[u8], from: OldPlace, v: Ver, slot: usize, reads: usize) -> AsO
 }
 
 // The history that a head refers to.
-fn old_enter(s: &[u8], h: HistRef, v: Ver, slot: usize, reads: usize) -> AsOf
+fn old_enter(s: &[u8], h: HistRef, v: Ver, slot: usize, reads: usize) -> Result<AsOf, Refusal>
     ensures { result ≡ old_enter s.now v slot reads h }
 {
     match walks::enter(s, h, walks::no_older()) {
-        Entered::Is(older) => old_as_of(s, older, v, slot, reads),
-        Entered::Bad => AsOf::Refused(Refusal::BadFrame),
+        Some(older) => old_as_of(s, older, v, slot, reads),
+        None => Err(Refusal::BadFrame),
     }
 }
 
 // Behind a head that is newer: its value is read for the history alone.
-fn older_as_of(s: &[u8], b: Body, at: usize, v: Ver, slot: usize, reads: usize) -> AsOf
+fn older_as_of(
+    s: &[u8],
+    b: Body,
+    at: usize,
+    v: Ver,
+    slot: usize,
+    reads: usize,
+) -> Result<AsOf, Refusal>
     requires { Inside s.now b }
     ensures { result ≡ older_as_of s.now v slot reads b at }
 {
     let e = b.end;
     match Val::decode_from(&s[..e], at, true) {
-        Val::Inline {
-            hist,
-            at: _,
-            size: _,
-            next: _,
-        } => old_enter(s, hist, v, slot, reads),
-        Val::Remote {
-            hist,
-            addr: _,
-            size: _,
-            next: _,
-        } => old_enter(s, hist, v, slot, reads),
-        Val::Bad => AsOf::Refused(Refusal::BadFrame),
+        Some(
+            Val::Inline {
+                hist,
+                at: _,
+                size: _,
+                next: _,
+            },
+        ) => old_enter(s, hist, v, slot, reads),
+        Some(
+            Val::Remote {
+                hist,
+                addr: _,
+                size: _,
+                next: _,
+            },
+        ) => old_enter(s, hist, v, slot, reads),
+        None => Err(Refusal::BadFrame),
     }
 }
 
 // The newest record of the probe's key in the leaf page at a that is no newer than v. Its value is lent on by `pages::part_at`.
-pub fn as_of(s: &[u8], a: Addr, probe: &[u8], v: Ver) -> AsOf
+pub fn as_of(s: &[u8], a: Addr, probe: &[u8], v: Ver) -> Result<AsOf, Refusal>
     ensures { result ≡ as_of_at s.now a probe.now v }
 {
     match search_head::head_at(s, a, probe) {
-        Head::Refused(r) => AsOf::Refused(r),
-        Head::Nothing { reads } => AsOf::Nothing { reads: reads },
-        Head::Is {
-            page,
-            slot,
-            ver,
-            value,
-            reads,
-        } => {
+        Err(r) => Err(r),
+        Ok(Head::Nothing { reads }) => Ok(AsOf::Nothing { reads }),
+        Ok(
+            Head::Is {
+                page,
+                slot,
+                ver,
+                value,
+                reads,
+            },
+        ) => {
             if ver.newer(v) {
                 return older_as_of(s, page, value, v, slot, reads);
             }

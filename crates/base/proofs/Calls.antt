@@ -16,8 +16,6 @@ use Rattle.frames.specs.declared.Refusal.TheVariants.{BadLimit, BadArena, BadLis
 use Rattle.frames.specs.Layout.{addr}
 use Rattle.frames.proofs.Frames.{and_l, and_r}
 use Rattle.build_sources.specs.declared.Cursor.{Cursor}
-use Rattle.build_sources.specs.declared.Started.{Started}
-use Rattle.build_sources.specs.declared.Started.TheVariants.{From, Bad}
 use Rattle.build_sources.specs.Lists.{begun_of, first_of}
 use Rattle.build_sources.specs.Source.{Entry, well_formed}
 use Rattle.build_image.specs.declared.Call.{Call}
@@ -27,8 +25,6 @@ use Rattle.build_bounds.specs.declared.Boundary.{Boundary}
 use Rattle.build_bounds.specs.declared.Boundaries.{Boundaries}
 use Rattle.build_bounds.specs.Boundaries.{boundary_bytes, boundary_of, bounds_of}
 use Rattle.build_bounds.proofs.Laws.{boundary_whole, boundary_within}
-use Rattle.build_image.specs.declared.Built.{Built}
-use Rattle.build_image.specs.declared.Built.TheVariants.{At, Refused}
 use Rattle.build_history.specs.Runs.{Sane}
 use Rattle.build_totals.specs.Totals.{leaf_at}
 use Rattle.build_image.specs.Call.{limit_ok, budget_ok, limits_ok, next_ok}
@@ -41,6 +37,8 @@ use Rattle.build_table.proofs.Listing.{of_by}
 use Rattle.frames.specs.declared.PageId.{PageId}
 use Rattle.frames.specs.Limits.{max_key}
 use Rattle.base.specs.Calls.{bounds_from, listed, list_rows, new_index_answer, new_index_arena, new_answer, new_arena}
+use Rattle.std.proofs.Common.{Option, Some, None, Result, Ok, Err}
+use Rattle.frames.specs.declared.Addr.{Addr}
 
 -- ---- the first three rows
 
@@ -67,28 +65,28 @@ module _ {X : Type 0} (limits : Bool) (a : List ℕ) (next : ℕ) (l : List ℕ)
       by_on x y z p q r s h k j = rw (h, k, j) refl
 
 -- a list that opens does so in front of its first entry
-no_from : (c : Cursor) → Bad ≡ From c → ⊥
+no_from : (c : Cursor) → None ≡ Some c → ⊥
 no_from c e = absurd (let z : ◌≡◌ {A = ℕ} 0 1 = cc in omega arith)
 
-from_first : (l : List ℕ) (source : ℕ) (c : Cursor) → begun_of l source ≡ From c → c ≡ first_of source
+from_first : (l : List ℕ) (source : ℕ) (c : Cursor) → begun_of l source ≡ Some c → c ≡ first_of source
 unfolding begun_of
 from_first l source c e =
-    let a₁ = ask (leb 5 (length l)) _ Bad (From c) (no_from c) e in
-    let a₂ = ask (eqb (get_or l 0 0) 1) _ Bad (From c) (no_from c) a₁.1 in
-    let a₃ = ask (eqb (be_at 4 l 1) (length l - 5)) (From (first_of source)) Bad (From c) (no_from c) a₂.1 in
+    let a₁ = ask (leb 5 (length l)) _ None (Some c) (no_from c) e in
+    let a₂ = ask (eqb (get_or l 0 0) 1) _ None (Some c) (no_from c) a₁.1 in
+    let a₃ = ask (eqb (be_at 4 l 1) (length l - 5)) (Some (first_of source)) None (Some c) (no_from c) a₂.1 in
     let z = a₃.1 in
     cc
 
-module _ (l w : List ℕ) (source : ℕ) (b : Started) (e : b ≡ begun_of l source) where
-  pub list_bad : b ≡ Bad → list_ok l w source ≡ false
-  list_bad q = ap (λ (x : Started). is_open x && well_formed l w (first_of source)) (sym e ∙ q)
+module _ (l w : List ℕ) (source : ℕ) (b : Option Cursor) (e : b ≡ begun_of l source) where
+  pub list_bad : b ≡ None → list_ok l w source ≡ false
+  list_bad q = ap (λ (x : Option Cursor). is_open x && well_formed l w (first_of source)) (sym e ∙ q)
 
-  module _ (c : Cursor) (q : b ≡ From c) where
+  module _ (c : Cursor) (q : b ≡ Some c) where
     pub at_first : c ≡ first_of source
     at_first = from_first l source c (sym e ∙ q)
 
     pub list-opens : list_ok l w source ≡ well_formed l w (first_of source)
-    list-opens = ap (λ (x : Started). is_open x && well_formed l w (first_of source)) (sym e ∙ q)
+    list-opens = ap (λ (x : Option Cursor). is_open x && well_formed l w (first_of source)) (sym e ∙ q)
 
 -- ---- boundaries that are whole slices
 
@@ -120,37 +118,37 @@ module _ (lo hi w : List ℕ) (x y : Boundary) (p : ℕ) (sibling : PageId) (ex 
 -- ---- a call on a list: its limits, the entries' rows, the page's address, the end and the image
 
 module _ (limits : Bool) (a : List ℕ) (next : ℕ) (l : List ℕ) (source : ℕ) (rows : List Row) (at end : ℕ) (image : List ℕ) where
-  abbrev Both : Built → List ℕ → Type 0
-  Both r a₁ = (r ≡ judged (list_rows limits a next l source rows) Refused (At (addr at) end)) × (a₁ ≡ judged (list_rows limits a next l source rows) (λ (k : Refusal). a) (put a next image))
+  abbrev Both : Result (Addr × ℕ) Refusal → List ℕ → Type 0
+  Both r a₁ = (r ≡ judged (list_rows limits a next l source rows) Err (Ok (addr at, end))) × (a₁ ≡ judged (list_rows limits a next l source rows) (λ (k : Refusal). a) (put a next image))
 
-  pub call-one : (t : Bool) → t ≡ limits → t ≡ false → Both (Refused BadLimit) a
+  pub call-one : (t : Bool) → t ≡ limits → t ≡ false → Both (Err BadLimit) a
   call-one t e h = (
-    one limits a next l source rows Refused (At (addr at) end) (sym e ∙ h),
+    one limits a next l source rows Err (Ok (addr at, end)) (sym e ∙ h),
     one limits a next l source rows (λ (k : Refusal). a) (put a next image) (sym e ∙ h),
   )
 
   module _ (t₁ : Bool) (e₁ : t₁ ≡ limits) (h₁ : t₁ ≡ true) where
-    pub call_two : (t : Bool) → t ≡ next_ok (length a) next → t ≡ false → Both (Refused BadArena) a
+    pub call_two : (t : Bool) → t ≡ next_ok (length a) next → t ≡ false → Both (Err BadArena) a
     call_two t e h = (
-      two limits a next l source rows Refused (At (addr at) end) (sym e₁ ∙ h₁) (sym e ∙ h),
+      two limits a next l source rows Err (Ok (addr at, end)) (sym e₁ ∙ h₁) (sym e ∙ h),
       two limits a next l source rows (λ (k : Refusal). a) (put a next image) (sym e₁ ∙ h₁) (sym e ∙ h),
     )
 
     module _ (t₂ : Bool) (e₂ : t₂ ≡ next_ok (length a) next) (h₂ : t₂ ≡ true) where
-      pub call_three : list_ok l (take next a) source ≡ false → Both (Refused BadList) a
+      pub call_three : list_ok l (take next a) source ≡ false → Both (Err BadList) a
       call_three h = (
-        three limits a next l source rows Refused (At (addr at) end) (sym e₁ ∙ h₁) (sym e₂ ∙ h₂) h,
+        three limits a next l source rows Err (Ok (addr at, end)) (sym e₁ ∙ h₁) (sym e₂ ∙ h₂) h,
         three limits a next l source rows (λ (k : Refusal). a) (put a next image) (sym e₁ ∙ h₁) (sym e₂ ∙ h₂) h,
       )
 
-      call-on : list_ok l (take next a) source ≡ true → (r : Built) (a₁ : List ℕ) → r ≡ judged rows Refused (At (addr at) end) → a₁ ≡ judged rows (λ (k : Refusal). a) (put a next image) → Both r a₁
+      call-on : list_ok l (take next a) source ≡ true → (r : Result (Addr × ℕ) Refusal) (a₁ : List ℕ) → r ≡ judged rows Err (Ok (addr at, end)) → a₁ ≡ judged rows (λ (k : Refusal). a) (put a next image) → Both r a₁
       call-on h r a₁ er ea = (
-        er ∙ on limits a next l source rows Refused (At (addr at) end) (sym e₁ ∙ h₁) (sym e₂ ∙ h₂) h,
+        er ∙ on limits a next l source rows Err (Ok (addr at, end)) (sym e₁ ∙ h₁) (sym e₂ ∙ h₂) h,
         ea ∙ on limits a next l source rows (λ (k : Refusal). a) (put a next image) (sym e₁ ∙ h₁) (sym e₂ ∙ h₂) h,
       )
 
       -- 3 by the builder, which finds whether the list ends well
-      pub call-list : (t : Bool) → list_ok l (take next a) source ≡ t → (r : Built) (a₁ : List ℕ) → r ≡ cond t (judged rows Refused (At (addr at) end)) (Refused BadList)
+      pub call-list : (t : Bool) → list_ok l (take next a) source ≡ t → (r : Result (Addr × ℕ) Refusal) (a₁ : List ℕ) → r ≡ cond t (judged rows Err (Ok (addr at, end))) (Err BadList)
           → a₁ ≡ cond t (judged rows (λ (k : Refusal). a) (put a next image)) a → Both r a₁
       call-list true h r a₁ er ea = call-on h r a₁ er ea
       call-list false h r a₁ er ea = let z = call_three h in (er ∙ z.0, ea ∙ z.1)
@@ -167,28 +165,28 @@ module _ (a : List ℕ) (next : ℕ) (l : List ℕ) (m : Call) (b : Borders) whe
   abbrev rows : List Row
   rows = index_rows (length a) next m b es
 
-  pub index_one : (t : Bool) → t ≡ bounds_ok b.lo b.hi → t ≡ false → (Refused BadLimit ≡ new_index_answer a next l m b) × (a ≡ new_index_arena a next l m b)
+  pub index_one : (t : Bool) → t ≡ bounds_ok b.lo b.hi → t ≡ false → (Err BadLimit ≡ new_index_answer a next l m b) × (a ≡ new_index_arena a next l m b)
   unfolding new_index_answer new_index_arena
   index_one t e h = call-one limits a next l 1 rows next (index_end next m b es) (index_image m b es) t e h
 
   module _ (t₁ : Bool) (e₁ : t₁ ≡ bounds_ok b.lo b.hi) (h₁ : t₁ ≡ true) where
-    pub index_two : (t : Bool) → t ≡ next_ok (length a) next → t ≡ false → (Refused BadArena ≡ new_index_answer a next l m b) × (a ≡ new_index_arena a next l m b)
+    pub index_two : (t : Bool) → t ≡ next_ok (length a) next → t ≡ false → (Err BadArena ≡ new_index_answer a next l m b) × (a ≡ new_index_arena a next l m b)
     unfolding new_index_answer new_index_arena
     index_two t e h = call_two limits a next l 1 rows next (index_end next m b es) (index_image m b es) t₁ e₁ h₁ t e h
 
     module _ (t₂ : Bool) (e₂ : t₂ ≡ next_ok (length a) next) (h₂ : t₂ ≡ true) where
-      pub index_three : list_ok l (take next a) 1 ≡ false → (Refused BadList ≡ new_index_answer a next l m b) × (a ≡ new_index_arena a next l m b)
+      pub index_three : list_ok l (take next a) 1 ≡ false → (Err BadList ≡ new_index_answer a next l m b) × (a ≡ new_index_arena a next l m b)
       unfolding new_index_answer new_index_arena
       index_three h = call_three limits a next l 1 rows next (index_end next m b es) (index_image m b es) t₁ e₁ h₁ t₂ e₂ h₂ h
 
-      pub index_list : list_ok l (take next a) 1 ≡ well_formed l (take next a) (first_of 1) → (r : Built) (a₁ : List ℕ) (m' : Call) (b' : Borders) → m' ≡ m → b' ≡ b
-          → r ≡ of_list l (take next a) 1 (Refused BadList) (index_answer a next m' b') → a₁ ≡ of_list l (take next a) 1 a (index_arena a next m' b') → (r ≡ new_index_answer a next l m b) × (a₁ ≡ new_index_arena a next l m b)
+      pub index_list : list_ok l (take next a) 1 ≡ well_formed l (take next a) (first_of 1) → (r : Result (Addr × ℕ) Refusal) (a₁ : List ℕ) (m' : Call) (b' : Borders) → m' ≡ m → b' ≡ b
+          → r ≡ of_list l (take next a) 1 (Err BadList) (index_answer a next m' b') → a₁ ≡ of_list l (take next a) 1 a (index_arena a next m' b') → (r ≡ new_index_answer a next l m b) × (a₁ ≡ new_index_arena a next l m b)
       unfolding new_index_answer new_index_arena index_answer index_arena
       index_list h r a₁ m' b' em eb er ea =
           call-list limits a next l 1 rows next (index_end next m b es) (index_image m b es) t₁ e₁ h₁ t₂ e₂ h₂ (well_formed l (take next a) (first_of 1)) h r a₁
           (er
-          ∙ ap₂ (λ (x : Call) (y : Borders). of_list l (take next a) 1 (Refused BadList) (index_answer a next x y)) em eb
-          ∙ of_by l (take next a) 1 (Refused BadList) (index_answer a next m b) (well_formed l (take next a) (first_of 1)) refl)
+          ∙ ap₂ (λ (x : Call) (y : Borders). of_list l (take next a) 1 (Err BadList) (index_answer a next x y)) em eb
+          ∙ of_by l (take next a) 1 (Err BadList) (index_answer a next m b) (well_formed l (take next a) (first_of 1)) refl)
           (ea
           ∙ ap₂ (λ (x : Call) (y : Borders). of_list l (take next a) 1 a (index_arena a next x y)) em eb
           ∙ of_by l (take next a) 1 a (index_arena a next m b) (well_formed l (take next a) (first_of 1)) refl)
@@ -220,28 +218,28 @@ module _ (a : List ℕ) (next : ℕ) (l : List ℕ) (m : Call) (b : Borders) whe
   abbrev lrows : List Row
   lrows = leaf_rows (length a) next m b les
 
-  pub new_one : (t : Bool) → t ≡ leaf_limits m.limit m.budget b.lo b.hi → t ≡ false → (Refused BadLimit ≡ new_answer a next l m b) × (a ≡ new_arena a next l m b)
+  pub new_one : (t : Bool) → t ≡ leaf_limits m.limit m.budget b.lo b.hi → t ≡ false → (Err BadLimit ≡ new_answer a next l m b) × (a ≡ new_arena a next l m b)
   unfolding new_answer new_arena
   new_one t e h = call-one lims a next l 0 lrows (leaf_at m next les) (leaf_end next m b les) (leaf_image m b next les) t e h
 
   module _ (t₁ : Bool) (e₁ : t₁ ≡ leaf_limits m.limit m.budget b.lo b.hi) (h₁ : t₁ ≡ true) where
-    pub new_two : (t : Bool) → t ≡ next_ok (length a) next → t ≡ false → (Refused BadArena ≡ new_answer a next l m b) × (a ≡ new_arena a next l m b)
+    pub new_two : (t : Bool) → t ≡ next_ok (length a) next → t ≡ false → (Err BadArena ≡ new_answer a next l m b) × (a ≡ new_arena a next l m b)
     unfolding new_answer new_arena
     new_two t e h = call_two lims a next l 0 lrows (leaf_at m next les) (leaf_end next m b les) (leaf_image m b next les) t₁ e₁ h₁ t e h
 
     module _ (t₂ : Bool) (e₂ : t₂ ≡ next_ok (length a) next) (h₂ : t₂ ≡ true) where
-      pub new_three : list_ok l (take next a) 0 ≡ false → (Refused BadList ≡ new_answer a next l m b) × (a ≡ new_arena a next l m b)
+      pub new_three : list_ok l (take next a) 0 ≡ false → (Err BadList ≡ new_answer a next l m b) × (a ≡ new_arena a next l m b)
       unfolding new_answer new_arena
       new_three h = call_three lims a next l 0 lrows (leaf_at m next les) (leaf_end next m b les) (leaf_image m b next les) t₁ e₁ h₁ t₂ e₂ h₂ h
 
-      pub new_list : list_ok l (take next a) 0 ≡ well_formed l (take next a) (first_of 0) → (r : Built) (a₁ : List ℕ) (m' : Call) (b' : Borders) → m' ≡ m → b' ≡ b
-          → r ≡ of_list l (take next a) 0 (Refused BadList) (leaf_answer a next m' b') → a₁ ≡ of_list l (take next a) 0 a (leaf_arena a next m' b') → (r ≡ new_answer a next l m b) × (a₁ ≡ new_arena a next l m b)
+      pub new_list : list_ok l (take next a) 0 ≡ well_formed l (take next a) (first_of 0) → (r : Result (Addr × ℕ) Refusal) (a₁ : List ℕ) (m' : Call) (b' : Borders) → m' ≡ m → b' ≡ b
+          → r ≡ of_list l (take next a) 0 (Err BadList) (leaf_answer a next m' b') → a₁ ≡ of_list l (take next a) 0 a (leaf_arena a next m' b') → (r ≡ new_answer a next l m b) × (a₁ ≡ new_arena a next l m b)
       unfolding new_answer new_arena leaf_answer leaf_arena
       new_list h r a₁ m' b' em eb er ea =
           call-list lims a next l 0 lrows (leaf_at m next les) (leaf_end next m b les) (leaf_image m b next les) t₁ e₁ h₁ t₂ e₂ h₂ (well_formed l (take next a) (first_of 0)) h r a₁
           (er
-          ∙ ap₂ (λ (x : Call) (y : Borders). of_list l (take next a) 0 (Refused BadList) (leaf_answer a next x y)) em eb
-          ∙ of_by l (take next a) 0 (Refused BadList) (leaf_answer a next m b) (well_formed l (take next a) (first_of 0)) refl)
+          ∙ ap₂ (λ (x : Call) (y : Borders). of_list l (take next a) 0 (Err BadList) (leaf_answer a next x y)) em eb
+          ∙ of_by l (take next a) 0 (Err BadList) (leaf_answer a next m b) (well_formed l (take next a) (first_of 0)) refl)
           (ea
           ∙ ap₂ (λ (x : Call) (y : Borders). of_list l (take next a) 0 a (leaf_arena a next x y)) em eb
           ∙ of_by l (take next a) 0 a (leaf_arena a next m b) (well_formed l (take next a) (first_of 0)) refl)

@@ -8,9 +8,7 @@ ghost use Rattle.build_image.specs.Call.{call_of};
 ghost use Rattle.base.specs.Calls.{bounds_from, new_index_answer, new_index_arena, new_answer, new_arena};
 
 use build_bounds::Boundaries;
-use build_image::Built;
-use build_sources::Started;
-use frames::{PageId, Refusal};
+use frames::{Addr, PageId, Refusal};
 
 // The count of equal leading bytes of the boundaries; an empty hi is none.
 pub fn calc_prefix(lo: &[u8], hi: &[u8]) -> usize
@@ -45,20 +43,20 @@ pub fn new_intl(
     txid: u64,
     lsn: u64,
     checkpoint: u64,
-) -> Built
+) -> Result<(Addr, usize), Refusal>
     ensures value { result ≡ new_index_answer a.old next list.now (call_of 0 0 group txid lsn checkpoint) (bounds_from lo.now hi.now sibling.0) }
     ensures a_after { a.new ≡ new_index_arena a.old next list.now (call_of 0 0 group txid lsn checkpoint) (bounds_from lo.now hi.now sibling.0) }
 {
     if !build_table::bounds_ok(lo, hi) {
-        return Built::Refused(Refusal::BadLimit);
+        return Err(Refusal::BadLimit);
     }
     let len = a.len();
     if !build_image::next_ok(len, next) {
-        return Built::Refused(Refusal::BadArena);
+        return Err(Refusal::BadArena);
     }
     let b = build_sources::open_index(list);
-    let Started::From(c) = b else {
-        return Built::Refused(Refusal::BadList);
+    let Some(c) = b else {
+        return Err(Refusal::BadList);
     };
     let m = build_image::call_of(0, 0, group, txid, lsn, checkpoint);
     let x = build_bounds::boundary_of(lo);
@@ -68,7 +66,7 @@ pub fn new_intl(
         lo: x,
         hi: y,
         prefix: p,
-        sibling: sibling,
+        sibling,
     };
     build_table::build_index_list(a, next, list, c, m, lo, hi, e)
 }
@@ -88,20 +86,20 @@ pub fn new_leaf(
     txid: u64,
     lsn: u64,
     checkpoint: u64,
-) -> Built
+) -> Result<(Addr, usize), Refusal>
     ensures value { result ≡ new_answer a.old next list.now (call_of limit budget group txid lsn checkpoint) (bounds_from lo.now hi.now sibling.0) }
     ensures a_after { a.new ≡ new_arena a.old next list.now (call_of limit budget group txid lsn checkpoint) (bounds_from lo.now hi.now sibling.0) }
 {
     if !build_table::limits_ok(limit, budget, lo, hi) {
-        return Built::Refused(Refusal::BadLimit);
+        return Err(Refusal::BadLimit);
     }
     let len = a.len();
     if !build_image::next_ok(len, next) {
-        return Built::Refused(Refusal::BadArena);
+        return Err(Refusal::BadArena);
     }
     let b = build_sources::open_records(list);
-    let Started::From(c) = b else {
-        return Built::Refused(Refusal::BadList);
+    let Some(c) = b else {
+        return Err(Refusal::BadList);
     };
     let m = build_image::call_of(limit, budget, group, txid, lsn, checkpoint);
     let x = build_bounds::boundary_of(lo);
@@ -111,7 +109,7 @@ pub fn new_leaf(
         lo: x,
         hi: y,
         prefix: p,
-        sibling: sibling,
+        sibling,
     };
     build_table::build_list(a, next, list, c, m, lo, hi, e)
 }

@@ -14,7 +14,7 @@ ghost use Rattle.build_image.specs.Image.{val_bytes, remote_frame, remote_frame_
 ghost use Rattle.build_history.specs.Runs.{Sane, these, run_of, run_page, history_at, history_end_at};
 
 use build_image::Call;
-use build_sources::{Cursor, EntryAt, Pick};
+use build_sources::{Cursor, EntryAt};
 use frames::{Addr, BaseHeader, BoxHeader, NULL_ADDR, NULL_PID};
 use values::{HistRef, Val};
 
@@ -48,7 +48,7 @@ pub fn look_ahead(list: &[u8], footing: &[u8], from: Cursor, limit: usize, budge
     let mut f: usize = 0;
     loop {
         let st = build_sources::next_of(list, footing, true, c);
-        let Pick::One(i, d) = st else {
+        let Some((i, d)) = st else {
             return Look {
                 run: PageAhead {
                     count: n,
@@ -181,7 +181,7 @@ fn old_slots(
     let mut k = n;
     while k > 0 {
         let st = build_sources::next_of(list, &a[..footing], true, c);
-        let Pick::One(i, d) = st else {
+        let Some((i, d)) = st else {
             return;
         };
         numbers::put_u32(a, to, off as u32);
@@ -214,7 +214,7 @@ fn old_recs(
     let mut k = n;
     while k > 0 {
         let st = build_sources::next_of(list, &a[..footing], true, c);
-        let Pick::One(i, d) = st else {
+        let Some((i, d)) = st else {
             return;
         };
         let kept = i.kept;
@@ -313,7 +313,7 @@ fn each_remote_frame(
     let mut k = n;
     while k > 0 {
         let st = build_sources::next_of(list, &a[..footing], want, c);
-        let Pick::One(i, d) = st else {
+        let Some((i, d)) = st else {
             return;
         };
         to = remote_frame_of(a, footing, list, i, to, m);

@@ -13,11 +13,11 @@ use Rattle.frames.specs.declared.Refusal.{Refusal}
 use Rattle.frames.specs.Refusals.{number_of}
 use Rattle.frames.specs.Layout.{addr}
 use Rattle.frames.proofs.Refusals.{some_number}
-use Rattle.build_image.specs.declared.Built.{Built}
-use Rattle.build_image.specs.declared.Built.TheVariants.{At, Refused}
 use Rattle.build_image.specs.Call.{built_number}
 use Rattle.build_image.specs.Table.{Row, judged}
 use Rattle.build_image.proofs.Tables.{All, all_go}
+use Rattle.std.proofs.Common.{Result, Ok, Err}
+use Rattle.frames.specs.declared.Addr.{Addr}
 
 abbrev pub Exactly : Type 0 → Type 0 → Type 0
 Exactly P Q = (P → Q) × (Q → P)
@@ -103,24 +103,24 @@ stays (r ∷ rs) a x h = stay_by r.holds a (judged rs (λ (k : Refusal). a) x) (
 
 -- ---- the same of a call that answers by its table
 
-number_by : (b : Bool) (x : Built) (n : ℕ) (r : Refusal) → built_number x ≡ n → built_number (cond b x (Refused r)) ≡ cond b n (number_of r)
+number_by : (b : Bool) (x : Result (Addr × ℕ) Refusal) (n : ℕ) (r : Refusal) → built_number x ≡ n → built_number (cond b x (Err r)) ≡ cond b n (number_of r)
 number_by true x n r e = e
 number_by false x n r e = refl
 
 -- its number is the table's
-pub number_is : (rs : List Row) (at end : ℕ) → built_number (judged rs Refused (At (addr at) end)) ≡ judged rs number_of 0
+pub number_is : (rs : List Row) (at end : ℕ) → built_number (judged rs Err (Ok (addr at, end))) ≡ judged rs number_of 0
 number_is [] at end = refl
-number_is (r ∷ rs) at end = number_by r.holds (judged rs Refused (At (addr at) end)) (judged rs number_of 0) r.else (number_is rs at end)
+number_is (r ∷ rs) at end = number_by r.holds (judged rs Err (Ok (addr at, end))) (judged rs number_of 0) r.else (number_is rs at end)
 
 move : {P : Type 0} {x y n : ℕ} → x ≡ y → Exactly (y ≡ n) P → Exactly (x ≡ n) P
 move e h = (λ q. h.0 (sym e ∙ q), λ p. e ∙ h.1 p)
 
 module _ (rs : List Row) (at end : ℕ) where
-  pub call_exactly : (n : ℕ) → once n rs ≡ true → Exactly (built_number (judged rs Refused (At (addr at) end)) ≡ n) (All (before n rs) × (asks n rs ≡ false))
+  pub call_exactly : (n : ℕ) → once n rs ≡ true → Exactly (built_number (judged rs Err (Ok (addr at, end))) ≡ n) (All (before n rs) × (asks n rs ≡ false))
   call_exactly n h = move (number_is rs at end) (exactly n rs h)
 
-  pub call_accepted : Exactly (built_number (judged rs Refused (At (addr at) end)) ≡ 0) (All rs)
+  pub call_accepted : Exactly (built_number (judged rs Err (Ok (addr at, end))) ≡ 0) (All rs)
   call_accepted = move (number_is rs at end) (accepted rs)
 
-  pub call_stays : {X : Type 0} (a x : X) → (built_number (judged rs Refused (At (addr at) end)) ≡ 0 → ⊥) → judged rs (λ (r : Refusal). a) x ≡ a
+  pub call_stays : {X : Type 0} (a x : X) → (built_number (judged rs Err (Ok (addr at, end))) ≡ 0 → ⊥) → judged rs (λ (r : Refusal). a) x ≡ a
   call_stays a x h = stays rs a x (λ e. h (number_is rs at end ∙ e))

@@ -1,10 +1,11 @@
 -- What every building call is told and answers, whether it builds a page or a delta; and document 01's numbers 1 and 2, which ask the same of all.
 -- Assumes nothing.
-use Rattle.std.specs.Prelude.{ℕ, ◌%◌, Bool, cond, ◌&&◌, ltb, leb, eqb}
+use Rattle.std.specs.Prelude.{ℕ, ◌%◌, Bool, cond, ◌&&◌, ltb, leb, eqb, Result, Ok, Err}
 use Rattle.frames.specs.Refusals.{number_of}
 use Rattle.frames.specs.Limits.{max_budget, max_limit, min_budget}
-use Rattle.build_image.specs.declared.Built.{Built}
 use Rattle.build_image.specs.declared.Call.{Call}
+use Rattle.frames.specs.declared.Addr.{Addr}
+use Rattle.frames.specs.declared.Refusal.{Refusal}
 
 -- "lsn is the larger of the given and the checkpoint's"
 unfoldable pub larger : ℕ → ℕ → ℕ
@@ -37,6 +38,6 @@ abbrev pub next_ok : ℕ → ℕ → Bool
 next_ok len next = leb 8 next && eqb (next % 8) 0 && leb next len
 
 -- document 01's number of an answer: 0 where something was built
-abbrev pub built_number : Built → ℕ
-built_number (Built.At a n) = 0
-built_number (Built.Refused r) = number_of r
+abbrev pub built_number : Result (Addr × ℕ) Refusal → ℕ
+built_number (Ok (a, n)) = 0
+built_number (Err r) = number_of r

@@ -23,13 +23,6 @@ pub struct Call {
     pub lsn: u64,
 }
 
-// What it answers: where its page or delta stands, and the new next free address; or a refusal that changes nothing.
-#[derive(Clone, Copy)]
-pub enum Built {
-    At(Addr, usize),
-    Refused(Refusal),
-}
-
 // "lsn is the larger of the given and the checkpoint's"
 fn larger(x: u64, y: u64) -> u64
     ensures { result ≡ larger x y }
@@ -42,10 +35,10 @@ pub fn call_of(limit: usize, budget: usize, group: u8, txid: u64, lsn: u64, chec
     ensures { result ≡ call_of limit budget group txid lsn checkpoint }
 {
     Call {
-        limit: limit,
-        budget: budget,
-        group: group,
-        txid: txid,
+        limit,
+        budget,
+        group,
+        txid,
         lsn: larger(lsn, checkpoint),
     }
 }
@@ -136,9 +129,9 @@ pub fn page_head(
         payload_size: payload,
         box_kind: BoxHeader::BASE,
         node_type: node,
-        flag: flag,
+        flag,
         group: m.group,
-        link: link,
+        link,
         txid: m.txid,
         lsn: m.lsn,
     };

@@ -10,7 +10,6 @@ use Rattle.frames.specs.declared.Body.{Body}
 use Rattle.frames.specs.Layout.{base_len}
 use Rattle.frames.specs.Limits.{max_entries, max_key}
 use Rattle.values.specs.Keys.{index_key_size}
-use Rattle.records.specs.declared.RecRead.{RecRead}
 use Rattle.pages.specs.Meaning.{prefix_of}
 use Rattle.pages.proofs.Rows.{Good}
 use Rattle.build_sources.specs.Source.{Entry}
@@ -20,6 +19,8 @@ use Rattle.build_rows.specs.declared.Child.{Child}
 use Rattle.build_rows.specs.Judged.{Judged, ChildAt}
 use Rattle.build_rows.proofs.Rows.{judged_good, slots_end, index_more, key-places, child_says}
 use Rattle.build_index.proofs.Passes.{key_most, sums_nil}
+use Rattle.std.proofs.Common.{Option}
+use Rattle.records.specs.declared.Rec.{Rec}
 
 -- ---- one child
 
@@ -59,7 +60,7 @@ unfolding slot_entries
 count_by w b g zero i u = refl
 count_by w b g (suc k) i u =
     let d = judged_good w b 1 i g (omega (arith, u)) in
-    ap (λ (x : RecRead). length (slot_of (λ r. child_entry w b r ∷ []) (index_entries w b k (i + 1)) x)) d.read
+    ap (λ (x : Option Rec). length (slot_of (λ r. child_entry w b r ∷ []) (index_entries w b k (i + 1)) x)) d.read
     ∙ ap (λ (n : ℕ). suc n) (count_by w b g k (i + 1) (omega (arith, u)))
 
 pub count-is : (w : List ℕ) (b : Body) (end i : ℕ) → Judged w b 1 → i ≤ end → end ≤ b.elems → length (index_entries w b (end - i) i) ≡ end - i

@@ -16,7 +16,6 @@ use Rattle.build_sources.specs.declared.Cursor.{Cursor}
 use Rattle.build_sources.specs.Lists.{first_of, index_item}
 use Rattle.build_sources.specs.Source.{Entry, entry_of, entries, well_formed}
 use Rattle.build_sources.proofs.Sourced.{Found, found, ended, odd}
-use Rattle.build_sweep.specs.declared.Ent.TheVariants.{Out}
 use Rattle.build_sweep.specs.Ents.{index_ent_at}
 use Rattle.build_sweep.specs.Swept.{listed}
 use Rattle.build_sweep.proofs.Ents.{here, index_few, index_long, index_cut, index_found, index_at_lem, index_out, index_end_lem, key-bare}
@@ -26,6 +25,7 @@ use Rattle.build_index.specs.Parts.{rec_of, index_rec}
 use Rattle.build_index.specs.Laid.{index_left, Laid}
 use Rattle.build_index.proofs.Penning as penning
 use Rattle.build_index.proofs.Penning.{Penning, pen_begin, pen_end, pen_key, off_small, slot-room, rec-room, pen_turn}
+use Rattle.std.proofs.Common.{None}
 
 -- ---- one record: the rest of its key is a stretch of the list
 
@@ -84,7 +84,7 @@ module _ (a₀ l whole : List ℕ) (base p : ℕ) (a : List ℕ) (at slot rec : 
   read-end q = pen_end a₀ 0 whole base p a slot rec es (length a₀) h.penning (ended l [] c (index_end_lem l [] at h.seen h.kat h.klen q)).0
 
   module _ (lt : at < length l) where
-    no_out : Out ≡ index_ent_at l at → ⊥
+    no_out : None ≡ index_ent_at l at → ⊥
     no_out q = clash (odd l [] c (index_out l [] at h.seen h.kat h.klen lt q)).1 h.well
 
     pub ten_fit : at + 10 ≤ length l

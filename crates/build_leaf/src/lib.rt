@@ -171,11 +171,11 @@ fn leaf_open(
     };
     let s = leaf + BaseHeader::SLOTS_AT;
     Opened {
-        pen: pen,
+        pen,
         nib: Nib {
             slot: s,
             rec: s + 4 * t.heads + l.len + h.len,
-            remote: remote,
+            remote,
         },
         hint: k.heads,
     }
@@ -249,8 +249,8 @@ pub fn write_leaves(
     let pen = o.pen;
     let nib = o.nib;
     let x = Penned {
-        pen: pen,
-        nib: nib,
+        pen,
+        nib,
         hint: o.hint,
     };
     let z = build_page_pen::pen_leaves(a, footing, b, from, end, d, n, x, base, m, p);

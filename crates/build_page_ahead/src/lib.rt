@@ -90,7 +90,7 @@ fn fill_run(
             remote: f,
             more: false,
         },
-        hand: hand,
+        hand,
     }
 }
 
@@ -149,7 +149,7 @@ pub fn ahead(
             remote: 0,
             more: false,
         },
-        hand: hand,
+        hand,
     };
     let x = fill_run(s, page, slot, left, limit, budget, none);
     let y = fill_page(s, rest.body, rest.i, rest.end, limit, budget, x);

@@ -17,8 +17,7 @@ use Rattle.frames.specs.Layout.{box_len}
 use Rattle.frames.specs.Limits.{max_entries}
 use Rattle.values.specs.declared.HistRef.{HistRef}
 use Rattle.records.specs.declared.Rec.{Rec}
-use Rattle.pages.specs.declared.OldRead.{OldRead}
-use Rattle.pages.specs.Sound.{old_at, chain_from, chain_of}
+use Rattle.pages.specs.Sound.{old_at, chain_from, chain_of, old_version}
 use Rattle.build_sources.specs.Source.{Entry, olds}
 use Rattle.build_image.specs.declared.Call.{Call}
 use Rattle.build_image.specs.Sizes.{old_run}
@@ -41,6 +40,7 @@ use Rattle.build_page_ahead.specs.declared.Rest.{Rest}
 use Rattle.build_page_pen.specs.Told.{old_told, OldBelow}
 use Rattle.build_page_ahead.specs.Answers.{Follow}
 use Rattle.build_page_pen.specs.Runs.{rest_entries, run_entries, Ready}
+use Rattle.std.proofs.Common.{Some}
 
 pub ready_low : (low : ℕ) (m : Call) (q : Pen) (es : List Entry) (long : ℕ) → Ready low m q es long → low ≤ long
 ready_low low m q es long r = rising_le low (pens_left m q (olds es) [] []) long r.order
@@ -215,7 +215,7 @@ module _ (a₀ : List ℕ) (next : ℕ) (m : Call) (h : HistRef) (rest : Rest) (
       spot_is : old_at (take next a₀) hand.page at ≡ old_at (take next a₀) s.hand.page s.slot
       spot_is =
           let e = sp.same tn.page tn.slot tn.rec tn.read in
-          tn.read ∙ ap₂ (λ (p : Addr) (i : ℕ). OldRead.Old p i tn.rec) (sym e.0) (sym e.1) ∙ sym ata.read
+          tn.read ∙ ap₂ (λ (p : Addr) (i : ℕ). Some (old_version p i tn.rec)) (sym e.0) (sym e.1) ∙ sym ata.read
 
       runs_s : Runs (take next a₀) left s.hand.page s.slot
       runs_s = runs_again w left hand.page at s.hand.page s.slot spot_is g.runs

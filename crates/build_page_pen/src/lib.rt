@@ -286,9 +286,9 @@ fn pen_run(
     }
     RunPenned {
         pen: q,
-        hand: hand,
-        page: page,
-        slot: slot,
+        hand,
+        page,
+        slot,
     }
 }
 
@@ -332,8 +332,8 @@ fn pen_page(
         let rest = Rest {
             body: b,
             i: i + 1,
-            end: end,
-            then: then,
+            end,
+            then,
             n: count,
         };
         let x = pen_run(a, next, h, hand, rest, q, m);
@@ -353,7 +353,7 @@ fn pen_page(
     Penned {
         pen: q,
         nib: n,
-        hint: hint,
+        hint,
     }
 }
 

@@ -67,15 +67,8 @@ fn sweep_run(
     RunSwept {
         tally: t,
         cut: g,
-        hand: hand,
+        hand,
     }
-}
-
-// What a sweep over heads finds: the sums; or that there are more entries than a page takes.
-#[derive(Clone, Copy)]
-pub enum PageSwept {
-    Fits(Tally, Cut),
-    Many,
 }
 
 // Sweeps the heads from..end of a leaf, with their old versions; p is the length of the new page's prefix.
@@ -89,7 +82,7 @@ pub fn sweep_page(
     budget: usize,
     first: Tally,
     begun: Cut,
-) -> PageSwept
+) -> Option<(Tally, Cut)>
     requires limit_le_max_limit { (limit ≤ max_limit) × (budget ≤ max_budget) }
     requires judged { Judged s.now b 0 }
     requires end_le_elems { end ≤ b.elems }
@@ -104,7 +97,7 @@ pub fn sweep_page(
         let r = build_rows::head_here(s, b, i);
         let h = r.hist;
         if BaseHeader::MAX_ENTRIES < t.heads + t.olds + 1 + (h.count as usize) {
-            return PageSwept::Many;
+            return None;
         }
         let v = r.bytes;
         let kept = v.remote;
@@ -115,5 +108,5 @@ pub fn sweep_page(
         hand = x.hand;
         i += 1;
     }
-    PageSwept::Fits(t, g)
+    Some((t, g))
 }

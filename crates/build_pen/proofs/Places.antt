@@ -17,12 +17,11 @@ use Rattle.build_sources.specs.Source.{Entry, entry_of, entries, well_formed}
 use Rattle.build_sources.proofs.Sourced.{Found, found, ended, odd}
 use Rattle.build_sources.proofs.Stepped.{record_end}
 use Rattle.build_image.specs.Sizes.{old_run}
-use Rattle.build_sweep.specs.declared.Ent.{Ent}
-use Rattle.build_sweep.specs.declared.Ent.TheVariants.{At, Out}
 use Rattle.build_sweep.specs.Ents.{ent_at, order_at, ver_in}
 use Rattle.build_sweep.proofs.Ents.{ent-short, ent-long, ent_cut, ent_big, ent_open, ent-found, step_at_lem, step_out, key-bare, same-order}
 use Rattle.build_pen.specs.declared.RecordAt.{RecordAt}
 use Rattle.build_pen.specs.Places.{here, list_from, list_behind, Well, Reads, past_of, Inside, entry_at, entry_in, alike}
+use Rattle.std.proofs.Common.{Option, Some, None}
 
 clash : {x : Bool} → x ≡ false → x ≡ true → ⊥
 clash p q = let z : ◌≡◌ {A = Bool} false true = sym p ∙ q in let y : ◌≡◌ {A = ℕ} 0 1 = cc in omega arith
@@ -44,7 +43,7 @@ module _ (l : List ℕ) (at : ℕ) (h : length l ≤ at) where
 
 -- one entry
 module _ (l : List ℕ) (at : ℕ) (lt : at < length l) where
-  pub no_out : Well l at → Out ≡ ent_at l at → ⊥
+  pub no_out : Well l at → None ≡ ent_at l at → ⊥
   no_out w q = clash (odd l [] (here at false 0 0) (step_out l [] at false 0 0 lt q)).1 w
 
   -- a list that ends well has one here
@@ -130,11 +129,11 @@ module _ (l : List ℕ) (at : ℕ) (lt : at < length l) where
 
 -- where reading goes on does not ask which key was read before
 module _ (l : List ℕ) (at : ℕ) (s : Bool) (k n : ℕ) (s' : Bool) (k' n' : ℕ) where
-  well_by : at < length l → (e : Ent) → ent_at l at ≡ e → well_formed l [] (here at s k n) ≡ well_formed l [] (here at s' k' n')
-  well_by lt (At x y) q =
+  well_by : at < length l → (e : Option (ℕ × ℕ)) → ent_at l at ≡ e → well_formed l [] (here at s k n) ≡ well_formed l [] (here at s' k' n')
+  well_by lt (Some (x, y)) q =
       let r : Reads l at (record { kat = at + 2; klen = x; vlen = y }) = record { ent = sym q; kat = refl } in
       well-behind l at lt _ r s k n ∙ sym (well-behind l at lt _ r s' k' n')
-  well_by lt Out q = (odd l [] (here at s k n) (step_out l [] at s k n lt (sym q))).1 ∙ sym (odd l [] (here at s' k' n') (step_out l [] at s' k' n' lt (sym q))).1
+  well_by lt None q = (odd l [] (here at s k n) (step_out l [] at s k n lt (sym q))).1 ∙ sym (odd l [] (here at s' k' n') (step_out l [] at s' k' n' lt (sym q))).1
 
   well-on : (b : Bool) → leb (length l) at ≡ b → well_formed l [] (here at s k n) ≡ well_formed l [] (here at s' k' n')
   well-on true q = (at-end l at (leb-true _ _ q) s k n).1 ∙ sym (at-end l at (leb-true _ _ q) s' k' n').1
@@ -151,9 +150,9 @@ pub fresh : (l : List ℕ) (at : ℕ) → Well l at → old_run (list_from l at)
 unfolding old_run
 fresh l at w = go (leb (length l) at) refl
   where
-    by : at < length l → (e : Ent) → ent_at l at ≡ e → old_run (list_from l at) ≡ 0
-    by lt (At x y) q = ap old_run (step_head l at lt (record { kat = at + 2; klen = x; vlen = y }) (record { ent = sym q; kat = refl }))
-    by lt Out q = absurd (no_out l at lt w (sym q))
+    by : at < length l → (e : Option (ℕ × ℕ)) → ent_at l at ≡ e → old_run (list_from l at) ≡ 0
+    by lt (Some (x, y)) q = ap old_run (step_head l at lt (record { kat = at + 2; klen = x; vlen = y }) (record { ent = sym q; kat = refl }))
+    by lt None q = absurd (no_out l at lt w (sym q))
 
     go : (b : Bool) → leb (length l) at ≡ b → old_run (list_from l at) ≡ 0
     go true q = ap old_run (end-from l at (leb-true _ _ q))

@@ -10,8 +10,6 @@ use lib.ListN.{length, drop}
 use lib.Seq.{drop-append_seam}
 use Rattle.spans.specs.Span.{part, part_or, put, Stored}
 use Rattle.spans.proofs.Part.{length_part, part_add, part_or_in}
-use Rattle.order.specs.declared.Order.{Order}
-use Rattle.order.specs.declared.Order.TheVariants.{Less, Equal, Greater}
 use Rattle.order.specs.declared.Ver.{Ver}
 use Rattle.order.specs.Order.{cmp_bytes, is_equal}
 use Rattle.order.proofs.Laws.{cmp_eq}
@@ -28,13 +26,14 @@ use Rattle.build_pen.specs.declared.RecordAt.{RecordAt}
 use Rattle.build_pen.specs.Places.{Inside, entry_in, alike}
 use Rattle.build_pen.specs.Nibs.{hint_of, hint_for}
 use Rattle.build_pen.proofs.Writing as writing
+use Rattle.std.specs.declared.cmp.Ordering.{Ordering}
 
 -- ---- keys
 
-not_equal : (o : Order) → (o ≡ Equal → ⊥) → false ≡ is_equal o
-not_equal Less h = refl
-not_equal Equal h = absurd (h refl)
-not_equal Greater h = refl
+not_equal : (o : Ordering) → (o ≡ Ordering.Equal → ⊥) → false ≡ is_equal o
+not_equal Ordering.Less h = refl
+not_equal Ordering.Equal h = absurd (h refl)
+not_equal Ordering.Greater h = refl
 
 module _ (l : List ℕ) (bat blen kat klen : ℕ) (hb : bat + blen ≤ length l) (hk : kat + klen ≤ length l) where
   bl : length (part_or l bat blen) ≡ blen

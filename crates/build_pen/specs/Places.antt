@@ -1,13 +1,12 @@
 -- A record list's entries by their places: those from a place on, the first of them a head; and those behind a key.
 -- Assumes nothing.
-use Rattle.std.specs.Prelude.{ℕ, ◌+◌, ◌≤◌, ◌≡◌, List, [], Bool, true, false, length}
+use Rattle.std.specs.Prelude.{ℕ, ◌+◌, ◌≤◌, ◌≡◌, List, [], Bool, true, false, length, Some}
 use Rattle.spans.specs.Span.{part, part_or}
 use Rattle.order.specs.Order.{cmp_bytes, is_equal}
 use Rattle.frames.specs.Limits.{max_key, max_value}
 use Rattle.build_sources.specs.declared.Cursor.{Cursor}
 use Rattle.build_sources.specs.Lists.{cursor_at}
 use Rattle.build_sources.specs.Source.{Entry, entries, well_formed}
-use Rattle.build_sweep.specs.declared.Ent.{Ent}
 use Rattle.build_sweep.specs.Ents.{ent_at, ver_in}
 use Rattle.build_pen.specs.declared.RecordAt.{RecordAt}
 
@@ -28,7 +27,7 @@ Well l at = well_formed l [] (here at false 0 0) ≡ true
 
 -- what is read at a place
 pub record Reads (l : List ℕ) (at : ℕ) (i : RecordAt) : Type 0 where
-  pub ent : Ent.At i.klen i.vlen ≡ ent_at l at
+  pub ent : Some (i.klen, i.vlen) ≡ ent_at l at
   pub kat : i.kat ≡ at + 2
 
 abbrev pub past_of : RecordAt → ℕ

@@ -338,10 +338,10 @@ pub fn opened(a: &mut [u8], q: Pen, r: PageAhead, m: Call) -> Pen
     let t = page + BaseHeader::SLOTS_AT;
     Pen {
         loc: Loc {
-            page: page,
+            page,
             slot: 0,
             left: n,
-            next: next,
+            next,
         },
         nib: Nib {
             slot: t,
@@ -414,10 +414,10 @@ fn pen_run(
         if !same_key(list, kat, klen, i.kat, i.klen) {
             return Ran {
                 pen: q,
-                at: at,
-                run: run,
-                page: page,
-                slot: slot,
+                at,
+                run,
+                page,
+                slot,
             };
         }
         let r = turn(a, list, at, kat, klen, q, m);
@@ -445,10 +445,10 @@ fn pen_run(
     }
     Ran {
         pen: q,
-        at: at,
-        run: run,
-        page: page,
-        slot: slot,
+        at,
+        run,
+        page,
+        slot,
     }
 }
 

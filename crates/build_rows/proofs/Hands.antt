@@ -12,15 +12,12 @@ use lib.Dec.{eqb}
 use Rattle.numbers.specs.Number.{le_at}
 use Rattle.frames.specs.declared.Addr.{Addr}
 use Rattle.frames.specs.declared.Body.{Body}
-use Rattle.frames.specs.declared.Opened.{Opened}
 use Rattle.frames.specs.Layout.{base_len, addr}
 use Rattle.frames.proofs.Frames.{open_some}
 use Rattle.records.specs.declared.Rec.{Rec}
-use Rattle.records.specs.declared.RecRead.{RecRead}
 use Rattle.records.specs.Records.{rec_at}
 use Rattle.records.proofs.Inside.{at_slot}
-use Rattle.pages.specs.declared.OldRead.{OldRead}
-use Rattle.pages.specs.Sound.{history_at, old_rec, old_in, old_link, old_at}
+use Rattle.pages.specs.Sound.{history_at, old_rec, old_in, old_link, old_at, old_version}
 use Rattle.pages.proofs.Olds.{history-inside, history-is, old-inside}
 use Rattle.build_rows.specs.declared.Hand.{Hand}
 use Rattle.build_rows.specs.declared.Bytes.{Bytes}
@@ -29,6 +26,7 @@ use Rattle.build_rows.specs.Fields.{behind_of, bytes_at, BytesFit}
 use Rattle.build_rows.specs.Judged.{bytes_of, old_of}
 use Rattle.build_rows.specs.Hand.{Holds, Known, Opens, Answers, SpotAt}
 use Rattle.build_rows.proofs.Fields.{has_of, far_of, ValueHere, rec-here, slot-found}
+use Rattle.std.proofs.Common.{Option, Some, None}
 
 -- the page in hand, asked for again
 pub hold_again : (w : List ℕ) (a : Addr) (h : Hand) → Known w h → Opens w a → a.0 ≡ h.page.0 → Holds w h × (h.page ≡ a)
@@ -37,39 +35,39 @@ hold_again w a h k o e =
     (⊎_elim (λ z. absurd (omega arith)) (λ z. z) k, ap addr (sym e))
 
 -- another one, opened
-pub hold_new : (w : List ℕ) (a : Addr) (b : Body) → history_at w a ≡ Opened.Is b → Holds w (record { page = a; at = b.at; elems = b.elems; link = b.link })
+pub hold_new : (w : List ℕ) (a : Addr) (b : Body) → history_at w a ≡ Some b → Holds w (record { page = a; at = b.at; elems = b.elems; link = b.link })
 hold_new w a b o = record { body = b; opened = o; at = refl; elems = refl; link = refl }
 
-pub opens-some : (w : List ℕ) (a : Addr) → Opens w a → history_at w a ≡ Opened.Bad → ⊥
+pub opens-some : (w : List ℕ) (a : Addr) → Opens w a → history_at w a ≡ None → ⊥
 opens-some w a o e =
-    let y : Opened.Bad ≡ Opened.Is o.0 = sym e ∙ o.1 in
+    let y : None ≡ Some o.0 = sym e ∙ o.1 in
     let z : ◌≡◌ {A = ℕ} 0 1 = cc in
     omega arith
 
 -- ---- an old version that was read
 
-old_no : (p : Addr) (q : ℕ) (r : Rec) → OldRead.Bad ≡ OldRead.Old p q r → ⊥
+old_no : (p : Addr) (q : ℕ) (r : Rec) → None ≡ Some (old_version p q r) → ⊥
 old_no p q r n = let z : ◌≡◌ {A = ℕ} 0 1 = cc in omega arith
 
 -- it stands in the page a, whose places are b, at slot i
 record Stands (w : List ℕ) (a : Addr) (b : Body) (i : ℕ) (p : Addr) (q : ℕ) (r : Rec) : Type 0 where
   page : a ≡ p
   slot : i ≡ q
-  read : rec_at w b i ≡ RecRead.Is r
+  read : rec_at w b i ≡ Some r
 
-stands : (w : List ℕ) (a : Addr) (b : Body) (i : ℕ) (p : Addr) (q : ℕ) (r : Rec) → old_in w b a i ≡ OldRead.Old p q r → Stands w a b i p q r
+stands : (w : List ℕ) (a : Addr) (b : Body) (i : ℕ) (p : Addr) (q : ℕ) (r : Rec) → old_in w b a i ≡ Some (old_version p q r) → Stands w a b i p q r
 unfolding old_in
 stands w a b i p q r e = go (rec_at w b i) refl e
   where
-    go : (x : RecRead) → rec_at w b i ≡ x → old_rec a i x ≡ OldRead.Old p q r → Stands w a b i p q r
-    go (RecRead.Is y) u e' =
+    go : (x : Option Rec) → rec_at w b i ≡ x → old_rec a i x ≡ Some (old_version p q r) → Stands w a b i p q r
+    go (Some y) u e' =
         let x1 : a ≡ p = cc in
         let x2 : i ≡ q = cc in
         let x3 : y ≡ r = cc in
-        record { page = x1; slot = x2; read = u ∙ ap RecRead.Is x3 }
-    go RecRead.Bad u e' = absurd (old_no p q r e')
+        record { page = x1; slot = x2; read = u ∙ ap Some x3 }
+    go None u e' = absurd (old_no p q r e')
 
-module _ (w : List ℕ) (a : Addr) (b : Body) (o : history_at w a ≡ Opened.Is b) (i : ℕ) (p : Addr) (q : ℕ) (r : Rec) (e : old_at w a i ≡ OldRead.Old p q r) where
+module _ (w : List ℕ) (a : Addr) (b : Body) (o : history_at w a ≡ Some b) (i : ℕ) (p : Addr) (q : ℕ) (r : Rec) (e : old_at w a i ≡ Some (old_version p q r)) where
   -- in its page
   own : i < b.elems → Stands w a b i p q r
   unfolding old_at
@@ -80,23 +78,23 @@ module _ (w : List ℕ) (a : Addr) (b : Body) (o : history_at w a ≡ Opened.Is 
   -- behind its page
   record Linked : Type 0 where
     body : Body
-    opened : history_at w b.link ≡ Opened.Is body
+    opened : history_at w b.link ≡ Some body
     stood : Stands w b.link body 0 p q r
 
   linked : b.elems ≤ i → Linked
   unfolding old_at
   linked l = by (eqb i b.elems) (rw o at e)
     where
-      link : (x : Opened) → history_at w b.link ≡ x → old_link w b.link x ≡ OldRead.Old p q r → Linked
-      link (Opened.Is d) u e' = record { body = d; opened = u; stood = stands w b.link d 0 p q r e' }
-      link Opened.Bad u e' = absurd (old_no p q r e')
+      link : (x : Option Body) → history_at w b.link ≡ x → old_link w b.link x ≡ Some (old_version p q r) → Linked
+      link (Some d) u e' = record { body = d; opened = u; stood = stands w b.link d 0 p q r e' }
+      link None u e' = absurd (old_no p q r e')
 
-      by : (t : Bool) → cond t (old_link w b.link (history_at w b.link)) (old_in w b a i) ≡ OldRead.Old p q r → Linked
+      by : (t : Bool) → cond t (old_link w b.link (history_at w b.link)) (old_in w b a i) ≡ Some (old_version p q r) → Linked
       by true e' = link (history_at w b.link) refl e'
       by false e' = let m = at_slot w b i r (stands w a b i p q r e').read in absurd (omega arith)
 
 -- where an old version was read, it is read again
-pub old_again : (w : List ℕ) (a : Addr) (i : ℕ) (p : Addr) (q : ℕ) (r : Rec) → old_at w a i ≡ OldRead.Old p q r → old_at w p q ≡ OldRead.Old p q r
+pub old_again : (w : List ℕ) (a : Addr) (i : ℕ) (p : Addr) (q : ℕ) (r : Rec) → old_at w a i ≡ Some (old_version p q r) → old_at w p q ≡ Some (old_version p q r)
 unfolding old_at old_in
 old_again w a i p q r e =
     let g = old-inside w a i p q r e in
@@ -137,7 +135,7 @@ pub record OldFound (w : List ℕ) (h : Hand) (i : ℕ) (r : Rec) : Type 0 where
   pub place : h.at + le_at 4 w (h.at + base_len + 4 * i) ≡ r.ver_at
   pub value : ValueHere w (r.ver_at + 12) false r.hist r.val_at r.val_len r.remote
 
-pub old-found : (w : List ℕ) (h : Hand) (i : ℕ) (p : Addr) (q : ℕ) (r : Rec) → Holds w h → i < h.elems → old_at w h.page i ≡ OldRead.Old p q r → OldFound w h i r
+pub old-found : (w : List ℕ) (h : Hand) (i : ℕ) (p : Addr) (q : ℕ) (r : Rec) → Holds w h → i < h.elems → old_at w h.page i ≡ Some (old_version p q r) → OldFound w h i r
 old-found w h i p q r g l e =
     let b = g.body in
     let n = history-inside w h.page b g.opened in

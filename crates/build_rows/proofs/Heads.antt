@@ -13,7 +13,6 @@ use Rattle.frames.specs.declared.Body.{Body}
 use Rattle.frames.specs.Layout.{base_len, page_id}
 use Rattle.values.specs.declared.HistRef.{HistRef}
 use Rattle.records.specs.declared.Rec.{Rec}
-use Rattle.records.specs.declared.RecRead.{RecRead}
 use Rattle.records.specs.Records.{place_of, rec_at}
 use Rattle.records.proofs.Inside.{rec_no, at-inside, at_slot, skip_twelve}
 use Rattle.pages.proofs.Given.{every_slot}
@@ -25,6 +24,7 @@ use Rattle.build_rows.specs.declared.Child.{Child}
 use Rattle.build_rows.specs.Fields.{hist_at, behind_of, bytes_at, Readable, KeyIs, KeyAt}
 use Rattle.build_rows.specs.Judged.{Judged, head_of}
 use Rattle.build_rows.proofs.Fields.{has_of, far_of, ValueHere, rec-here, rec-child, slot-found}
+use Rattle.std.proofs.Common.{Some, None}
 
 -- every slot of it can be read
 pub judged-slot : (w : List ℕ) (b : Body) (k i : ℕ) → k < 2 → Judged w b k → i < b.elems → Readable w b i
@@ -34,9 +34,9 @@ judged-slot w b k i l g m =
 
 -- ---- where its key stands
 
-is_same : (w : List ℕ) (b : Body) (i : ℕ) (r r' : Rec) → rec_at w b i ≡ RecRead.Is r → rec_at w b i ≡ RecRead.Is r' → r ≡ r'
+is_same : (w : List ℕ) (b : Body) (i : ℕ) (r r' : Rec) → rec_at w b i ≡ Some r → rec_at w b i ≡ Some r' → r ≡ r'
 is_same w b i r r' e e' =
-    let x : RecRead.Is r ≡ RecRead.Is r' = sym e ∙ e' in
+    let x : Some r ≡ Some r' = sym e ∙ e' in
     let y : r ≡ r' = cc in
     y
 
@@ -64,17 +64,17 @@ module _ (w : List ℕ) (b : Body) (i : ℕ) (g : Readable w b i) where
         rw place
         (λ r q. let k = (slot-found w b i r g.inside q).short not_old (subst (λ (x : ℕ). get_or w x 0 < 128) place l) in record { begins = k.0; ends = k.1 })
 
-  pub rec-room : (r : Rec) → rec_at w b i ≡ RecRead.Is r → (r.ver_at ≤ r.rest_at) × (r.rest_at + r.rest_len ≤ length w)
+  pub rec-room : (r : Rec) → rec_at w b i ≡ Some r → (r.ver_at ≤ r.rest_at) × (r.rest_at + r.rest_len ≤ length w)
   rec-room r e =
       let u = g.inside in
       let k = (at-inside w b i r u e).0 in
       (omega (arith, k.ver), omega (arith, k.rest, u.payload, u.arena))
 
-  pub not_bad : rec_at w b i ≡ RecRead.Bad → ⊥
+  pub not_bad : rec_at w b i ≡ None → ⊥
   not_bad e = rec_no g.rec (sym e ∙ g.read)
 
   -- any other, by the decoder
-  pub long-here : (r : Rec) → rec_at w b i ≡ RecRead.Is r → KeyAt w b i (record { at = r.ver_at; len = r.rest_at - r.ver_at + r.rest_len })
+  pub long-here : (r : Rec) → rec_at w b i ≡ Some r → KeyAt w b i (record { at = r.ver_at; len = r.rest_at - r.ver_at + r.rest_len })
   long-here r e =
       λ r' e'.
       let k = (at-inside w b i r g.inside e).0 in
@@ -89,7 +89,7 @@ pub record HeadFound (w : List ℕ) (k : KeyHere) (r : Rec) : Type 0 where
   pub long : 12 ≤ k.len
   pub value : ValueHere w (k.at + k.len) true r.hist r.val_at r.val_len r.remote
 
-pub head_found : (w : List ℕ) (b : Body) (i : ℕ) (k : KeyHere) (r : Rec) → Judged w b 0 → KeyAt w b i k → rec_at w b i ≡ RecRead.Is r → HeadFound w k r
+pub head_found : (w : List ℕ) (b : Body) (i : ℕ) (k : KeyHere) (r : Rec) → Judged w b 0 → KeyAt w b i k → rec_at w b i ≡ Some r → HeadFound w k r
 head_found w b i k r g f e =
     let u = g.inside in
     let x = f r e in
@@ -114,7 +114,7 @@ head_is_lem w k r h y g e f =
 
 -- ---- a child
 
-pub child-is : (w : List ℕ) (b : Body) (i : ℕ) (k : KeyHere) (r : Rec) → Judged w b 1 → KeyAt w b i k → rec_at w b i ≡ RecRead.Is r
+pub child-is : (w : List ℕ) (b : Body) (i : ℕ) (k : KeyHere) (r : Rec) → Judged w b 1 → KeyAt w b i k → rec_at w b i ≡ Some r
     → (k.at + k.len + 8 ≤ length w) × ((n : ℕ) → n ≡ le_at 8 w (k.at + k.len) → ◌≡◌ {A = Child} (record { rest_at = k.at; rest_len = k.len; page = page_id n }) (record { rest_at = r.rest_at; rest_len = r.rest_len; page = page_id (le_at 8 w r.val_at) }))
 unfolding skip_of
 child-is w b i k r g f e =

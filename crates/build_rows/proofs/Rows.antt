@@ -14,17 +14,14 @@ use Rattle.numbers.specs.Number.{le_at}
 use Rattle.order.specs.Version.{ver_of}
 use Rattle.frames.specs.declared.Addr.{Addr}
 use Rattle.frames.specs.declared.Body.{Body}
-use Rattle.frames.specs.declared.Opened.{Opened}
 use Rattle.frames.specs.Layout.{base_len, Inside}
 use Rattle.frames.specs.Limits.{max_key, max_value}
 use Rattle.frames.proofs.Frames.{open_inside, open_kind}
 use Rattle.values.specs.Keys.{ver_in}
 use Rattle.records.specs.declared.Rec.{Rec}
-use Rattle.records.specs.declared.RecRead.{RecRead}
 use Rattle.records.specs.Records.{rec_at}
 use Rattle.records.proofs.Inside.{at-inside, ver-inside, skip_twelve}
-use Rattle.pages.specs.declared.OldRead.{OldRead}
-use Rattle.pages.specs.Sound.{history_at, old_at, entered_of, entered, head_ok}
+use Rattle.pages.specs.Sound.{history_at, old_at, entered_of, entered, head_ok, old_version}
 use Rattle.pages.specs.Meaning.{Page, prefix_of, key_of}
 use Rattle.pages.proofs.Given.{Sound, head_given, link_given}
 use Rattle.pages.proofs.Olds.{old-inside}
@@ -36,6 +33,7 @@ use Rattle.build_rows.specs.Judged.{Judged, Runs}
 use Rattle.build_rows.specs.Hand.{Opens, Answers, SpotAt}
 use Rattle.build_rows.proofs.Fields.{rec-here, rec-child, slot-found}
 use Rattle.build_rows.proofs.Hands.{old_again}
+use Rattle.std.proofs.Common.{Option, Some, None}
 
 -- ---- a sound page is judged
 
@@ -73,11 +71,11 @@ module _ (f : Rec → List Entry) (w : List ℕ) (b : Body) (end i : ℕ) where
   unfolding slot_entries
   slots_end l = let z : end - i ≡ 0 = omega arith in rw z
 
-  pub slots_more : (r : Rec) → i < end → rec_at w b i ≡ RecRead.Is r → slot_entries f w b (end - i) i ≡ f r ++ slot_entries f w b (end - (i + 1)) (i + 1)
+  pub slots_more : (r : Rec) → i < end → rec_at w b i ≡ Some r → slot_entries f w b (end - i) i ≡ f r ++ slot_entries f w b (end - (i + 1)) (i + 1)
   unfolding slot_entries
   slots_more r l e = let z : end - i ≡ suc (end - (i + 1)) = omega arith in rw (z, slot_entries, e)
 
-module _ (w : List ℕ) (b : Body) (end i : ℕ) (r : Rec) (l : i < end) (e : rec_at w b i ≡ RecRead.Is r) where
+module _ (w : List ℕ) (b : Body) (end i : ℕ) (r : Rec) (l : i < end) (e : rec_at w b i ≡ Some r) where
   -- a leaf's: the head, its old versions, and what is left
   pub leaf_more : leaf_entries w b (end - i) i ≡ head_entry w b r ∷ (old_entries w (key_of w b r) r.hist.count r.hist.page r.hist.slot ++ leaf_entries w b (end - (i + 1)) (i + 1))
   unfolding head_entries
@@ -97,9 +95,9 @@ entered-opens : (w : List ℕ) (a : Addr) (i : ℕ) → entered w a i ≡ true �
 unfolding entered
 entered-opens w a i e = go (history_at w a) refl e
   where
-    go : (o : Opened) → history_at w a ≡ o → entered_of i o ≡ true → Opens w a
-    go (Opened.Is b) q e' = (b, q)
-    go Opened.Bad q e' = absurd (let z : ◌≡◌ {A = ℕ} 0 1 = cc in omega arith)
+    go : (o : Option Body) → history_at w a ≡ o → entered_of i o ≡ true → Opens w a
+    go (Some b) q e' = (b, q)
+    go None q e' = absurd (let z : ◌≡◌ {A = ℕ} 0 1 = cc in omega arith)
 
 -- and where there are some, their page can be opened
 pub head_opens : (w : List ℕ) (r : Rec) → head_ok w r ≡ true → 0 < r.hist.count → Opens w r.hist.page
@@ -112,8 +110,8 @@ pub record Turn (w : List ℕ) (n : ℕ) (a : Addr) (i : ℕ) : Type 0 where
   pub page : Addr
   pub slot : ℕ
   pub rec : Rec
-  pub read : old_at w a i ≡ OldRead.Old page slot rec
-  pub again : old_at w page slot ≡ OldRead.Old page slot rec
+  pub read : old_at w a i ≡ Some (old_version page slot rec)
+  pub again : old_at w page slot ≡ Some (old_version page slot rec)
   pub more : Runs w (n - 1) page (slot + 1)
   pub entries : (key : List ℕ) → old_entries w key n a i ≡ old_entry w key rec ∷ old_entries w key (n - 1) page (slot + 1)
 
@@ -121,7 +119,7 @@ pub run_end : (w key : List ℕ) (n : ℕ) (a : Addr) (i : ℕ) → n ≤ 0 → 
 unfolding old_entries
 run_end w key n a i l = let z : n ≡ 0 = omega arith in rw z
 
-old_more : (w key : List ℕ) (n : ℕ) (a : Addr) (i : ℕ) (p : Addr) (q : ℕ) (r : Rec) → old_at w a i ≡ OldRead.Old p q r → old_entries w key (suc n) a i ≡ old_entry w key r ∷ old_entries w key n p (q + 1)
+old_more : (w key : List ℕ) (n : ℕ) (a : Addr) (i : ℕ) (p : Addr) (q : ℕ) (r : Rec) → old_at w a i ≡ Some (old_version p q r) → old_entries w key (suc n) a i ≡ old_entry w key r ∷ old_entries w key n p (q + 1)
 unfolding old_entries
 old_more w key n a i p q r e = rw e
 
@@ -155,7 +153,7 @@ module _ (w : List ℕ) (n : ℕ) (a : Addr) (i : ℕ) (t : Turn w n a i) where
 
   -- the same from the spot where it stands: `old_here` reads it there
   pub record At (x : Spot) : Type 0 where
-    pub read : old_at w x.hand.page x.slot ≡ OldRead.Old x.hand.page x.slot t.rec
+    pub read : old_at w x.hand.page x.slot ≡ Some (old_version x.hand.page x.slot t.rec)
     pub answers : Answers w x.hand.page x.slot
     pub more : Runs w (n - 1) x.hand.page (x.slot + 1)
     pub entries : (key : List ℕ) → old_entries w key n a i ≡ old_entry w key t.rec ∷ old_entries w key (n - 1) x.hand.page (x.slot + 1)
@@ -163,7 +161,7 @@ module _ (w : List ℕ) (n : ℕ) (a : Addr) (i : ℕ) (t : Turn w n a i) where
   pub turn_at : (x : Spot) → SpotAt w a i x → At x
   turn_at x s =
       let e = s.same t.page t.slot t.rec t.read in
-      let u : old_at w x.hand.page x.slot ≡ OldRead.Old x.hand.page x.slot t.rec = rw (e.0, e.1) t.again in
+      let u : old_at w x.hand.page x.slot ≡ Some (old_version x.hand.page x.slot t.rec) = rw (e.0, e.1) t.again in
       record {
         read = u;
         answers = (x.hand.page, x.slot, t.rec, u);
@@ -187,20 +185,20 @@ pub record KeyPlaces (w : List ℕ) (b : Body) (r : Rec) : Type 0 where
   pub whole : b.prefix_len + r.rest_len ≤ max_key
   pub long : length (key_of w b r) ≡ b.prefix_len + r.rest_len
 
-rec-places : (w : List ℕ) (b : Body) (i : ℕ) (r : Rec) → Inside w b → (b.kind ≡ 1 → ⊥) → rec_at w b i ≡ RecRead.Is r → Places w r
+rec-places : (w : List ℕ) (b : Body) (i : ℕ) (r : Rec) → Inside w b → (b.kind ≡ 1 → ⊥) → rec_at w b i ≡ Some r → Places w r
 rec-places w b i r u n e =
     let v = rec-here w b i r u n e in
     record { ver = ver-inside w b i r u n e; val = v.whole; small = v.small; long = length_part w r.val_at r.val_len v.whole }
 
-pub old-places : (w : List ℕ) (a : Addr) (i : ℕ) (p : Addr) (q : ℕ) (r : Rec) → old_at w a i ≡ OldRead.Old p q r → Places w r
+pub old-places : (w : List ℕ) (a : Addr) (i : ℕ) (p : Addr) (q : ℕ) (r : Rec) → old_at w a i ≡ Some (old_version p q r) → Places w r
 old-places w a i p q r e =
     let g = old-inside w a i p q r e in
     rec-places w g.page q r g.history.inside (λ z. omega (arith, g.history.kind)) g.read
 
-pub head_places : (w : List ℕ) (b : Body) (i : ℕ) (r : Rec) → Judged w b 0 → rec_at w b i ≡ RecRead.Is r → Places w r
+pub head_places : (w : List ℕ) (b : Body) (i : ℕ) (r : Rec) → Judged w b 0 → rec_at w b i ≡ Some r → Places w r
 head_places w b i r g e = rec-places w b i r g.inside (λ z. omega (arith, g.is)) e
 
-pub key-places : (w : List ℕ) (b : Body) (i : ℕ) (r : Rec) → Inside w b → rec_at w b i ≡ RecRead.Is r → KeyPlaces w b r
+pub key-places : (w : List ℕ) (b : Body) (i : ℕ) (r : Rec) → Inside w b → rec_at w b i ≡ Some r → KeyPlaces w b r
 unfolding prefix_of
 key-places w b i r u e =
     let k = (at-inside w b i r u e).0 in
@@ -216,11 +214,11 @@ key-places w b i r u e =
     }
 
 -- a head's rest stands behind its version
-pub head_rest : (w : List ℕ) (b : Body) (i : ℕ) (r : Rec) → Judged w b 0 → rec_at w b i ≡ RecRead.Is r → r.ver_at + 12 ≡ r.rest_at
+pub head_rest : (w : List ℕ) (b : Body) (i : ℕ) (r : Rec) → Judged w b 0 → rec_at w b i ≡ Some r → r.ver_at + 12 ≡ r.rest_at
 head_rest w b i r g e = omega (arith, (at-inside w b i r g.inside e).0.ver, skip_twelve b.kind (λ z. omega (arith, g.is)))
 
 -- a child's page id stands behind its key
-pub child-places : (w : List ℕ) (b : Body) (i : ℕ) (r : Rec) → Judged w b 1 → rec_at w b i ≡ RecRead.Is r → (r.rest_at + r.rest_len ≡ r.val_at) × (r.val_at + 8 ≤ length w)
+pub child-places : (w : List ℕ) (b : Body) (i : ℕ) (r : Rec) → Judged w b 1 → rec_at w b i ≡ Some r → (r.rest_at + r.rest_len ≡ r.val_at) × (r.val_at + 8 ≤ length w)
 child-places w b i r g e = rec-child w b i r g.is g.inside e
 
 -- ---- what an entry says

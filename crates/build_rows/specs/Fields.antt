@@ -1,13 +1,12 @@
 -- What stands in a record behind its key, read without a test: the history, the value; and the room that such a read needs.
 -- Assumes nothing.
-use Rattle.std.specs.Prelude.{ℕ, ◌+◌, ◌≤◌, ◌<◌, ◌≡◌, List, Bool, true, cond, length}
+use Rattle.std.specs.Prelude.{ℕ, ◌+◌, ◌≤◌, ◌<◌, ◌≡◌, List, Bool, true, cond, length, Some}
 use Rattle.numbers.specs.Number.{le_at}
 use Rattle.frames.specs.declared.Body.{Body}
 use Rattle.frames.specs.Layout.{Inside, addr, null_addr}
 use Rattle.values.specs.declared.HistRef.{HistRef}
 use Rattle.values.specs.Vals.{hist_of, no_hist}
 use Rattle.records.specs.declared.Rec.{Rec}
-use Rattle.records.specs.declared.RecRead.{RecRead}
 use Rattle.records.specs.Records.{rec_at}
 use Rattle.build_rows.specs.declared.Bytes.{Bytes}
 use Rattle.build_rows.specs.declared.KeyHere.{KeyHere}
@@ -38,7 +37,7 @@ pub record Readable (w : List ℕ) (b : Body) (i : ℕ) : Type 0 where
   pub inside : Inside w b
   pub kind : b.kind < 2
   pub rec : Rec
-  pub read : rec_at w b i ≡ RecRead.Is rec
+  pub read : rec_at w b i ≡ Some rec
 
 -- where its key begins, behind its length, and where it ends
 pub record KeyIs (x : KeyHere) (r : Rec) : Type 0 where
@@ -46,4 +45,4 @@ pub record KeyIs (x : KeyHere) (r : Rec) : Type 0 where
   pub ends : x.at + x.len ≡ r.rest_at + r.rest_len
 
 abbrev pub KeyAt : List ℕ → Body → ℕ → KeyHere → Type 0
-KeyAt w b i x = (r : Rec) → rec_at w b i ≡ RecRead.Is r → KeyIs x r
+KeyAt w b i x = (r : Rec) → rec_at w b i ≡ Some r → KeyIs x r

@@ -1,13 +1,12 @@
 -- A page whose records were judged, and what is read of its records.
 -- Assumes nothing.
-use Rattle.std.specs.Prelude.{ℕ, ◌≡◌, List, true}
+use Rattle.std.specs.Prelude.{ℕ, ◌≡◌, List, true, Some}
 use Rattle.numbers.specs.Number.{le_at}
 use Rattle.order.specs.declared.Ver.{Ver}
 use Rattle.frames.specs.declared.Addr.{Addr}
 use Rattle.frames.specs.declared.Body.{Body}
 use Rattle.frames.specs.Layout.{Inside, page_id}
 use Rattle.records.specs.declared.Rec.{Rec}
-use Rattle.records.specs.declared.RecRead.{RecRead}
 use Rattle.records.specs.Records.{rec_at}
 use Rattle.pages.specs.Sound.{slots_ok, chain_from, chains_ok}
 use Rattle.values.specs.declared.HistRef.{HistRef}
@@ -39,13 +38,13 @@ head_of r = record { ver_at = r.ver_at; rest_len = r.rest_len; hist = r.hist; by
 
 -- the head of slot i of a leaf
 abbrev pub HeadAt : List ℕ → Body → ℕ → Head → Type 0
-HeadAt w b i x = (r : Rec) → rec_at w b i ≡ RecRead.Is r → x ≡ head_of r
+HeadAt w b i x = (r : Rec) → rec_at w b i ≡ Some r → x ≡ head_of r
 
 -- its history alone
 abbrev pub PastAt : List ℕ → Body → ℕ → HistRef → Type 0
-PastAt w b i h = (r : Rec) → rec_at w b i ≡ RecRead.Is r → h ≡ r.hist
+PastAt w b i h = (r : Rec) → rec_at w b i ≡ Some r → h ≡ r.hist
 
 -- the child of slot i of an index page
 abbrev pub ChildAt : List ℕ → Body → ℕ → Child → Type 0
 ChildAt w b i x =
-    (r : Rec) → rec_at w b i ≡ RecRead.Is r → x ≡ record { rest_at = r.rest_at; rest_len = r.rest_len; page = page_id (le_at 8 w r.val_at) }
+    (r : Rec) → rec_at w b i ≡ Some r → x ≡ record { rest_at = r.rest_at; rest_len = r.rest_len; page = page_id (le_at 8 w r.val_at) }

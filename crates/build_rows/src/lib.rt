@@ -7,8 +7,7 @@ ghost use Rattle.build_rows.specs.Fields.{hist_at, behind_of, HistFits, bytes_at
 ghost use Rattle.build_rows.specs.Judged.{Judged, HeadAt, PastAt, ChildAt};
 ghost use Rattle.build_rows.specs.Hand.{Holds, Known, Opens, Answers, SpotAt, OldAt};
 
-use frames::{Addr, BaseHeader, Body, NULL_ADDR, Opened, PageId};
-use records::RecRead;
+use frames::{Addr, BaseHeader, Body, NULL_ADDR, PageId};
 use values::HistRef;
 
 // A history page in hand: its address, where it stands, its slots and its link; none where the address is 0.
@@ -48,7 +47,7 @@ pub fn hand_at(s: &[u8], a: Addr, hand: Hand) -> Hand
     if a.0 == hand.page.0 {
         return hand;
     }
-    let Opened::Is(b) = pages::history_at(s, a) else {
+    let Some(b) = pages::history_at(s, a) else {
         return hand;
     };
     let link = b.link;
@@ -56,7 +55,7 @@ pub fn hand_at(s: &[u8], a: Addr, hand: Hand) -> Hand
         page: a,
         at: b.at,
         elems: b.elems,
-        link: link,
+        link,
     }
 }
 
@@ -67,10 +66,7 @@ pub fn spot_at(s: &[u8], hand: Hand, slot: usize) -> Spot
     ensures { SpotAt s.now hand.page slot result }
 {
     if slot < hand.elems {
-        return Spot {
-            hand: hand,
-            slot: slot,
-        };
+        return Spot { hand, slot };
     }
     let link = hand.link;
     Spot {
@@ -184,7 +180,7 @@ fn key_here(s: &[u8], b: Body, i: usize) -> KeyHere
     if n < 128 {
         return KeyHere { at: p + 1, len: n };
     }
-    let RecRead::Is(r) = records::rec_at(s, b, i) else {
+    let Some(r) = records::rec_at(s, b, i) else {
         return KeyHere { at: p + 1, len: n };
     };
     KeyHere {

@@ -8,11 +8,11 @@ use Rattle.spans.specs.Span.{part, part_or}
 use Rattle.numbers.specs.Number.{of_le, of_be, be_at}
 use Rattle.order.specs.Order.{cmp_bytes}
 use Rattle.order.specs.Version.{ver_of, newer_than}
-use Rattle.build_sources.specs.declared.Started.{Started}
 use Rattle.build_sources.specs.Keys.{key_bytes}
 use Rattle.build_sources.specs.Lists.{begun_of, first_of, same_key, record_at, index_at, spot_at}
 use Rattle.build_sources.specs.Source.{Entry, after, list_f, well_f, step_of, next_of, left_of, entry_of, entries, well_formed}
 use Rattle.build_sources.specs.Judged.{above, rising_from, rising}
+use Rattle.std.proofs.Common.{Some}
 
 unfoldable pub p7_list : List ℕ
 p7_list =
@@ -20,7 +20,7 @@ p7_list =
     0 ∷ 1 ∷ 97 ∷ 0 ∷ 0 ∷ 0 ∷ 0 ∷ 0 ∷ 0 ∷ 0 ∷ 5 ∷ 0 ∷ 0 ∷ 0 ∷ 0 ∷ 0 ∷ 0 ∷ 0 ∷ 2 ∷ 120 ∷ 121 ∷
     0 ∷ 1 ∷ 97 ∷ 0 ∷ 0 ∷ 0 ∷ 0 ∷ 0 ∷ 0 ∷ 0 ∷ 3 ∷ 0 ∷ 0 ∷ 0 ∷ 0 ∷ 0 ∷ 0 ∷ 0 ∷ 1 ∷ 122 ∷ []
 
-pub p7-opens : begun_of p7_list 0 ≡ Started.From (first_of 0)
+pub p7-opens : begun_of p7_list 0 ≡ Some (first_of 0)
 unfolding p7_list begun_of be_at of_be of_le part
 p7-opens = refl
 

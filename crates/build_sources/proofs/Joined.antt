@@ -12,11 +12,10 @@ use lib.Seq.{drop-cons, get_or-append-add}
 use lib.Dec.{eqb}
 use borrow.Author.Tests.{eq-eqb, ne_eqb}
 use Rattle.spans.proofs.Part.{part_zero}
-use Rattle.order.specs.declared.Order.{Order}
-use Rattle.order.specs.declared.Order.TheVariants.{Less, Equal, Greater}
 use Rattle.order.specs.Order.{cmp_bytes, starts_with}
 use Rattle.order.proofs.Laws.{is-less, is_greater, is_same, starts-short}
 use Rattle.order.proofs.Words.{byte_less, byte_greater, byte_same, ends}
+use Rattle.std.specs.declared.cmp.Ordering.{Ordering}
 
 -- the byte at an index of two parts
 pub in_front : (p r : List ℕ) (k : ℕ) → k < length p → get_or p k 0 ≡ get_or (p ++ r) k 0
@@ -40,23 +39,23 @@ pub comparing : (p r q s : List ℕ) → Comparing (p ++ r) (q ++ s) (length p +
 comparing p r q s = record { first = sym (length-append p r); second = sym (length-append q s); in_first = omega arith; in_second = omega arith; goes = refl }
 
 module _ (a b : List ℕ) (n m k : ℕ) (h : Comparing a b n m k) where
-  pub both_end : n ≤ k → m ≤ k → Equal ≡ cmp_bytes a b
+  pub both_end : n ≤ k → m ≤ k → Ordering.Equal ≡ cmp_bytes a b
   both_end p q =
-      sym (sym h.goes ∙ ends a b k (omega (arith, h.first, h.in_first)) (omega (arith, h.second, h.in_second)) (inl (omega (arith, h.first))) ∙ is_same (length a) (length b) Equal (omega (arith, h.first, h.second, h.in_first, h.in_second)))
+      sym (sym h.goes ∙ ends a b k (omega (arith, h.first, h.in_first)) (omega (arith, h.second, h.in_second)) (inl (omega (arith, h.first))) ∙ is_same (length a) (length b) Ordering.Equal (omega (arith, h.first, h.second, h.in_first, h.in_second)))
 
-  pub first_ends : n ≤ k → k < m → Less ≡ cmp_bytes a b
+  pub first_ends : n ≤ k → k < m → Ordering.Less ≡ cmp_bytes a b
   first_ends p q =
-      sym (sym h.goes ∙ ends a b k (omega (arith, h.first, h.in_first)) (omega (arith, h.second, h.in_second)) (inl (omega (arith, h.first))) ∙ is-less (length a) (length b) Equal (omega (arith, h.first, h.second)))
+      sym (sym h.goes ∙ ends a b k (omega (arith, h.first, h.in_first)) (omega (arith, h.second, h.in_second)) (inl (omega (arith, h.first))) ∙ is-less (length a) (length b) Ordering.Equal (omega (arith, h.first, h.second)))
 
-  pub second-ends : k < n → m ≤ k → Greater ≡ cmp_bytes a b
+  pub second-ends : k < n → m ≤ k → Ordering.Greater ≡ cmp_bytes a b
   second-ends p q =
-      sym (sym h.goes ∙ ends a b k (omega (arith, h.first, h.in_first)) (omega (arith, h.second, h.in_second)) (inr (omega (arith, h.second))) ∙ is_greater (length a) (length b) Equal (omega (arith, h.first, h.second)))
+      sym (sym h.goes ∙ ends a b k (omega (arith, h.first, h.in_first)) (omega (arith, h.second, h.in_second)) (inr (omega (arith, h.second))) ∙ is_greater (length a) (length b) Ordering.Equal (omega (arith, h.first, h.second)))
 
   module _ (x y : ℕ) (p : k < n) (q : k < m) (ex : x ≡ get_or a k 0) (ey : y ≡ get_or b k 0) where
-    pub less-here : x < y → Less ≡ cmp_bytes a b
+    pub less-here : x < y → Ordering.Less ≡ cmp_bytes a b
     less-here l = sym (sym h.goes ∙ byte_less a b k (omega (arith, h.first)) (omega (arith, h.second)) (omega arith))
 
-    pub greater_here : y < x → Greater ≡ cmp_bytes a b
+    pub greater_here : y < x → Ordering.Greater ≡ cmp_bytes a b
     greater_here l = sym (sym h.goes ∙ byte_greater a b k (omega (arith, h.first)) (omega (arith, h.second)) (omega arith))
 
     pub goes_on : y ≤ x → x ≤ y → Comparing a b n m (k + 1)
@@ -74,7 +73,7 @@ pub no_front : (p : List ℕ) → length p ≡ 0 → p ≡ []
 no_front [] e = refl
 no_front (x ∷ p) e = absurd (omega arith)
 
-pub bare : (p r q s : List ℕ) (o : Order) → length p ≡ 0 → length q ≡ 0 → o ≡ cmp_bytes r s → o ≡ cmp_bytes (p ++ r) (q ++ s)
+pub bare : (p r q s : List ℕ) (o : Ordering) → length p ≡ 0 → length q ≡ 0 → o ≡ cmp_bytes r s → o ≡ cmp_bytes (p ++ r) (q ++ s)
 bare p r q s o e f h = rw (no_front p e, no_front q f) h
 
 -- ---- beginning

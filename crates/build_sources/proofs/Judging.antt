@@ -8,8 +8,6 @@ use native.Mathlib.Omega.{arith}
 use lib.ListN.{length}
 use lib.Dec.{eqb}
 use Rattle.spans.proofs.Tests.{ask}
-use Rattle.order.specs.declared.Order.{Order}
-use Rattle.order.specs.declared.Order.TheVariants.{Less, Equal, Greater}
 use Rattle.order.specs.Order.{cmp_bytes, starts_with}
 use Rattle.order.specs.Bounds.{below_by, below_hi, spanned}
 use Rattle.order.specs.Version.{newer_than}
@@ -18,33 +16,33 @@ use Rattle.build_sources.specs.declared.Cursor.{Cursor}
 use Rattle.build_sources.specs.declared.EntryAt.{EntryAt}
 use Rattle.build_sources.specs.Keys.{key_bytes, src_of}
 use Rattle.build_sources.specs.Source.{Entry, entry_of, entries, left_of}
-use Rattle.build_sources.specs.declared.Risen.{Risen}
-use Rattle.build_sources.specs.declared.Risen.TheVariants.{Up, Not}
 use Rattle.build_sources.specs.Judged.{above_by, above, rising_from, rising, prefixed, enclosed, risen_of}
 use Rattle.build_sources.specs.Pages.{pages_left}
 use Rattle.build_sources.proofs.Paged.{left-small}
 use Rattle.build_sources.proofs.Sourced.{Found}
+use Rattle.std.proofs.Common.{Option, Some, None}
+use Rattle.std.specs.declared.cmp.Ordering.{Ordering}
 
 -- the key of an entry, by where it lies
 pub key_of_lem : (l w : List ℕ) (i : EntryAt) (b : Bool) → i.footing ≡ b → key_bytes (src_of l w b) i.key ≡ (entry_of l w i).key
 unfolding entry_of
 key_of_lem l w i b e = rw e refl
 
-pub by_keys : (l w : List ℕ) (a b : EntryAt) (x y : Bool) (o : Order) → a.footing ≡ x → b.footing ≡ y
+pub by_keys : (l w : List ℕ) (a b : EntryAt) (x y : Bool) (o : Ordering) → a.footing ≡ x → b.footing ≡ y
     → o ≡ cmp_bytes (key_bytes (src_of l w x) a.key) (key_bytes (src_of l w y) b.key) → o ≡ cmp_bytes (entry_of l w a).key (entry_of l w b).key
 by_keys l w a b x y o p q h = h ∙ rw (key_of_lem l w a x p, key_of_lem l w b y q) refl
 
 -- one entry against the one before
-module _ (l w : List ℕ) (a b : EntryAt) (o : Order) (e : o ≡ cmp_bytes (entry_of l w a).key (entry_of l w b).key) where
-  pub above-less : o ≡ Less → true ≡ above (entry_of l w a) (entry_of l w b)
+module _ (l w : List ℕ) (a b : EntryAt) (o : Ordering) (e : o ≡ cmp_bytes (entry_of l w a).key (entry_of l w b).key) where
+  pub above-less : o ≡ Ordering.Less → true ≡ above (entry_of l w a) (entry_of l w b)
   unfolding above
   above-less h = rw (sym e ∙ h) refl
 
-  pub above_equal : o ≡ Equal → (r : Bool) → r ≡ newer_than a.ver b.ver → r ≡ above (entry_of l w a) (entry_of l w b)
+  pub above_equal : o ≡ Ordering.Equal → (r : Bool) → r ≡ newer_than a.ver b.ver → r ≡ above (entry_of l w a) (entry_of l w b)
   unfolding above entry_of
   above_equal h r q = rw (sym e ∙ h) q
 
-  pub above_greater : o ≡ Greater → false ≡ above (entry_of l w a) (entry_of l w b)
+  pub above_greater : o ≡ Ordering.Greater → false ≡ above (entry_of l w a) (entry_of l w b)
   unfolding above
   above_greater h = rw (sym e ∙ h) refl
 
@@ -63,16 +61,16 @@ module _ (l w : List ℕ) (x : Entry) (c : Cursor) where
     rising-on h = rw (f.list, h) refl
 
 module _ (l w : List ℕ) (c : Cursor) where
-  pub rises-end : (lo hi : List ℕ) (o : Order) (b : Bool) → o ≡ cmp_bytes lo hi → b ≡ below_by o hi → entries l w c ≡ [] → Up 0 b ≡ risen_of lo hi (entries l w c)
+  pub rises-end : (lo hi : List ℕ) (o : Ordering) (b : Bool) → o ≡ cmp_bytes lo hi → b ≡ below_by o hi → entries l w c ≡ [] → Some (0, b) ≡ risen_of lo hi (entries l w c)
   unfolding rising risen_of below_hi
-  rises-end lo hi o b q h e = rw e (ap (Up 0) (h ∙ ap (λ (x : Order). below_by x hi) q ∙ no_keys lo hi))
+  rises-end lo hi o b q h e = rw e (ap ((λ x0 x1. Some (x0, x1)) 0) (h ∙ ap (λ (x : Ordering). below_by x hi) q ∙ no_keys lo hi))
 
   pub prefixed-end : (p : List ℕ) → entries l w c ≡ [] → true ≡ prefixed p (entries l w c)
   unfolding prefixed
   prefixed-end p e = rw e refl
 
   module _ (i : EntryAt) (d : Cursor) (f : Found l w c i d) where
-    pub rises-on : (lo hi : List ℕ) (r : Risen) → r ≡ risen_of lo hi (entry_of l w i ∷ entries l w d) → r ≡ risen_of lo hi (entries l w c)
+    pub rises-on : (lo hi : List ℕ) (r : Option (ℕ × Bool)) → r ≡ risen_of lo hi (entry_of l w i ∷ entries l w d) → r ≡ risen_of lo hi (entries l w c)
     rises-on lo hi r h = rw f.list h
 
     pub prefixed_not : (p : List ℕ) → starts_with p (entry_of l w i).key ≡ false → false ≡ prefixed p (entries l w c)
@@ -94,27 +92,27 @@ pub record Climbed (lo hi : List ℕ) (es : List Entry) (n : ℕ) (b : Bool) : T
   pub count : n ≡ length es
   pub inside : b ≡ enclosed lo hi es
 
-pub risen_up : (lo hi : List ℕ) (es : List Entry) (n : ℕ) (b : Bool) → Up n b ≡ risen_of lo hi es → Climbed lo hi es n b
+pub risen_up : (lo hi : List ℕ) (es : List Entry) (n : ℕ) (b : Bool) → Some (n, b) ≡ risen_of lo hi es → Climbed lo hi es n b
 unfolding risen_of
 risen_up lo hi es n b e = go (rising es) refl e
   where
-    go : (t : Bool) → rising es ≡ t → Up n b ≡ cond t (Up (length es) (enclosed lo hi es)) Not → Climbed lo hi es n b
+    go : (t : Bool) → rising es ≡ t → Some (n, b) ≡ cond t (Some (length es, enclosed lo hi es)) None → Climbed lo hi es n b
     go true q e = record { up = q; count = cc; inside = cc }
     go false q e = absurd (let z : ◌≡◌ {A = ℕ} 0 1 = cc in omega arith)
 
-pub risen_not : (lo hi : List ℕ) (es : List Entry) → Not ≡ risen_of lo hi es → rising es ≡ false
+pub risen_not : (lo hi : List ℕ) (es : List Entry) → None ≡ risen_of lo hi es → rising es ≡ false
 unfolding risen_of
 risen_not lo hi es e = go (rising es) e
   where
-    go : (b : Bool) → Not ≡ cond b (Up (length es) (enclosed lo hi es)) Not → b ≡ false
+    go : (b : Bool) → None ≡ cond b (Some (length es, enclosed lo hi es)) None → b ≡ false
     go true e = absurd (let z : ◌≡◌ {A = ℕ} 0 1 = cc in omega arith)
     go false e = refl
 
-is_up : (lo hi : List ℕ) (es : List Entry) (n : ℕ) (b : Bool) → true ≡ rising es → n ≡ length es → b ≡ enclosed lo hi es → Up n b ≡ risen_of lo hi es
+is_up : (lo hi : List ℕ) (es : List Entry) (n : ℕ) (b : Bool) → true ≡ rising es → n ≡ length es → b ≡ enclosed lo hi es → Some (n, b) ≡ risen_of lo hi es
 unfolding risen_of
 is_up lo hi es n b e q h = rw (← e, q, h) refl
 
-is_not : (lo hi : List ℕ) (es : List Entry) → false ≡ rising es → Not ≡ risen_of lo hi es
+is_not : (lo hi : List ℕ) (es : List Entry) → false ≡ rising es → None ≡ risen_of lo hi es
 unfolding risen_of
 is_not lo hi es e = rw (← e) refl
 
@@ -122,7 +120,7 @@ is_not lo hi es e = rw (← e) refl
 above_most : (a b : Entry) → above a b ≡ true → AtMost a.key b.key
 unfolding above
 above_most a b e q =
-    let z : false ≡ true = sym (ap (λ (o : Order). above_by o a.ver b.ver) q) ∙ e in
+    let z : false ≡ true = sym (ap (λ (o : Ordering). above_by o a.ver b.ver) q) ∙ e in
     absurd (let y : ◌≡◌ {A = ℕ} 0 1 = cc in omega arith)
 
 pub ascending : (x : Entry) (es : List Entry) → rising_from x es ≡ true → Ascends x.key (keys es)
@@ -152,7 +150,7 @@ module _ (l w : List ℕ) (x₀ : Entry) (c₀ : Cursor) (x : Entry) (c : Cursor
   last-is e = ap (λ (es : List Entry). last_of x.key (keys es)) (sym e) ∙ h.last
 
   module _ (lo hi : List ℕ) where
-    pub risen_end : (b : Bool) → b ≡ spanned lo hi x₀.key x.key → entries l w c ≡ [] → Up n b ≡ risen_of lo hi (x₀ ∷ entries l w c₀)
+    pub risen_end : (b : Bool) → b ≡ spanned lo hi x₀.key x.key → entries l w c ≡ [] → Some (n, b) ≡ risen_of lo hi (x₀ ∷ entries l w c₀)
     risen_end b q e =
         is_up lo hi (x₀ ∷ entries l w c₀) n b (rising-all (rising-end l w x c e)) (omega (arith, h.all, ap length e))
         (q
@@ -160,7 +158,7 @@ module _ (l w : List ℕ) (x₀ : Entry) (c₀ : Cursor) (x : Entry) (c : Cursor
         ∙ ends_decide lo hi x₀.key (keys (entries l w c₀)) (ascending x₀ (entries l w c₀) (sym h.goes ∙ sym (rising-end l w x c e))))
 
     module _ (i : EntryAt) (d : Cursor) (f : Found l w c i d) where
-      pub risen_stop : above x (entry_of l w i) ≡ false → Not ≡ risen_of lo hi (x₀ ∷ entries l w c₀)
+      pub risen_stop : above x (entry_of l w i) ≡ false → None ≡ risen_of lo hi (x₀ ∷ entries l w c₀)
       risen_stop e = is_not lo hi (x₀ ∷ entries l w c₀) (rising-all (rising_not l w x c i d f e))
 
   module _ (i : EntryAt) (d : Cursor) (f : Found l w c i d) where

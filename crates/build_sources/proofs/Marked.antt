@@ -22,18 +22,12 @@ use Rattle.frames.specs.declared.PageId.{PageId}
 use Rattle.frames.specs.Layout.{addr, page_id}
 use Rattle.frames.specs.Limits.{max_entries, max_key, max_value}
 use Rattle.pages.specs.declared.Place.{Place}
-use Rattle.pages.specs.declared.BoundsRead.{BoundsRead}
 use Rattle.pages.specs.Boundaries.{place, bounds_at}
 use Rattle.walks.specs.declared.Walk.{Walk}
-use Rattle.walks.specs.declared.Begun.{Begun}
-use Rattle.walks.specs.declared.Step.{Step}
 use Rattle.walks.specs.Walk.{step_at}
 use Rattle.build_sources.specs.declared.Key.{Key}
 use Rattle.build_sources.specs.declared.Cursor.{Cursor}
 use Rattle.build_sources.specs.declared.EntryAt.{EntryAt}
-use Rattle.build_sources.specs.declared.Started.{Started}
-use Rattle.build_sources.specs.declared.Spot.{Spot}
-use Rattle.build_sources.specs.declared.Spot.TheVariants.{At, Out}
 use Rattle.build_sources.specs.declared.EntryRead.{EntryRead}
 use Rattle.build_sources.specs.declared.EntryRead.TheVariants.{Got, End, Bad}
 use Rattle.build_sources.specs.Keys.{key_bytes, src_of}
@@ -42,6 +36,10 @@ use Rattle.build_sources.specs.Pages.{whole_at, first_in, page_first, page_item,
 use Rattle.build_sources.specs.Source.{Entry, list_next, next_of, step_of, past_of, entry_of, left_of, entries}
 use Rattle.build_sources.specs.Marks.{Each, MarkedFrom, Marked, Short, Wide}
 use Rattle.build_sources.proofs.Sourced.{Found, found, ended, odd}
+use Rattle.std.proofs.Common.{Option, Some, None, Result, Ok, Err}
+use Rattle.frames.specs.declared.Refusal.{Refusal}
+use Rattle.pages.specs.declared.Bounds.{Bounds}
+use Rattle.walks.specs.declared.Step.{Step}
 
 -- ---- a step over a list: its item's own words
 
@@ -58,22 +56,22 @@ record Listed (l : List ℕ) (c : Cursor) (i : EntryAt) : Type 0 where
   cmd : Bytes l → i.ver.cmd < 256 ^ 4
   page : Bytes l → i.page.0 < 256 ^ 8
 
-no_spot : {i : EntryAt} {past : ℕ} → Out ≡ At i past → ⊥
+no_spot : {i : EntryAt} {past : ℕ} → ◌≡◌ {A = Option (EntryAt × ℕ)} None (Some (i, past)) → ⊥
 no_spot e = let z : ◌≡◌ {A = ℕ} 0 1 = cc in omega arith
 
 no_step : {i : EntryAt} {d : Cursor} → Bad ≡ Got i d → ⊥
 no_step e = let z : ◌≡◌ {A = ℕ} 0 1 = cc in omega arith
 
-record_listed : (l : List ℕ) (c : Cursor) (i : EntryAt) (past : ℕ) → record_at l c ≡ At i past → Listed l c i
+record_listed : (l : List ℕ) (c : Cursor) (i : EntryAt) (past : ℕ) → record_at l c ≡ Some (i, past) → Listed l c i
 unfolding record_at
 record_listed l c i past e =
     let k = be_at 2 l c.at in
     let v = be_at 4 l (c.at + 2 + k + 12) in
-    let a₁ = ask (leb (c.at + 2) (length l)) _ Out (At i past) no_spot e in
-    let a₂ = ask (leb k max_key) _ Out (At i past) no_spot a₁.1 in
-    let a₃ = ask (leb (c.at + 2 + (k + 16)) (length l)) _ Out (At i past) no_spot a₂.1 in
-    let a₄ = ask (leb v max_value) _ Out (At i past) no_spot a₃.1 in
-    let a₅ = ask (leb (c.at + 2 + k + 16 + v) (length l)) (At (record_item l c k v) (c.at + 2 + k + 16 + v)) Out (At i past) no_spot a₄.1 in
+    let a₁ = ask (leb (c.at + 2) (length l)) _ None (Some (i, past)) no_spot e in
+    let a₂ = ask (leb k max_key) _ None (Some (i, past)) no_spot a₁.1 in
+    let a₃ = ask (leb (c.at + 2 + (k + 16)) (length l)) _ None (Some (i, past)) no_spot a₂.1 in
+    let a₄ = ask (leb v max_value) _ None (Some (i, past)) no_spot a₃.1 in
+    let a₅ = ask (leb (c.at + 2 + k + 16 + v) (length l)) (Some (record_item l c k v, c.at + 2 + k + 16 + v)) None (Some (i, past)) no_spot a₄.1 in
     let h : c.at + 2 + (be_at 2 l c.at + 16) ≤ length l = leb-true _ _ a₃.0 in
     let x : record_item l c k v ≡ i = cc in
     rw (← x)
@@ -86,46 +84,46 @@ record_listed l c i past e =
       page = λ b. omega arith;
     })
 
-index_listed : (l : List ℕ) (c : Cursor) (i : EntryAt) (past : ℕ) → index_at l c ≡ At i past → Listed l c i
+index_listed : (l : List ℕ) (c : Cursor) (i : EntryAt) (past : ℕ) → index_at l c ≡ Some (i, past) → Listed l c i
 unfolding index_at
 index_listed l c i past e =
     let k = be_at 2 l c.at in
-    let a₁ = ask (leb (c.at + 2) (length l)) _ Out (At i past) no_spot e in
-    let a₂ = ask (leb k max_key) _ Out (At i past) no_spot a₁.1 in
-    let a₃ = ask (leb (c.at + 2 + (k + 8)) (length l)) (At (index_item l c k) (c.at + 2 + k + 8)) Out (At i past) no_spot a₂.1 in
+    let a₁ = ask (leb (c.at + 2) (length l)) _ None (Some (i, past)) no_spot e in
+    let a₂ = ask (leb k max_key) _ None (Some (i, past)) no_spot a₁.1 in
+    let a₃ = ask (leb (c.at + 2 + (k + 8)) (length l)) (Some (index_item l c k, c.at + 2 + k + 8)) None (Some (i, past)) no_spot a₂.1 in
     let h : c.at + 2 + (be_at 2 l c.at + 8) ≤ length l = leb-true _ _ a₃.0 in
     let x : index_item l c k ≡ i = cc in
     rw (← x)
     (record { footing = refl; old = refl; kept = refl; txid = λ b. omega arith; cmd = λ b. omega arith; page = λ b. be_at_lt l (c.at + 2 + be_at 2 l c.at) 8 (omega arith) b })
 
 -- an entry of an index list has no version
-index_plain : (l : List ℕ) (c : Cursor) (i : EntryAt) (past : ℕ) → index_at l c ≡ At i past → i.ver ≡ ver_of 0 0
+index_plain : (l : List ℕ) (c : Cursor) (i : EntryAt) (past : ℕ) → index_at l c ≡ Some (i, past) → i.ver ≡ ver_of 0 0
 unfolding index_at
 index_plain l c i past e =
     let k = be_at 2 l c.at in
-    let a₁ = ask (leb (c.at + 2) (length l)) _ Out (At i past) no_spot e in
-    let a₂ = ask (leb k max_key) _ Out (At i past) no_spot a₁.1 in
-    let a₃ = ask (leb (c.at + 2 + (k + 8)) (length l)) (At (index_item l c k) (c.at + 2 + k + 8)) Out (At i past) no_spot a₂.1 in
+    let a₁ = ask (leb (c.at + 2) (length l)) _ None (Some (i, past)) no_spot e in
+    let a₂ = ask (leb k max_key) _ None (Some (i, past)) no_spot a₁.1 in
+    let a₃ = ask (leb (c.at + 2 + (k + 8)) (length l)) (Some (index_item l c k, c.at + 2 + k + 8)) None (Some (i, past)) no_spot a₂.1 in
     let x : index_item l c k ≡ i = cc in
     rw (← x)
 
-spot_plain : (l : List ℕ) (c : Cursor) (i : EntryAt) (past : ℕ) → c.source ≡ 1 → spot_at l c ≡ At i past → i.ver ≡ ver_of 0 0
+spot_plain : (l : List ℕ) (c : Cursor) (i : EntryAt) (past : ℕ) → c.source ≡ 1 → spot_at l c ≡ Some (i, past) → i.ver ≡ ver_of 0 0
 unfolding spot_at
 spot_plain l c i past k e = index_plain l c i past (rw (eq-eqb c.source 1 k) at e)
 
-spot_listed : (l : List ℕ) (c : Cursor) (i : EntryAt) (past : ℕ) → spot_at l c ≡ At i past → Listed l c i
+spot_listed : (l : List ℕ) (c : Cursor) (i : EntryAt) (past : ℕ) → spot_at l c ≡ Some (i, past) → Listed l c i
 unfolding spot_at
 spot_listed l c i past e = go (eqb c.source 1) e
   where
-    go : (b : Bool) → cond b (index_at l c) (record_at l c) ≡ At i past → Listed l c i
+    go : (b : Bool) → cond b (index_at l c) (record_at l c) ≡ Some (i, past) → Listed l c i
     go true e = index_listed l c i past e
     go false e = record_listed l c i past e
 
-stepped : (b : Bool) (c : Cursor) (sp : Spot) (i : EntryAt) (d : Cursor) → cond b End (step_of c sp) ≡ Got i d → (past : ℕ) × (sp ≡ At i past) × (past_of c past i ≡ d)
+stepped : (b : Bool) (c : Cursor) (sp : Option (EntryAt × ℕ)) (i : EntryAt) (d : Cursor) → cond b End (step_of c sp) ≡ Got i d → (past : ℕ) × (sp ≡ Some (i, past)) × (past_of c past i ≡ d)
 unfolding step_of
 stepped true c sp i d e = absurd (let z : ◌≡◌ {A = ℕ} 0 1 = cc in omega arith)
-stepped false c (At j past) i d e = (past, cc, cc)
-stepped false c Out i d e = absurd (no_step e)
+stepped false c (Some (j, past)) i d e = (past, cc, cc)
+stepped false c None i d e = absurd (no_step e)
 
 -- ---- what a step of any source tells of its item and of the cursor behind it
 
@@ -152,19 +150,19 @@ pub record Turns (c : Cursor) (t : Addr) (f : Cursor) : Type 0 where
   pub key : f.key ≡ c.key
   pub then : f.then ≡ t
 
-pub first_turns : (w : List ℕ) (c : Cursor) (a then : Addr) (f : Cursor) → page_first w c a then ≡ Started.From f → Turns c then f
+pub first_turns : (w : List ℕ) (c : Cursor) (a then : Addr) (f : Cursor) → page_first w c a then ≡ Some f → Turns c then f
 unfolding page_first
 first_turns w c a then f e = go (whole_at w a) (bounds_at w a) e
   where
-    no : Started.Bad ≡ Started.From f → ⊥
+    no : None ≡ Some f → ⊥
     no e = let z : ◌≡◌ {A = ℕ} 0 1 = cc in omega arith
 
-    go : (b : Begun) (e : BoundsRead) → first_in c then b e ≡ Started.From f → Turns c then f
-    go (Begun.Is v) (BoundsRead.Is e) h =
+    go : (b : Result Walk Refusal) (e : Result Bounds Refusal) → first_in c then b e ≡ Some f → Turns c then f
+    go (Ok v) (Ok e) h =
         let q : record { source = c.source; seen = c.seen; key = c.key; at = c.at; walk = v; pre = e.prefix; then = then } ≡ f = cc in
         rw (← q) (record { source = refl; seen = refl; key = refl; then = refl })
-    go (Begun.Is v) (BoundsRead.Refused n) h = absurd (no h)
-    go (Begun.Refused n) e h = absurd (no h)
+    go (Ok v) (Err n) h = absurd (no h)
+    go (Err n) e h = absurd (no h)
 
 module _ (l w : List ℕ) (c : Cursor) (i : EntryAt) (d : Cursor) (k : c.source ≡ 2) where
   item_stepped : (rest : Place) (ver : Ver) (value : Place) (kept : Addr) (page : PageId) (v : Walk) → item_at w c rest ver value kept page v ≡ Got i d → Stepped l w c i d
@@ -179,11 +177,11 @@ module _ (l w : List ℕ) (c : Cursor) (i : EntryAt) (d : Cursor) (k : c.source 
       let ed : page_past c rest v ≡ d = cc in
       rw (← ei, ← ed) (record { footing = sym (eq-eqb c.source 2 k); old = refl; seen = refl; key = refl; source = refl })
 
-  of_stepped : (st : Step) → walked_of w c st ≡ Got i d → Stepped l w c i d
-  of_stepped (Step.Found x v) e = item_stepped x.key x.ver x.value x.remote (page_id 0) v e
-  of_stepped (Step.Leads x v) e = item_stepped x.key (ver_of 0 0) (place 0 0) (addr 0) x.page v e
-  of_stepped Step.End e = absurd (let z : ◌≡◌ {A = ℕ} 0 1 = cc in omega arith)
-  of_stepped (Step.Refused n) e = absurd (no_step e)
+  of_stepped : (st : Result Step Refusal) → walked_of w c st ≡ Got i d → Stepped l w c i d
+  of_stepped (Ok (Step.Found x v)) e = item_stepped x.key x.ver x.value x.remote (page_id 0) v e
+  of_stepped (Ok (Step.Leads x v)) e = item_stepped x.key (ver_of 0 0) (place 0 0) (addr 0) x.page v e
+  of_stepped (Ok Step.End) e = absurd (let z : ◌≡◌ {A = ℕ} 0 1 = cc in omega arith)
+  of_stepped (Err n) e = absurd (no_step e)
 
   walked_stepped : walked w c ≡ Got i d → Stepped l w c i d
   unfolding walked
@@ -201,8 +199,8 @@ pages_stepped : (l w : List ℕ) (c : Cursor) (i : EntryAt) (d : Cursor) → c.s
 unfolding pages_next turned
 pages_stepped l w c i d k e = go (walked w c) refl e
   where
-    on : (b : Started) → page_first w c c.then (addr 0) ≡ b → turned_of w b ≡ Got i d → Stepped l w c i d
-    on (Started.From f) q g =
+    on : (b : Option Cursor) → page_first w c c.then (addr 0) ≡ b → turned_of w b ≡ Got i d → Stepped l w c i d
+    on (Some f) q g =
         let t = first_turns w c c.then (addr 0) f q in
         let s = walked_stepped l w f i d (t.source ∙ k) g in
         record {
@@ -212,7 +210,7 @@ pages_stepped l w c i d k e = go (walked w c) refl e
           key = s.key;
           source = s.source ∙ t.source;
         }
-    on Started.Bad q g = absurd (no_step g)
+    on None q g = absurd (no_step g)
 
     ends : (t : Bool) → cond t End (turned_of w (page_first w c c.then (addr 0))) ≡ Got i d → Stepped l w c i d
     ends true g = absurd (let z : ◌≡◌ {A = ℕ} 0 1 = cc in omega arith)

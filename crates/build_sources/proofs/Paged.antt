@@ -16,21 +16,21 @@ use Rattle.frames.specs.declared.PageId.{PageId}
 use Rattle.frames.specs.Layout.{addr, page_id}
 use Rattle.frames.specs.Limits.{max_entries, max_key, max_value}
 use Rattle.pages.specs.declared.Place.{Place}
-use Rattle.pages.specs.declared.BoundsRead.{BoundsRead}
 use Rattle.pages.specs.Boundaries.{place, bounds_at}
 use Rattle.walks.specs.declared.Walk.{Walk}
-use Rattle.walks.specs.declared.Begun.{Begun}
-use Rattle.walks.specs.declared.Step.{Step}
 use Rattle.walks.specs.Walk.{step_at}
 use Rattle.walks.proofs.Shorter.{Moves, found_moves, leads_moves}
 use Rattle.build_sources.specs.declared.Cursor.{Cursor}
 use Rattle.build_sources.specs.declared.EntryAt.{EntryAt}
-use Rattle.build_sources.specs.declared.Started.{Started}
 use Rattle.build_sources.specs.declared.EntryRead.{EntryRead}
 use Rattle.build_sources.specs.declared.EntryRead.TheVariants.{Got, End, Bad}
 use Rattle.build_sources.specs.Pages.{whole_at, first_in, page_first, page_key, page_item, page_past, item_at, walked_of, walked, turned_of, turned, pages_of, pages_next, pages_left}
 use Rattle.build_sources.specs.Lists.{same_key}
 use Rattle.build_sources.specs.Source.{Placed}
+use Rattle.std.proofs.Common.{Option, Some, None, Result, Ok, Err}
+use Rattle.frames.specs.declared.Refusal.{Refusal}
+use Rattle.pages.specs.declared.Bounds.{Bounds}
+use Rattle.walks.specs.declared.Step.{Step}
 
 -- ---- an entry of a page, in the words of the code
 
@@ -165,11 +165,11 @@ module _ (l w : List ℕ) (c : Cursor) (p : c.walk.heads ≤ max_entries) (q : c
         moves = m;
       })
 
-  step_walked : (st : Step) → step_at w c.walk ≡ st → walked_of w c st ≡ Got i d → Walked l w c i d
-  step_walked (Step.Found x v) h e = item_walked x.key x.ver x.value x.remote (page_id 0) v (found_moves w c.walk x v h) e
-  step_walked (Step.Leads x v) h e = item_walked x.key (ver_of 0 0) (place 0 0) (addr 0) x.page v (leads_moves w c.walk x v h) e
-  step_walked Step.End h e = absurd (let z : ◌≡◌ {A = ℕ} 0 1 = cc in omega arith)
-  step_walked (Step.Refused n) h e = absurd (no e)
+  step_walked : (st : Result Step Refusal) → step_at w c.walk ≡ st → walked_of w c st ≡ Got i d → Walked l w c i d
+  step_walked (Ok (Step.Found x v)) h e = item_walked x.key x.ver x.value x.remote (page_id 0) v (found_moves w c.walk x v h) e
+  step_walked (Ok (Step.Leads x v)) h e = item_walked x.key (ver_of 0 0) (place 0 0) (addr 0) x.page v (leads_moves w c.walk x v h) e
+  step_walked (Ok Step.End) h e = absurd (let z : ◌≡◌ {A = ℕ} 0 1 = cc in omega arith)
+  step_walked (Err n) h e = absurd (no e)
 
 walked-is : (l w : List ℕ) (c : Cursor) (i : EntryAt) (d : Cursor) → walked w c ≡ Got i d → Walked l w c i d
 unfolding walked
@@ -217,23 +217,23 @@ module _ (l w : List ℕ) (c : Cursor) (i : EntryAt) (d : Cursor) where
       let a₂ = ask (leb c.walk.older.left 4294967295) (walked_of w c (step_at w c.walk)) Bad End end_not_bad a₁.1 in
       rw (left_sane c (leb-true _ _ a₁.0) (leb-true _ _ a₂.0), ne_eqb c.then.0 0 n) (omega arith)
 
-  first_then : (b : Begun) (e : BoundsRead) (f : Cursor) → first_in c (addr 0) b e ≡ Started.From f → (f.then ≡ addr 0) × (f.source ≡ c.source)
-  first_then (Begun.Is v) (BoundsRead.Is e) f h =
+  first_then : (b : Result Walk Refusal) (e : Result Bounds Refusal) (f : Cursor) → first_in c (addr 0) b e ≡ Some f → (f.then ≡ addr 0) × (f.source ≡ c.source)
+  first_then (Ok v) (Ok e) f h =
       let q : record { source = c.source; seen = c.seen; key = c.key; at = c.at; walk = v; pre = e.prefix; then = addr 0 } ≡ f = cc in
       rw (← q) (refl, refl)
-  first_then (Begun.Is v) (BoundsRead.Refused n) f h = absurd (let z : ◌≡◌ {A = ℕ} 0 1 = cc in omega arith)
-  first_then (Begun.Refused n) e f h = absurd (let z : ◌≡◌ {A = ℕ} 0 1 = cc in omega arith)
+  first_then (Ok v) (Err n) f h = absurd (let z : ◌≡◌ {A = ℕ} 0 1 = cc in omega arith)
+  first_then (Err n) e f h = absurd (let z : ◌≡◌ {A = ℕ} 0 1 = cc in omega arith)
 
   next-page : walked w c ≡ End → turned w c ≡ Got i d → Falls l w c i d
   unfolding turned page_first
   next-page e h = ends (eqb c.then.0 0) refl h
     where
-      on : (c.then.0 ≡ 0 → ⊥) → (b : Started) → page_first w c c.then (addr 0) ≡ b → turned_of w b ≡ Got i d → Falls l w c i d
-      on n (Started.From f) q g =
+      on : (c.then.0 ≡ 0 → ⊥) → (b : Option Cursor) → page_first w c c.then (addr 0) ≡ b → turned_of w b ≡ Got i d → Falls l w c i d
+      on n (Some f) q g =
           let t = first_then (whole_at w c.then) (bounds_at w c.then) f q in
           let k = walked-is l w f i d g in
           record { placed = k.placed; footing = k.footing; source = k.source ∙ t.1; falls = omega (arith, at-end e n, left-last d (ap (λ (a : Addr). a.0) (k.then ∙ t.0))) }
-      on n Started.Bad q g = absurd (no g)
+      on n None q g = absurd (no g)
 
       ends : (t : Bool) → eqb c.then.0 0 ≡ t → cond t End (turned_of w (page_first w c c.then (addr 0))) ≡ Got i d → Falls l w c i d
       ends true t g = absurd (let z : ◌≡◌ {A = ℕ} 0 1 = cc in omega arith)

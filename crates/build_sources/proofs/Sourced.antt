@@ -16,18 +16,15 @@ use Rattle.frames.specs.Limits.{max_key, max_value}
 use Rattle.build_sources.specs.declared.Key.{Key}
 use Rattle.build_sources.specs.declared.Cursor.{Cursor}
 use Rattle.build_sources.specs.declared.EntryAt.{EntryAt}
-use Rattle.build_sources.specs.declared.Spot.{Spot}
-use Rattle.build_sources.specs.declared.Spot.TheVariants.{At, Out}
 use Rattle.build_sources.specs.declared.EntryRead.{EntryRead}
 use Rattle.build_sources.specs.declared.EntryRead.TheVariants.{Got, End, Bad}
-use Rattle.build_sources.specs.declared.Pick.{Pick}
-use Rattle.build_sources.specs.declared.Pick.TheVariants.{One, None}
 use Rattle.build_sources.specs.Keys.{key_bytes, src_of}
 use Rattle.build_sources.specs.Lists.{record_at, index_at, spot_at, record_item, index_item}
 use Rattle.build_sources.specs.Source.{Placed, after, list_next, next_of, step_of, past_of, entry_of, left_of, entries, well_formed, only, wanted, Chosen, ChosenBy}
 use Rattle.build_sources.specs.Pages.{pages_next}
 use Rattle.build_sources.proofs.Walk.{list_step, well_step}
 use Rattle.build_sources.proofs.Paged.{pages_fall}
+use Rattle.std.proofs.Common.{Option, Some, None}
 
 -- ---- where an item of a list lies
 
@@ -41,56 +38,56 @@ record Lying (s : List ℕ) (at : ℕ) (i : EntryAt) (past : ℕ) : Type 0 where
   goes : at < past
   ends : past ≤ length s
 
-no_spot : {i : EntryAt} {past : ℕ} → Out ≡ At i past → ⊥
+no_spot : {i : EntryAt} {past : ℕ} → ◌≡◌ {A = Option (EntryAt × ℕ)} None (Some (i, past)) → ⊥
 no_spot e = let z : ◌≡◌ {A = ℕ} 0 1 = cc in omega arith
 
-moved : (s : List ℕ) (at : ℕ) (j i : EntryAt) (q past : ℕ) → At j q ≡ At i past → Lying s at j q → Lying s at i past
+moved : (s : List ℕ) (at : ℕ) (j i : EntryAt) (q past : ℕ) → ◌≡◌ {A = Option (EntryAt × ℕ)} (Some (j, q)) (Some (i, past)) → Lying s at j q → Lying s at i past
 moved s at j i q past e h =
     let a : j ≡ i = cc in
     let b : q ≡ past = cc in
     rw (← a, ← b) h
 
-record_lies : (s : List ℕ) (c : Cursor) (i : EntryAt) (past : ℕ) → record_at s c ≡ At i past → Lying s c.at i past
+record_lies : (s : List ℕ) (c : Cursor) (i : EntryAt) (past : ℕ) → record_at s c ≡ Some (i, past) → Lying s c.at i past
 unfolding record_at
 record_lies s c i past e =
     let k = be_at 2 s c.at in
     let v = be_at 4 s (c.at + 2 + k + 12) in
-    let a₁ = ask (leb (c.at + 2) (length s)) _ Out (At i past) no_spot e in
-    let a₂ = ask (leb k max_key) _ Out (At i past) no_spot a₁.1 in
-    let a₃ = ask (leb (c.at + 2 + (k + 16)) (length s)) _ Out (At i past) no_spot a₂.1 in
-    let a₄ = ask (leb v max_value) _ Out (At i past) no_spot a₃.1 in
-    let a₅ = ask (leb (c.at + 2 + k + 16 + v) (length s)) (At (record_item s c k v) (c.at + 2 + k + 16 + v)) Out (At i past) no_spot a₄.1 in
+    let a₁ = ask (leb (c.at + 2) (length s)) _ None (Some (i, past)) no_spot e in
+    let a₂ = ask (leb k max_key) _ None (Some (i, past)) no_spot a₁.1 in
+    let a₃ = ask (leb (c.at + 2 + (k + 16)) (length s)) _ None (Some (i, past)) no_spot a₂.1 in
+    let a₄ = ask (leb v max_value) _ None (Some (i, past)) no_spot a₃.1 in
+    let a₅ = ask (leb (c.at + 2 + k + 16 + v) (length s)) (Some (record_item s c k v, c.at + 2 + k + 16 + v)) None (Some (i, past)) no_spot a₄.1 in
     let h₁ : be_at 2 s c.at ≤ max_key = leb-true _ _ a₂.0 in
     let h₂ : be_at 4 s (c.at + 2 + be_at 2 s c.at + 12) ≤ max_value = leb-true _ _ a₄.0 in
     let h₃ : c.at + 2 + be_at 2 s c.at + 16 + be_at 4 s (c.at + 2 + be_at 2 s c.at + 12) ≤ length s = leb-true _ _ a₅.0 in
     moved s c.at (record_item s c k v) i (c.at + 2 + k + 16 + v) past a₅.1
     (record { same = refl; pre = omega arith; rest = omega arith; val = omega arith; ksmall = omega arith; vsmall = omega arith; goes = omega arith; ends = omega arith })
 
-index_lies : (s : List ℕ) (c : Cursor) (i : EntryAt) (past : ℕ) → index_at s c ≡ At i past → Lying s c.at i past
+index_lies : (s : List ℕ) (c : Cursor) (i : EntryAt) (past : ℕ) → index_at s c ≡ Some (i, past) → Lying s c.at i past
 unfolding index_at
 index_lies s c i past e =
     let k = be_at 2 s c.at in
-    let a₁ = ask (leb (c.at + 2) (length s)) _ Out (At i past) no_spot e in
-    let a₂ = ask (leb k max_key) _ Out (At i past) no_spot a₁.1 in
-    let a₃ = ask (leb (c.at + 2 + (k + 8)) (length s)) (At (index_item s c k) (c.at + 2 + k + 8)) Out (At i past) no_spot a₂.1 in
+    let a₁ = ask (leb (c.at + 2) (length s)) _ None (Some (i, past)) no_spot e in
+    let a₂ = ask (leb k max_key) _ None (Some (i, past)) no_spot a₁.1 in
+    let a₃ = ask (leb (c.at + 2 + (k + 8)) (length s)) (Some (index_item s c k, c.at + 2 + k + 8)) None (Some (i, past)) no_spot a₂.1 in
     let h₁ : be_at 2 s c.at ≤ max_key = leb-true _ _ a₂.0 in
     let h₂ : c.at + 2 + (be_at 2 s c.at + 8) ≤ length s = leb-true _ _ a₃.0 in
     moved s c.at (index_item s c k) i (c.at + 2 + k + 8) past a₃.1
     (record { same = refl; pre = omega arith; rest = omega arith; val = omega arith; ksmall = omega arith; vsmall = omega arith; goes = omega arith; ends = omega arith })
 
-spot_lies : (s : List ℕ) (c : Cursor) (i : EntryAt) (past : ℕ) → spot_at s c ≡ At i past → Lying s c.at i past
+spot_lies : (s : List ℕ) (c : Cursor) (i : EntryAt) (past : ℕ) → spot_at s c ≡ Some (i, past) → Lying s c.at i past
 unfolding spot_at
 spot_lies s c i past e = go (eqb c.source 1) e
   where
-    go : (b : Bool) → cond b (index_at s c) (record_at s c) ≡ At i past → Lying s c.at i past
+    go : (b : Bool) → cond b (index_at s c) (record_at s c) ≡ Some (i, past) → Lying s c.at i past
     go true e = index_lies s c i past e
     go false e = record_lies s c i past e
 
-stepped : (b : Bool) (c : Cursor) (sp : Spot) (i : EntryAt) (d : Cursor) → cond b End (step_of c sp) ≡ Got i d → (past : ℕ) × (sp ≡ At i past) × (past_of c past i ≡ d)
+stepped : (b : Bool) (c : Cursor) (sp : Option (EntryAt × ℕ)) (i : EntryAt) (d : Cursor) → cond b End (step_of c sp) ≡ Got i d → (past : ℕ) × (sp ≡ Some (i, past)) × (past_of c past i ≡ d)
 unfolding step_of
 stepped true c sp i d e = absurd (let z : ◌≡◌ {A = ℕ} 0 1 = cc in omega arith)
-stepped false c (At j past) i d e = (past, cc, cc)
-stepped false c Out i d e = absurd (let z : ◌≡◌ {A = ℕ} 0 1 = cc in omega arith)
+stepped false c (Some (j, past)) i d e = (past, cc, cc)
+stepped false c None i d e = absurd (let z : ◌≡◌ {A = ℕ} 0 1 = cc in omega arith)
 
 -- an entry of a list: it lies in the lent slice, whatever the footing, and the cursor past it reads the same list
 pub list_item : (l w : List ℕ) (c : Cursor) (i : EntryAt) (d : Cursor) → (c.source ≡ 2 → ⊥) → next_of l w c ≡ Got i d → (i.footing ≡ false) × (d.source ≡ c.source)
@@ -224,14 +221,14 @@ unfolding only
 none l w b c₀ c h e = sym h ∙ rw e
 
 -- from a call's words: its answer r, of a footing w' that is still w
-chosen_is : (l w : List ℕ) (b : Bool) (c : Cursor) (r : Pick) (i : EntryAt) (d : Cursor) → ChosenBy l w b c r → r ≡ One i d → Chosen l w b c i d
+chosen_is : (l w : List ℕ) (b : Bool) (c : Cursor) (r : Option (EntryAt × Cursor)) (i : EntryAt) (d : Cursor) → ChosenBy l w b c r → r ≡ Some (i, d) → Chosen l w b c i d
 chosen_is l w b c r i d p q = rw q at p
 
-none_is : (l w : List ℕ) (b : Bool) (c : Cursor) (r : Pick) → ChosenBy l w b c r → r ≡ None → only b (entries l w c) ≡ []
+none_is : (l w : List ℕ) (b : Bool) (c : Cursor) (r : Option (EntryAt × Cursor)) → ChosenBy l w b c r → r ≡ None → only b (entries l w c) ≡ []
 none_is l w b c r p q = rw q at p
 
-module _ (l w w' : List ℕ) (b : Bool) (c : Cursor) (r : Pick) (e : w' ≡ w) (p : ChosenBy l w' b c r) where
-  pub one : (i : EntryAt) (d : Cursor) → r ≡ One i d → Chosen l w b c i d
+module _ (l w w' : List ℕ) (b : Bool) (c : Cursor) (r : Option (EntryAt × Cursor)) (e : w' ≡ w) (p : ChosenBy l w' b c r) where
+  pub one : (i : EntryAt) (d : Cursor) → r ≡ Some (i, d) → Chosen l w b c i d
   one i d q = rw e at (chosen_is l w' b c r i d p q)
 
   pub no_one : r ≡ None → only b (entries l w c) ≡ []

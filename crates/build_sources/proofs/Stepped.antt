@@ -10,11 +10,11 @@ use Rattle.walks.specs.declared.Walk.{Walk}
 use Rattle.build_sources.specs.declared.Cursor.{Cursor}
 use Rattle.build_sources.specs.declared.Key.{Key}
 use Rattle.build_sources.specs.declared.EntryAt.{EntryAt}
-use Rattle.build_sources.specs.declared.Spot.{Spot}
 use Rattle.build_sources.specs.declared.EntryRead.{EntryRead}
 use Rattle.build_sources.specs.Keys.{key_bytes}
 use Rattle.build_sources.specs.Lists.{cursor_at, same_key, record_at, spot_at}
 use Rattle.build_sources.specs.Source.{list_next, step_of, next_of}
+use Rattle.std.proofs.Common.{Some}
 
 pub same_anywhere : (s : List ℕ) (seen : Bool) (pat plen kat klen : ℕ) (k : Key) (at : ℕ) → same_key s (cursor_at 0 seen pat plen kat klen) k ≡ same_key s (cursor_at at seen pat plen kat klen) k
 unfolding same_key
@@ -29,7 +29,7 @@ record_bare s c = refl
 
 -- the cursor past an entry carries the walk on
 pub walk_kept : (c : Cursor) (i : EntryAt) (past : ℕ) (w : Walk) → w ≡ c.walk
-    → EntryRead.Got i (record { source = c.source; seen = true; key = i.key; at = past; walk = w; pre = c.pre; then = c.then }) ≡ step_of c (Spot.At i past)
+    → EntryRead.Got i (record { source = c.source; seen = true; key = i.key; at = past; walk = w; pre = c.pre; then = c.then }) ≡ step_of c (Some (i, past))
 unfolding step_of
 walk_kept c i past w e = rw e refl
 

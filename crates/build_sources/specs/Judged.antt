@@ -1,18 +1,17 @@
 -- What a build judges of a whole list of entries: 6 OUT OF ORDER, 7 WRONG PREFIX, 10 OUTSIDE.
 -- Assumes nothing.
-use Rattle.std.specs.Prelude.{ℕ, List, [], ◌∷◌, map, Bool, true, false, cond, length}
-use Rattle.order.specs.declared.Order.{Order}
+use Rattle.std.specs.Prelude.{ℕ, List, [], ◌∷◌, map, Bool, true, false, cond, length, Option, Some, None}
 use Rattle.order.specs.declared.Ver.{Ver}
 use Rattle.order.specs.Order.{cmp_bytes, starts_with}
 use Rattle.order.specs.Bounds.{bounded}
 use Rattle.order.specs.Version.{newer_than}
-use Rattle.build_sources.specs.declared.Risen.{Risen}
 use Rattle.build_sources.specs.Source.{Entry}
+use Rattle.std.specs.declared.cmp.Ordering.{Ordering}
 
-abbrev pub above_by : Order → Ver → Ver → Bool
-above_by Order.Less v w = true
-above_by Order.Equal v w = newer_than v w
-above_by Order.Greater v w = false
+abbrev pub above_by : Ordering → Ver → Ver → Bool
+above_by Ordering.Less v w = true
+above_by Ordering.Equal v w = newer_than v w
+above_by Ordering.Greater v w = false
 
 -- "Keys compare by bytes, a proper prefix first; at equal keys the newer version comes first": b is above a
 unfoldable pub above : Entry → Entry → Bool
@@ -39,6 +38,6 @@ abbrev pub enclosed : List ℕ → List ℕ → List Entry → Bool
 enclosed lo hi es = bounded lo hi (map (λ e. e.key) es)
 
 -- where they rise, how many there are and whether the boundaries enclose them
-unfoldable pub risen_of : List ℕ → List ℕ → List Entry → Risen
+unfoldable pub risen_of : List ℕ → List ℕ → List Entry → Option (ℕ × Bool)
 unfolding rising
-risen_of lo hi es = cond (rising es) (Risen.Up (length es) (enclosed lo hi es)) Risen.Not
+risen_of lo hi es = cond (rising es) (Some (length es, enclosed lo hi es)) None

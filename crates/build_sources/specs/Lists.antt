@@ -1,6 +1,6 @@
 -- The two lists in house form, as document 01 lays them out. Every malformed list is BAD LIST.
 -- Assumes nothing.
-use Rattle.std.specs.Prelude.{ℕ, ◌+◌, ◌-◌, List, Bool, false, cond, length, get_or, leb, eqb}
+use Rattle.std.specs.Prelude.{ℕ, ◌+◌, ◌-◌, List, Bool, false, cond, length, get_or, leb, eqb, Option, Some, None}
 use Rattle.numbers.specs.Number.{be_at}
 use Rattle.order.specs.Order.{cmp_bytes, is_equal}
 use Rattle.order.specs.Version.{ver_of}
@@ -12,8 +12,6 @@ use Rattle.walks.specs.Walk.{walk_of, no_older}
 use Rattle.build_sources.specs.declared.Key.{Key}
 use Rattle.build_sources.specs.declared.Cursor.{Cursor}
 use Rattle.build_sources.specs.declared.EntryAt.{EntryAt}
-use Rattle.build_sources.specs.declared.Started.{Started}
-use Rattle.build_sources.specs.declared.Spot.{Spot}
 use Rattle.build_sources.specs.Keys.{key_bytes}
 
 -- a list's cursor carries no walk
@@ -34,9 +32,9 @@ cursor_at at seen pat plen kat klen =
     record { source = 0; seen = seen; key = record { pat = pat; plen = plen; kat = kat; klen = klen }; at = at; walk = no_walk; pre = place 0 0; then = null_addr }
 
 -- "version byte 1; u32 big-endian byte count of what follows"
-unfoldable pub begun_of : List ℕ → ℕ → Started
+unfoldable pub begun_of : List ℕ → ℕ → Option Cursor
 begun_of l source =
-    cond (leb 5 (length l)) (cond (eqb (get_or l 0 0) 1) (cond (eqb (be_at 4 l 1) (length l - 5)) (Started.From (first_of source)) Started.Bad) Started.Bad) Started.Bad
+    cond (leb 5 (length l)) (cond (eqb (get_or l 0 0) 1) (cond (eqb (be_at 4 l 1) (length l - 5)) (Some (first_of source)) None) None) None
 
 -- whether the key is that of the entry before
 unfoldable pub same_key : List ℕ → Cursor → Key → Bool
@@ -58,7 +56,7 @@ record_item s c k v =
     }
 
 -- "header or entry cut short, key over 4,096, value over 65,536" is no entry
-unfoldable pub record_at : List ℕ → Cursor → Spot
+unfoldable pub record_at : List ℕ → Cursor → Option (EntryAt × ℕ)
 unfolding same_key
 record_at s c =
     let k = be_at 2 s c.at in
@@ -67,11 +65,11 @@ record_at s c =
     (cond (leb k max_key)
     (cond (leb (c.at + 2 + (k + 16)) (length s))
     (cond (leb v max_value)
-    (cond (leb (c.at + 2 + k + 16 + v) (length s)) (Spot.At (record_item s c k v) (c.at + 2 + k + 16 + v)) Spot.Out)
-    Spot.Out)
-    Spot.Out)
-    Spot.Out)
-    Spot.Out
+    (cond (leb (c.at + 2 + k + 16 + v) (length s)) (Some (record_item s c k v, c.at + 2 + k + 16 + v)) None)
+    None)
+    None)
+    None)
+    None
 
 -- "Index list: key length u16, key, page id u64"
 abbrev pub index_item : List ℕ → Cursor → ℕ → EntryAt
@@ -87,14 +85,14 @@ index_item s c k =
       page = page_id (be_at 8 s (c.at + 2 + k));
     }
 
-unfoldable pub index_at : List ℕ → Cursor → Spot
+unfoldable pub index_at : List ℕ → Cursor → Option (EntryAt × ℕ)
 unfolding same_key
 index_at s c =
     let k = be_at 2 s c.at in
     cond (leb (c.at + 2) (length s))
-    (cond (leb k max_key) (cond (leb (c.at + 2 + (k + 8)) (length s)) (Spot.At (index_item s c k) (c.at + 2 + k + 8)) Spot.Out) Spot.Out)
-    Spot.Out
+    (cond (leb k max_key) (cond (leb (c.at + 2 + (k + 8)) (length s)) (Some (index_item s c k, c.at + 2 + k + 8)) None) None)
+    None
 
-unfoldable pub spot_at : List ℕ → Cursor → Spot
+unfoldable pub spot_at : List ℕ → Cursor → Option (EntryAt × ℕ)
 unfolding record_at index_at
 spot_at s c = cond (eqb c.source 1) (index_at s c) (record_at s c)

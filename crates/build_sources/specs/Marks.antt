@@ -1,9 +1,8 @@
 -- What is known of a source's entries before anything is judged: their marks, their lengths, their widths, and the remotes that they keep.
 -- Assumes nothing.
-use Rattle.std.specs.Prelude.{ℕ, ◌^◌, ◌≤◌, ◌<◌, ◌≡◌, List, [], ◌∷◌, false, length}
+use Rattle.std.specs.Prelude.{ℕ, ◌^◌, ◌≤◌, ◌<◌, ◌≡◌, List, [], ◌∷◌, false, length, Some}
 use Rattle.spans.specs.Span.{part}
 use Rattle.order.specs.Order.{cmp_bytes, is_equal}
-use Rattle.frames.specs.declared.RemoteRead.{RemoteRead}
 use Rattle.frames.specs.Layout.{addr, remote_at}
 use Rattle.frames.specs.Limits.{max_key, max_value}
 use Rattle.build_sources.specs.Source.{Entry}
@@ -26,7 +25,7 @@ Marked (e ∷ es) = (e.old ≡ false) × MarkedFrom e es
 -- a remote frame at a holds these bytes
 pub record Held (s : List ℕ) (a : ℕ) (v : List ℕ) : Type 0 where
   pub place : ℕ
-  pub read : remote_at s (addr a) (length v) ≡ RemoteRead.At place
+  pub read : remote_at s (addr a) (length v) ≡ Some place
   pub bytes : part s place (length v) ≡ v
 
 -- "key over 4,096, value over 65,536" is refused

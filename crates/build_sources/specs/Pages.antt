@@ -1,44 +1,42 @@
 -- Two pages below the free address, w, read one behind the other: "every record of the left, then of the right".
 -- Assumes nothing.
-use Rattle.std.specs.Prelude.{ℕ, ◌+◌, ◌*◌, List, true, cond, length, leb, eqb}
+use Rattle.std.specs.Prelude.{ℕ, ◌+◌, ◌*◌, List, true, cond, length, leb, eqb, Option, Some, None, Result, Ok, Err}
 use Rattle.order.specs.declared.Ver.{Ver}
 use Rattle.order.specs.Version.{ver_of}
 use Rattle.frames.specs.declared.Addr.{Addr}
 use Rattle.frames.specs.declared.PageId.{PageId}
-use Rattle.frames.specs.declared.Opened.{Opened}
 use Rattle.frames.specs.declared.Refusal.{Refusal}
 use Rattle.frames.specs.Layout.{open_at, null_addr, null_pid}
 use Rattle.frames.specs.Limits.{max_entries, max_key, max_value}
 use Rattle.pages.specs.declared.Place.{Place}
-use Rattle.pages.specs.declared.BoundsRead.{BoundsRead}
 use Rattle.pages.specs.Boundaries.{place, bounds_at}
 use Rattle.walks.specs.declared.Walk.{Walk}
-use Rattle.walks.specs.declared.Begun.{Begun}
-use Rattle.walks.specs.declared.Step.{Step}
 use Rattle.walks.specs.Walk.{forward_at, step_at}
 use Rattle.build_sources.specs.declared.Key.{Key}
 use Rattle.build_sources.specs.declared.Cursor.{Cursor}
 use Rattle.build_sources.specs.declared.EntryAt.{EntryAt}
-use Rattle.build_sources.specs.declared.Started.{Started}
 use Rattle.build_sources.specs.declared.EntryRead.{EntryRead}
 use Rattle.build_sources.specs.Lists.{same_key}
+use Rattle.frames.specs.declared.Body.{Body}
+use Rattle.pages.specs.declared.Bounds.{Bounds}
+use Rattle.walks.specs.declared.Step.{Step}
 
 -- a walk over the whole page at an address
-abbrev pub whole_of : List ℕ → Addr → Opened → Begun
-whole_of w a (Opened.Is b) = forward_at w a 0 b.elems
-whole_of w a Opened.Bad = Begun.Refused Refusal.BadFrame
+abbrev pub whole_of : List ℕ → Addr → Option Body → Result Walk Refusal
+whole_of w a (Some b) = forward_at w a 0 b.elems
+whole_of w a None = Err Refusal.BadFrame
 
-unfoldable pub whole_at : List ℕ → Addr → Begun
+unfoldable pub whole_at : List ℕ → Addr → Result Walk Refusal
 whole_at w a = whole_of w a (open_at w a)
 
 -- in front of that page's first record, with another page behind it, or none (0); the key of the entry before stays
-abbrev pub first_in : Cursor → Addr → Begun → BoundsRead → Started
-first_in c then (Begun.Is v) (BoundsRead.Is e) =
-    Started.From (record { source = c.source; seen = c.seen; key = c.key; at = c.at; walk = v; pre = e.prefix; then = then })
-first_in c then (Begun.Is v) (BoundsRead.Refused n) = Started.Bad
-first_in c then (Begun.Refused n) e = Started.Bad
+abbrev pub first_in : Cursor → Addr → Result Walk Refusal → Result Bounds Refusal → Option Cursor
+first_in c then (Ok v) (Ok e) =
+    Some (record { source = c.source; seen = c.seen; key = c.key; at = c.at; walk = v; pre = e.prefix; then = then })
+first_in c then (Ok v) (Err n) = None
+first_in c then (Err n) e = None
 
-unfoldable pub page_first : List ℕ → Cursor → Addr → Addr → Started
+unfoldable pub page_first : List ℕ → Cursor → Addr → Addr → Option Cursor
 page_first w c a then = first_in c then (whole_at w a) (bounds_at w a)
 
 -- a whole key is the page's prefix and the rest
@@ -75,11 +73,11 @@ item_at w c rest ver value kept page v =
     EntryRead.Bad)
     EntryRead.Bad
 
-abbrev pub walked_of : List ℕ → Cursor → Step → EntryRead
-walked_of w c (Step.Found x v) = item_at w c x.key x.ver x.value x.remote null_pid v
-walked_of w c (Step.Leads x v) = item_at w c x.key (ver_of 0 0) (place 0 0) null_addr x.page v
-walked_of w c Step.End = EntryRead.End
-walked_of w c (Step.Refused n) = EntryRead.Bad
+abbrev pub walked_of : List ℕ → Cursor → Result Step Refusal → EntryRead
+walked_of w c (Ok (Step.Found x v)) = item_at w c x.key x.ver x.value x.remote null_pid v
+walked_of w c (Ok (Step.Leads x v)) = item_at w c x.key (ver_of 0 0) (place 0 0) null_addr x.page v
+walked_of w c (Ok Step.End) = EntryRead.End
+walked_of w c (Err n) = EntryRead.Bad
 
 -- the next record of the page that is walked; a page has at most 65,535 heads, a head's count is a u32
 unfoldable pub walked : List ℕ → Cursor → EntryRead
@@ -87,9 +85,9 @@ walked w c =
     cond (leb c.walk.heads max_entries) (cond (leb c.walk.older.left 4294967295) (walked_of w c (step_at w c.walk)) EntryRead.Bad) EntryRead.Bad
 
 -- where it ends, the first record of the page behind
-abbrev pub turned_of : List ℕ → Started → EntryRead
-turned_of w (Started.From d) = walked w d
-turned_of w Started.Bad = EntryRead.Bad
+abbrev pub turned_of : List ℕ → Option Cursor → EntryRead
+turned_of w (Some d) = walked w d
+turned_of w None = EntryRead.Bad
 
 unfoldable pub turned : List ℕ → Cursor → EntryRead
 turned w c = cond (eqb c.then.0 0) EntryRead.End (turned_of w (page_first w c c.then null_addr))

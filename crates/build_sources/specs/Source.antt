@@ -1,15 +1,13 @@
 -- A source of entries: what its step finds, the entries from a cursor on, and whether they end well. A source lies in a lent slice, l,
 -- or in the arena below the next free address, w.
 -- Assumes nothing.
-use Rattle.std.specs.Prelude.{ℕ, zero, suc, ◌+◌, ◌-◌, ◌≤◌, ◌≡◌, List, [], ◌∷◌, Bool, true, false, not, cond, length, drop, leb, eqb}
+use Rattle.std.specs.Prelude.{ℕ, zero, suc, ◌+◌, ◌-◌, ◌≤◌, ◌≡◌, List, [], ◌∷◌, Bool, true, false, not, cond, length, drop, leb, eqb, Option, Some, None}
 use Rattle.spans.specs.Span.{part}
 use Rattle.order.specs.declared.Ver.{Ver}
 use Rattle.frames.specs.Limits.{max_key, max_value}
 use Rattle.build_sources.specs.declared.Cursor.{Cursor}
 use Rattle.build_sources.specs.declared.EntryAt.{EntryAt}
-use Rattle.build_sources.specs.declared.Spot.{Spot}
 use Rattle.build_sources.specs.declared.EntryRead.{EntryRead}
-use Rattle.build_sources.specs.declared.Pick.{Pick}
 use Rattle.build_sources.specs.Keys.{key_bytes, src_of}
 use Rattle.build_sources.specs.Lists.{spot_at}
 use Rattle.build_sources.specs.Pages.{pages_next, pages_left}
@@ -45,9 +43,9 @@ well_f nx (suc f) c = after (nx c) (λ i d. well_f nx f d) true false
 abbrev pub past_of : Cursor → ℕ → EntryAt → Cursor
 past_of c past i = record { source = c.source; seen = true; key = i.key; at = past; walk = c.walk; pre = c.pre; then = c.then }
 
-unfoldable pub step_of : Cursor → Spot → EntryRead
-step_of c (Spot.At i past) = EntryRead.Got i (past_of c past i)
-step_of c Spot.Out = EntryRead.Bad
+unfoldable pub step_of : Cursor → Option (EntryAt × ℕ) → EntryRead
+step_of c (Some (i, past)) = EntryRead.Got i (past_of c past i)
+step_of c None = EntryRead.Bad
 
 -- a list ends where its slice ends
 unfoldable pub list_next : List ℕ → Cursor → EntryRead
@@ -116,9 +114,9 @@ pub record Chosen (l w : List ℕ) (b : Bool) (c : Cursor) (i : EntryAt) (d : Cu
   pub klen : length (entry_of l w i).key ≡ i.key.plen + i.key.klen
   pub vlen : length (entry_of l w i).val ≡ i.vlen
 
-abbrev pub ChosenBy : List ℕ → List ℕ → Bool → Cursor → Pick → Type 0
-ChosenBy l w b c (Pick.One i d) = Chosen l w b c i d
-ChosenBy l w b c Pick.None = only b (entries l w c) ≡ []
+abbrev pub ChosenBy : List ℕ → List ℕ → Bool → Cursor → Option (EntryAt × Cursor) → Type 0
+ChosenBy l w b c (Some (i, d)) = Chosen l w b c i d
+ChosenBy l w b c None = only b (entries l w c) ≡ []
 
 pub record Skipped (l w : List ℕ) (b : Bool) (c : Cursor) (n : ℕ) (d : Cursor) : Type 0 where
   pub list : only b (entries l w d) ≡ drop n (only b (entries l w c))

@@ -12,10 +12,11 @@ ghost use Rattle.build_sources.specs.Pages.{whole_at, page_first, item_at, walke
 ghost use Rattle.build_sources.specs.Source.{list_next, next_of, entry_of, entries, well_formed, wanted, ChosenBy};
 ghost use Rattle.build_sources.specs.Judged.{above, risen_of, prefixed};
 
-use frames::{Addr, BaseHeader, NULL_ADDR, NULL_PID, Opened, PageId, Refusal};
-use order::{Order, Ver};
-use pages::{BoundsRead, Place};
-use walks::{OldPlace, Sheet, Walk};
+use frames::{Addr, BaseHeader, NULL_ADDR, NULL_PID, PageId, Refusal};
+use order::Ver;
+use pages::Place;
+use std::cmp::Ordering;
+use walks::{OldPlace, Sheet, Step, Walk};
 
 // A key: its first bytes (a page's prefix; none in a list) and its rest, as places of one slice.
 #[derive(Clone, Copy)]
@@ -60,35 +61,10 @@ pub struct EntryAt {
 }
 
 #[derive(Clone, Copy)]
-pub enum Started {
-    From(Cursor),
-    Bad,
-}
-
-#[derive(Clone, Copy)]
-pub enum Spot {
-    At(EntryAt, usize),
-    Out,
-}
-
-#[derive(Clone, Copy)]
 pub enum EntryRead {
     Got(EntryAt, Cursor),
     End,
     Bad,
-}
-
-#[derive(Clone, Copy)]
-pub enum Pick {
-    One(EntryAt, Cursor),
-    None,
-}
-
-// Whether the entries rise; if so, how many there are, and whether lo is below hi and each key between them.
-#[derive(Clone, Copy)]
-pub enum Risen {
-    Up(usize, bool),
-    Not,
 }
 
 // ---- keys
@@ -107,7 +83,7 @@ fn joined_byte(p: &[u8], r: &[u8], k: usize) -> u8
 }
 
 // Two strings in two parts each, byte by byte.
-fn compare_joined(p: &[u8], r: &[u8], q: &[u8], s: &[u8]) -> Order
+fn compare_joined(p: &[u8], r: &[u8], q: &[u8], s: &[u8]) -> Ordering
     ensures { result ≡ cmp_bytes (p.now ++ r.now) (q.now ++ s.now) }
 {
     let n = p.len() + r.len();
@@ -116,27 +92,27 @@ fn compare_joined(p: &[u8], r: &[u8], q: &[u8], s: &[u8]) -> Order
     loop {
         if n <= k {
             if m <= k {
-                return Order::Equal;
+                return Ordering::Equal;
             }
-            return Order::Less;
+            return Ordering::Less;
         }
         if m <= k {
-            return Order::Greater;
+            return Ordering::Greater;
         }
         let x = joined_byte(p, r, k);
         let y = joined_byte(q, s, k);
         if x < y {
-            return Order::Less;
+            return Ordering::Less;
         }
         if y < x {
-            return Order::Greater;
+            return Ordering::Greater;
         }
         k += 1;
     }
 }
 
 // Two keys, by whole words where neither has a prefix of its own.
-fn compare_keys(s: &[u8], a: Key, t: &[u8], b: Key) -> Order
+fn compare_keys(s: &[u8], a: Key, t: &[u8], b: Key) -> Ordering
     ensures { result ≡ cmp_bytes (key_bytes s.now a) (key_bytes t.now b) }
 {
     let p = spans::part_of(s, a.pat, a.plen);
@@ -201,12 +177,12 @@ fn no_walk() -> Walk
     let older = walks::no_older();
     let page = older.page;
     Walk {
-        page: page,
+        page,
         way: 0,
         pos: 0,
         heads: 0,
         key: Place { at: 0, len: 0 },
-        older: older,
+        older,
     }
 }
 
@@ -215,7 +191,7 @@ fn first_of(source: u8) -> Cursor
     ensures { result ≡ first_of source }
 {
     Cursor {
-        source: source,
+        source,
         seen: false,
         key: Key {
             pat: 0,
@@ -233,31 +209,31 @@ fn first_of(source: u8) -> Cursor
 // ---- lists
 
 // The five bytes before a list's entries: version 1, and the count of the bytes that follow.
-fn begin(list: &[u8], source: u8) -> Started
+fn begin(list: &[u8], source: u8) -> Option<Cursor>
     ensures { result ≡ begun_of list.now source }
 {
     let n = list.len();
     if n < 5 {
-        return Started::Bad;
+        return None;
     }
     if list[0] != 1 {
-        return Started::Bad;
+        return None;
     }
     if numbers::read_u32_be(list, 1) as usize != n - 5 {
-        return Started::Bad;
+        return None;
     }
-    Started::From(first_of(source))
+    Some(first_of(source))
 }
 
 // Opens a record list.
-pub fn open_records(list: &[u8]) -> Started
+pub fn open_records(list: &[u8]) -> Option<Cursor>
     ensures { result ≡ begun_of list.now 0 }
 {
     begin(list, Cursor::RECORDS)
 }
 
 // Opens an index list.
-pub fn open_index(list: &[u8]) -> Started
+pub fn open_index(list: &[u8]) -> Option<Cursor>
     ensures { result ≡ begun_of list.now 1 }
 {
     begin(list, Cursor::INDEX)
@@ -289,16 +265,16 @@ fn is_same(
 {
     if seen {
         let before = Key {
-            pat: pat,
-            plen: plen,
+            pat,
+            plen,
             kat: bat,
             klen: blen,
         };
         let k = Key {
             pat: 0,
             plen: 0,
-            kat: kat,
-            klen: klen,
+            kat,
+            klen,
         };
         return order::is_equal(compare_keys(s, before, s, k));
     }
@@ -314,103 +290,103 @@ fn record_at(
     plen: usize,
     bat: usize,
     blen: usize,
-) -> Spot
+) -> Option<(EntryAt, usize)>
     ensures { result ≡ record_at s.now (cursor_at at seen pat plen bat blen) }
 {
     let n = s.len();
     if n < at {
-        return Spot::Out;
+        return None;
     }
     if n - at < 2 {
-        return Spot::Out;
+        return None;
     }
     let klen = numbers::read_u16_be(s, at) as usize;
     if BaseHeader::MAX_KEY < klen {
-        return Spot::Out;
+        return None;
     }
     if n - (at + 2) < klen + 16 {
-        return Spot::Out;
+        return None;
     }
     let tat = at + 2 + klen;
     let vlen = numbers::read_u32_be(s, tat + 12) as usize;
     if BaseHeader::MAX_VALUE < vlen {
-        return Spot::Out;
+        return None;
     }
     let vat = tat + 16;
     if n - vat < vlen {
-        return Spot::Out;
+        return None;
     }
     let k = Key {
         pat: 0,
         plen: 0,
         kat: at + 2,
-        klen: klen,
+        klen,
     };
     let old = is_same(s, seen, pat, plen, bat, blen, at + 2, klen);
     let v = Ver::new(
         numbers::read_u64_be(s, tat),
         numbers::read_u32_be(s, tat + 8),
     );
-    Spot::At(
+    Some((
         EntryAt {
             footing: false,
-            old: old,
+            old,
             key: k,
             ver: v,
-            vat: vat,
-            vlen: vlen,
+            vat,
+            vlen,
             kept: NULL_ADDR,
             page: NULL_PID,
         },
         vat + vlen,
-    )
+    ))
 }
 
 // The same of an index list.
-fn index_at(s: &[u8], c: Cursor) -> Spot
+fn index_at(s: &[u8], c: Cursor) -> Option<(EntryAt, usize)>
     ensures { result ≡ index_at s.now c }
 {
     let n = s.len();
     let at = c.at;
     if n < at {
-        return Spot::Out;
+        return None;
     }
     if n - at < 2 {
-        return Spot::Out;
+        return None;
     }
     let klen = numbers::read_u16_be(s, at) as usize;
     if BaseHeader::MAX_KEY < klen {
-        return Spot::Out;
+        return None;
     }
     if n - (at + 2) < klen + 8 {
-        return Spot::Out;
+        return None;
     }
     let tat = at + 2 + klen;
     let k = Key {
         pat: 0,
         plen: 0,
         kat: at + 2,
-        klen: klen,
+        klen,
     };
     let old = same_key(s, c, k);
     let v = Ver::new(0, 0);
     let page = PageId(numbers::read_u64_be(s, tat));
-    Spot::At(
+    Some((
         EntryAt {
             footing: false,
-            old: old,
+            old,
             key: k,
             ver: v,
             vat: 0,
             vlen: 0,
             kept: NULL_ADDR,
-            page: page,
+            page,
         },
         tat + 8,
-    )
+    ))
 }
 
-fn spot_at(s: &[u8], c: Cursor) -> Spot
+fn spot_at(s: &[u8], c: Cursor) -> Option<(EntryAt, usize)>
     ensures { result ≡ spot_at s.now c }
 {
     if c.source == Cursor::INDEX {
@@ -429,7 +405,7 @@ fn list_next(list: &[u8], c: Cursor) -> EntryRead
     if list.len() <= at {
         return EntryRead::End;
     }
-    let Spot::At(i, past) = spot_at(list, c) else {
+    let Some((i, past)) = spot_at(list, c) else {
         return EntryRead::Bad;
     };
     let k = i.key;
@@ -443,9 +419,9 @@ fn list_next(list: &[u8], c: Cursor) -> EntryRead
             seen: true,
             key: k,
             at: past,
-            walk: walk,
-            pre: pre,
-            then: then,
+            walk,
+            pre,
+            then,
         },
     )
 }
@@ -453,40 +429,40 @@ fn list_next(list: &[u8], c: Cursor) -> EntryRead
 // ---- pages below the free address
 
 // A walk over a whole page.
-fn whole(footing: &[u8], a: Addr) -> walks::Begun
+fn whole(footing: &[u8], a: Addr) -> Result<Walk, Refusal>
     ensures { result ≡ whole_at footing.now a }
 {
-    let Opened::Is(b) = frames::open_at(footing, a) else {
-        return walks::Begun::Refused(Refusal::BadFrame);
+    let Some(b) = frames::open_at(footing, a) else {
+        return Err(Refusal::BadFrame);
     };
     walks::forward(footing, a, 0, b.elems)
 }
 
 // The cursor in front of a page's first record, with another page behind it or none; the key before stays.
-fn page_first(footing: &[u8], c: Cursor, a: Addr, then: Addr) -> Started
+fn page_first(footing: &[u8], c: Cursor, a: Addr, then: Addr) -> Option<Cursor>
     ensures { result ≡ page_first footing.now c a then }
 {
-    let walks::Begun::Is(v) = whole(footing, a) else {
-        return Started::Bad;
+    let Ok(v) = whole(footing, a) else {
+        return None;
     };
-    let BoundsRead::Is(e) = pages::bounds_at(footing, a) else {
-        return Started::Bad;
+    let Ok(e) = pages::bounds_at(footing, a) else {
+        return None;
     };
     let key = c.key;
     let pre = e.prefix;
-    Started::From(Cursor {
+    Some(Cursor {
         source: c.source,
         seen: c.seen,
-        key: key,
+        key,
         at: c.at,
         walk: v,
-        pre: pre,
-        then: then,
+        pre,
+        then,
     })
 }
 
 // Opens two pages, the left one first.
-pub fn open_pages(footing: &[u8], left: Addr, right: Addr) -> Started
+pub fn open_pages(footing: &[u8], left: Addr, right: Addr) -> Option<Cursor>
     ensures { result ≡ page_first footing.now (first_of 2) left right }
 {
     page_first(footing, first_of(Cursor::PAGES), left, right)
@@ -533,13 +509,13 @@ fn item_at(
     EntryRead::Got(
         EntryAt {
             footing: true,
-            old: old,
+            old,
             key: k,
-            ver: ver,
+            ver,
             vat: value.at,
             vlen: value.len,
-            kept: kept,
-            page: page,
+            kept,
+            page,
         },
         Cursor {
             source: c.source,
@@ -547,8 +523,8 @@ fn item_at(
             key: k,
             at: c.at,
             walk: v,
-            pre: pre,
-            then: then,
+            pre,
+            then,
         },
     )
 }
@@ -566,14 +542,14 @@ fn walk_next(footing: &[u8], c: Cursor) -> EntryRead
     }
     let st = w.step(footing);
     match st {
-        walks::Step::Found(x, v) => {
+        Ok(walks::Step::Found(x, v)) => {
             let k = x.key;
             let r = x.ver;
             let p = x.value;
             let f = x.remote;
             item_at(footing, c, k, r, p, f, NULL_PID, v)
         }
-        walks::Step::Leads(x, v) => {
+        Ok(walks::Step::Leads(x, v)) => {
             let k = x.key;
             let g = x.page;
             item_at(
@@ -587,8 +563,8 @@ fn walk_next(footing: &[u8], c: Cursor) -> EntryRead
                 v,
             )
         }
-        walks::Step::End => EntryRead::End,
-        walks::Step::Refused(_) => EntryRead::Bad,
+        Ok(walks::Step::End) => EntryRead::End,
+        Err(_) => EntryRead::Bad,
     }
 }
 
@@ -600,7 +576,7 @@ fn turn(footing: &[u8], c: Cursor) -> EntryRead
     if then.0 == 0 {
         return EntryRead::End;
     }
-    let Started::From(d) = page_first(footing, c, then, NULL_ADDR) else {
+    let Some(d) = page_first(footing, c, then, NULL_ADDR) else {
         return EntryRead::Bad;
     };
     walk_next(footing, d)
@@ -676,7 +652,7 @@ pub fn next(list: &[u8], footing: &[u8], c: Cursor) -> EntryRead
     if list.len() <= c.at {
         return EntryRead::End;
     }
-    let Spot::At(i, past) = record_at(
+    let Some((i, past)) = record_at(
         list, c.at, c.seen, c.key.pat, c.key.plen, c.key.kat, c.key.klen,
     ) else {
         return EntryRead::Bad;
@@ -692,9 +668,9 @@ pub fn next(list: &[u8], footing: &[u8], c: Cursor) -> EntryRead
             seen: true,
             key: k,
             at: past,
-            walk: walk,
-            pre: pre,
-            then: then,
+            walk,
+            pre,
+            then,
         },
     )
 }
@@ -706,7 +682,7 @@ fn is_wanted(want: bool, old: bool) -> bool
 }
 
 // The next old version, or the next head, with the cursor past it.
-pub fn next_of(list: &[u8], footing: &[u8], want: bool, from: Cursor) -> Pick
+pub fn next_of(list: &[u8], footing: &[u8], want: bool, from: Cursor) -> Option<(EntryAt, Cursor)>
     ensures { ChosenBy list.now footing.now want from result }
 {
     let mut c = from;
@@ -715,15 +691,15 @@ pub fn next_of(list: &[u8], footing: &[u8], want: bool, from: Cursor) -> Pick
         match st {
             EntryRead::Got(i, d) => {
                 if is_wanted(want, i.old) {
-                    return Pick::One(i, d);
+                    return Some((i, d));
                 }
                 c = d;
             }
             EntryRead::End => {
-                return Pick::None;
+                return None;
             }
             EntryRead::Bad => {
-                return Pick::None;
+                return None;
             }
         }
     }
@@ -753,7 +729,7 @@ pub fn well(list: &[u8], footing: &[u8], from: Cursor) -> bool
 }
 
 // The keys of two entries.
-fn compare_items(list: &[u8], footing: &[u8], a: EntryAt, b: EntryAt) -> Order
+fn compare_items(list: &[u8], footing: &[u8], a: EntryAt, b: EntryAt) -> Ordering
     ensures { result ≡ cmp_bytes (entry_of list.now footing.now a).key (entry_of list.now footing.now b).key }
 {
     let k = a.key;
@@ -778,14 +754,14 @@ fn is_above(list: &[u8], footing: &[u8], a: EntryAt, b: EntryAt) -> bool
     let w = b.ver;
     let o = compare_items(list, footing, a, b);
     match o {
-        Order::Less => true,
-        Order::Equal => v.newer(w),
-        Order::Greater => false,
+        Ordering::Less => true,
+        Ordering::Equal => v.newer(w),
+        Ordering::Greater => false,
     }
 }
 
 // A key against x.
-fn compare_in(s: &[u8], k: Key, x: &[u8]) -> Order
+fn compare_in(s: &[u8], k: Key, x: &[u8]) -> Ordering
     ensures { result ≡ cmp_bytes (key_bytes s.now k) x.now }
 {
     order::compare_joined(
@@ -796,7 +772,7 @@ fn compare_in(s: &[u8], k: Key, x: &[u8]) -> Order
 }
 
 // An entry's key against x.
-fn compare_with(list: &[u8], footing: &[u8], i: EntryAt, x: &[u8]) -> Order
+fn compare_with(list: &[u8], footing: &[u8], i: EntryAt, x: &[u8]) -> Ordering
     ensures { result ≡ cmp_bytes (entry_of list.now footing.now i).key x.now }
 {
     let k = i.key;
@@ -824,7 +800,7 @@ fn rises_from(
     from: Cursor,
     lo: &[u8],
     hi: &[u8],
-) -> Risen
+) -> Option<(usize, bool)>
     ensures { result ≡ risen_of lo.now hi.now (entry_of list.now footing.now first ∷ entries list.now footing.now from) }
 {
     let mut last = first;
@@ -835,31 +811,37 @@ fn rises_from(
         match st {
             EntryRead::Got(i, d) => {
                 if !is_above(list, footing, last, i) {
-                    return Risen::Not;
+                    return None;
                 }
                 last = i;
                 c = d;
                 n += 1;
             }
             EntryRead::End => {
-                return Risen::Up(n, ends_in(list, footing, first, last, lo, hi));
+                return Some((n, ends_in(list, footing, first, last, lo, hi)));
             }
             EntryRead::Bad => {
-                return Risen::Up(n, ends_in(list, footing, first, last, lo, hi));
+                return Some((n, ends_in(list, footing, first, last, lo, hi)));
             }
         }
     }
 }
 
 // Whether each entry is above the one before; how many there are; and whether they are bounded.
-pub fn rises(list: &[u8], footing: &[u8], from: Cursor, lo: &[u8], hi: &[u8]) -> Risen
+pub fn rises(
+    list: &[u8],
+    footing: &[u8],
+    from: Cursor,
+    lo: &[u8],
+    hi: &[u8],
+) -> Option<(usize, bool)>
     ensures { result ≡ risen_of lo.now hi.now (entries list.now footing.now from) }
 {
     let st = any_next(list, footing, from);
     match st {
         EntryRead::Got(i, d) => rises_from(list, footing, i, d, lo, hi),
-        EntryRead::End => Risen::Up(0, order::below_by(order::compare(lo, hi), hi)),
-        EntryRead::Bad => Risen::Up(0, order::below_by(order::compare(lo, hi), hi)),
+        EntryRead::End => Some((0, order::below_by(order::compare(lo, hi), hi))),
+        EntryRead::Bad => Some((0, order::below_by(order::compare(lo, hi), hi))),
     }
 }
 

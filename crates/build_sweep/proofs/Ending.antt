@@ -11,7 +11,6 @@ use borrow.Author.Tests.{leb-true, leb-false, eqb-true, eqb-false, eq-eqb, ne_eq
 use Rattle.spans.specs.Span.{part_or}
 use Rattle.spans.proofs.Tests.{ask}
 use Rattle.numbers.specs.Number.{be_at}
-use Rattle.order.specs.declared.Order.{Order}
 use Rattle.order.specs.Order.{cmp_bytes, is_less}
 use Rattle.order.specs.Bounds.{below_by, below_hi, spanned}
 use Rattle.order.proofs.Bounds.{last_of, ends_decide, no_keys}
@@ -22,11 +21,11 @@ use Rattle.build_sources.specs.Judged.{rising, enclosed}
 use Rattle.build_sources.proofs.Judging.{ascending}
 use Rattle.build_sources.proofs.Sourced.{found, ended, odd}
 use Rattle.build_sources.proofs.Stepped.{record_end}
-use Rattle.build_sweep.specs.declared.Ent.{Ent}
-use Rattle.build_sweep.specs.declared.Ent.TheVariants.{At, Out}
 use Rattle.build_sweep.specs.Ents.{ent_at, index_ent_at}
 use Rattle.build_sweep.specs.Swept.{listed, last_key, Ended, spans_ends}
 use Rattle.build_sweep.proofs.Ents.{step_at_lem, step_out, index_at_lem, index_out, index_end_lem, key-bare}
+use Rattle.std.proofs.Common.{Option, Some, None}
+use Rattle.std.specs.declared.cmp.Ordering.{Ordering}
 
 abbrev keys : List Entry → List (List ℕ)
 keys es = map (λ (e : Entry). e.key) es
@@ -54,51 +53,51 @@ pub record First (l : List ℕ) (source : ℕ) : Type 0 where
   pub key : head.key ≡ part_or l 7 (be_at 2 l 5)
   pub long : 7 ≤ length l
 
-no_ent : {k v : ℕ} → Out ≡ At k v → ⊥
+no_ent : {k v : ℕ} → ◌≡◌ {A = Option (ℕ × ℕ)} None (Some (k, v)) → ⊥
 no_ent e = let z : ◌≡◌ {A = ℕ} 0 1 = cc in omega arith
 
 nothing_there : (es : List Entry) → es ≡ [] → 0 < length es → ⊥
 nothing_there es e h = absurd (omega (arith, ap length e, h))
 
-ent-key : (s : List ℕ) (at k v : ℕ) → ent_at s at ≡ At k v → (k ≡ be_at 2 s at) × (at + 2 ≤ length s)
+ent-key : (s : List ℕ) (at k v : ℕ) → ent_at s at ≡ Some (k, v) → (k ≡ be_at 2 s at) × (at + 2 ≤ length s)
 unfolding ent_at
 ent-key s at k v e =
     let j = be_at 2 s at in
     let u = be_at 4 s (at + 2 + j + 12) in
-    let a₁ = ask (leb (at + 2) (length s)) _ Out (At k v) no_ent e in
-    let a₂ = ask (leb j max_key) _ Out (At k v) no_ent a₁.1 in
-    let a₃ = ask (leb (at + 2 + (j + 16)) (length s)) _ Out (At k v) no_ent a₂.1 in
-    let a₄ = ask (leb u max_value) _ Out (At k v) no_ent a₃.1 in
-    let a₅ = ask (leb (at + 2 + j + 16 + u) (length s)) (At j u) Out (At k v) no_ent a₄.1 in
+    let a₁ = ask (leb (at + 2) (length s)) _ None (Some (k, v)) no_ent e in
+    let a₂ = ask (leb j max_key) _ None (Some (k, v)) no_ent a₁.1 in
+    let a₃ = ask (leb (at + 2 + (j + 16)) (length s)) _ None (Some (k, v)) no_ent a₂.1 in
+    let a₄ = ask (leb u max_value) _ None (Some (k, v)) no_ent a₃.1 in
+    let a₅ = ask (leb (at + 2 + j + 16 + u) (length s)) (Some (j, u)) None (Some (k, v)) no_ent a₄.1 in
     let q : k ≡ be_at 2 s at = let z = a₅.1 in cc in
     (q, leb-true _ _ a₁.0)
 
-index_key_lem : (s : List ℕ) (at k v : ℕ) → index_ent_at s at ≡ At k v → (k ≡ be_at 2 s at) × (at + 2 ≤ length s)
+index_key_lem : (s : List ℕ) (at k v : ℕ) → index_ent_at s at ≡ Some (k, v) → (k ≡ be_at 2 s at) × (at + 2 ≤ length s)
 unfolding index_ent_at
 index_key_lem s at k v e =
     let j = be_at 2 s at in
-    let a₁ = ask (leb (at + 2) (length s)) _ Out (At k v) no_ent e in
-    let a₂ = ask (leb j max_key) _ Out (At k v) no_ent a₁.1 in
-    let a₃ = ask (leb (at + 2 + (j + 8)) (length s)) (At j 0) Out (At k v) no_ent a₂.1 in
+    let a₁ = ask (leb (at + 2) (length s)) _ None (Some (k, v)) no_ent e in
+    let a₂ = ask (leb j max_key) _ None (Some (k, v)) no_ent a₁.1 in
+    let a₃ = ask (leb (at + 2 + (j + 8)) (length s)) (Some (j, 0)) None (Some (k, v)) no_ent a₂.1 in
     let q : k ≡ be_at 2 s at = let z = a₃.1 in cc in
     (q, leb-true _ _ a₁.0)
 
 module _ (l : List ℕ) where
-  record_by : 5 < length l → 0 < length (listed l 0) → (e : Ent) → ent_at l 5 ≡ e → First l 0
+  record_by : 5 < length l → 0 < length (listed l 0) → (e : Option (ℕ × ℕ)) → ent_at l 5 ≡ e → First l 0
   unfolding entry_of
-  record_by lt some (At k v) q =
+  record_by lt some (Some (k, v)) q =
       let f = found l [] (first_of 0) (record_item l (first_of 0) k v) _ (step_at_lem l [] 5 false 0 0 lt k v (sym q)) in
       let z = ent-key l 5 k v q in
       record { rest = _; head = entry_of l [] (record_item l (first_of 0) k v); list = f.list; key = key-bare l 7 k ∙ ap (part_or l 7) z.0; long = omega (arith, z.1) }
-  record_by lt some Out q = absurd (nothing_there (listed l 0) (odd l [] (first_of 0) (step_out l [] 5 false 0 0 lt (sym q))).0 some)
+  record_by lt some None q = absurd (nothing_there (listed l 0) (odd l [] (first_of 0) (step_out l [] 5 false 0 0 lt (sym q))).0 some)
 
-  index_by : 5 < length l → 0 < length (listed l 1) → (e : Ent) → index_ent_at l 5 ≡ e → First l 1
+  index_by : 5 < length l → 0 < length (listed l 1) → (e : Option (ℕ × ℕ)) → index_ent_at l 5 ≡ e → First l 1
   unfolding entry_of
-  index_by lt some (At k v) q =
+  index_by lt some (Some (k, v)) q =
       let f = found l [] (first_of 1) (index_item l (first_of 1) k) _ (index_at_lem l [] 5 false 0 0 lt k v (sym q)) in
       let z = index_key_lem l 5 k v q in
       record { rest = _; head = entry_of l [] (index_item l (first_of 1) k); list = f.list; key = key-bare l 7 k ∙ ap (part_or l 7) z.0; long = omega (arith, z.1) }
-  index_by lt some Out q = absurd (nothing_there (listed l 1) (odd l [] (first_of 1) (index_out l [] 5 false 0 0 lt (sym q))).0 some)
+  index_by lt some None q = absurd (nothing_there (listed l 1) (odd l [] (first_of 1) (index_out l [] 5 false 0 0 lt (sym q))).0 some)
 
   pub first_record : 0 < length (listed l 0) → First l 0
   first_record some = go (leb (length l) 5) refl
@@ -139,11 +138,11 @@ module _ (l : List ℕ) (source n kat klen : ℕ) (h : Ended l source n kat klen
 
 -- what the code compares
 module _ (l : List ℕ) (n kat klen : ℕ) (lo hi : List ℕ) where
-  pub spans_none : n ≡ 0 → (o : Order) → o ≡ cmp_bytes lo hi → (r : Bool) → r ≡ below_by o hi → r ≡ spans_ends l n kat klen lo hi
+  pub spans_none : n ≡ 0 → (o : Ordering) → o ≡ cmp_bytes lo hi → (r : Bool) → r ≡ below_by o hi → r ≡ spans_ends l n kat klen lo hi
   unfolding spans_ends below_hi
-  spans_none z o eo r er = rw (eq-eqb n 0 z) (er ∙ ap (λ (x : Order). below_by x hi) eo)
+  spans_none z o eo r er = rw (eq-eqb n 0 z) (er ∙ ap (λ (x : Ordering). below_by x hi) eo)
 
-  pub spans_some : (n ≡ 0 → ⊥) → (k : ℕ) → k ≡ be_at 2 l 5 → (a b : List ℕ) → a ≡ part_or l 7 k → b ≡ part_or l kat klen → (o u : Order) → o ≡ cmp_bytes a lo → u ≡ cmp_bytes b hi → (x y : Bool) → x ≡ is_less o → y ≡ below_by u hi
+  pub spans_some : (n ≡ 0 → ⊥) → (k : ℕ) → k ≡ be_at 2 l 5 → (a b : List ℕ) → a ≡ part_or l 7 k → b ≡ part_or l kat klen → (o u : Ordering) → o ≡ cmp_bytes a lo → u ≡ cmp_bytes b hi → (x y : Bool) → x ≡ is_less o → y ≡ below_by u hi
       → not x && y ≡ spans_ends l n kat klen lo hi
   unfolding spans_ends below_hi
   spans_some nz k ek a b ea eb o u eo eu x y ex ey = rw (ne_eqb n 0 nz, ex, ey, eo, eu, ea, eb, ek) refl

@@ -11,69 +11,66 @@ use borrow.Author.Tests.{le-leb, lt-leb}
 use Rattle.spans.specs.Span.{part, part_or}
 use Rattle.numbers.specs.Number.{be_at}
 use Rattle.frames.specs.Limits.{max_key, max_value}
-use Rattle.order.specs.declared.Order.{Order}
 use Rattle.order.specs.declared.Ver.{Ver}
-use Rattle.order.specs.declared.Order.TheVariants.{Less, Equal, Greater}
 use Rattle.order.specs.Order.{cmp_bytes, is_equal}
 use Rattle.order.specs.Version.{ver_of, newer_than}
 use Rattle.build_sources.specs.declared.Cursor.{Cursor}
-use Rattle.build_sources.specs.declared.Spot.{Spot}
 use Rattle.build_sources.specs.declared.EntryRead.{EntryRead}
 use Rattle.build_sources.specs.Keys.{key_bytes}
 use Rattle.build_sources.specs.Lists.{first_of, list_key, same_key, record_item, record_at, index_item, index_at, spot_at}
 use Rattle.build_sources.specs.Source.{step_of, list_next, next_of}
 use Rattle.build_sources.specs.Judged.{above_by}
 use Rattle.build_sources.proofs.Stepped.{record_on}
-use Rattle.build_sweep.specs.declared.Ent.{Ent}
-use Rattle.build_sweep.specs.declared.Ent.TheVariants.{At, Out}
 use Rattle.build_sweep.specs.declared.Way.TheVariants.{Head, Old, Falls}
 use Rattle.build_sweep.specs.Ents.{ent_at, spot_of, index_ent_at, index_spot_of, order_at, ver_in, way_by, way_at}
+use Rattle.std.proofs.Common.{Option, Some, None}
+use Rattle.std.specs.declared.cmp.Ordering.{Ordering}
 
 -- ---- the lengths
 
-flat : (a b : Bool) → Out ≡ cond a (cond b Out Out) Out
+flat : (a b : Bool) → None ≡ cond a (cond b None None) None
 flat true true = refl
 flat true false = refl
 flat false b = refl
 
 module _ (s : List ℕ) (at : ℕ) where
-  pub ent-short : length s < at + 2 → Out ≡ ent_at s at
+  pub ent-short : length s < at + 2 → None ≡ ent_at s at
   unfolding ent_at
   ent-short h = simp (lt-leb (at + 2) (length s) h)
 
   module _ (k : ℕ) (ek : k ≡ be_at 2 s at) (h₁ : at + 2 ≤ length s) where
-    pub ent-long : max_key < k → Out ≡ ent_at s at
+    pub ent-long : max_key < k → None ≡ ent_at s at
     unfolding ent_at
     ent-long h = simp (sym ek, le-leb (at + 2) (length s) h₁, lt-leb k max_key h)
 
     module _ (h₂ : k ≤ max_key) where
-      pub ent_cut : length s < at + 2 + (k + 16) → Out ≡ ent_at s at
+      pub ent_cut : length s < at + 2 + (k + 16) → None ≡ ent_at s at
       unfolding ent_at
       ent_cut h = simp (sym ek, le-leb (at + 2) (length s) h₁, le-leb k max_key h₂, lt-leb (at + 2 + (k + 16)) (length s) h)
 
       module _ (v : ℕ) (ev : v ≡ be_at 4 s (at + 2 + k + 12)) (h₃ : at + 2 + (k + 16) ≤ length s) where
-        pub ent_big : max_value < v → Out ≡ ent_at s at
+        pub ent_big : max_value < v → None ≡ ent_at s at
         unfolding ent_at
         ent_big h = simp (sym ek, sym ev, le-leb (at + 2) (length s) h₁, le-leb k max_key h₂, le-leb (at + 2 + (k + 16)) (length s) h₃, lt-leb v max_value h)
 
-        pub ent_open : v ≤ max_value → length s < at + 2 + k + 16 + v → Out ≡ ent_at s at
+        pub ent_open : v ≤ max_value → length s < at + 2 + k + 16 + v → None ≡ ent_at s at
         unfolding ent_at
         ent_open h g =
             simp (sym ek, sym ev, le-leb (at + 2) (length s) h₁, le-leb k max_key h₂, le-leb (at + 2 + (k + 16)) (length s) h₃, le-leb v max_value h, lt-leb (at + 2 + k + 16 + v) (length s) g)
 
-        pub ent-found : v ≤ max_value → at + 2 + k + 16 + v ≤ length s → At k v ≡ ent_at s at
+        pub ent-found : v ≤ max_value → at + 2 + k + 16 + v ≤ length s → Some (k, v) ≡ ent_at s at
         unfolding ent_at
         ent-found h g =
             simp (sym ek, sym ev, le-leb (at + 2) (length s) h₁, le-leb k max_key h₂, le-leb (at + 2 + (k + 16)) (length s) h₃, le-leb v max_value h, le-leb (at + 2 + k + 16 + v) (length s) g)
 
   -- fewer than 18 bytes hold none
-  pub ent-few : at ≤ length s → length s < at + 18 → Out ≡ ent_at s at
+  pub ent-few : at ≤ length s → length s < at + 18 → None ≡ ent_at s at
   unfolding ent_at
   ent-few h g = rw (lt-leb (at + 2 + (be_at 2 s at + 16)) (length s) (omega arith)) (flat (leb (at + 2) (length s)) (leb (be_at 2 s at) max_key))
 
 by_tests : (s : List ℕ) (c : Cursor) (k v : ℕ) (x₁ x₂ x₃ x₄ x₅ : Bool)
-    → cond x₁ (cond x₂ (cond x₃ (cond x₄ (cond x₅ (Spot.At (record_item s c k v) (c.at + 2 + k + 16 + v)) Spot.Out) Spot.Out) Spot.Out) Spot.Out) Spot.Out
-    ≡ spot_of s c (cond x₁ (cond x₂ (cond x₃ (cond x₄ (cond x₅ (At k v) Out) Out) Out) Out) Out)
+    → cond x₁ (cond x₂ (cond x₃ (cond x₄ (cond x₅ (Some (record_item s c k v, c.at + 2 + k + 16 + v)) None) None) None) None) None
+    ≡ spot_of s c (cond x₁ (cond x₂ (cond x₃ (cond x₄ (cond x₅ (Some (k, v)) None) None) None) None) None)
 by_tests s c k v true true true true true = refl
 by_tests s c k v true true true true false = refl
 by_tests s c k v true true true false x₅ = refl
@@ -92,26 +89,26 @@ record_ent s c =
 
 module _ (s : List ℕ) (at : ℕ) where
   -- fewer than 10 bytes hold none
-  pub index_few : at ≤ length s → length s < at + 10 → Out ≡ index_ent_at s at
+  pub index_few : at ≤ length s → length s < at + 10 → None ≡ index_ent_at s at
   unfolding index_ent_at
   index_few h g = rw (lt-leb (at + 2 + (be_at 2 s at + 8)) (length s) (omega arith)) (flat (leb (at + 2) (length s)) (leb (be_at 2 s at) max_key))
 
   module _ (k : ℕ) (ek : k ≡ be_at 2 s at) (h₁ : at + 2 ≤ length s) where
-    pub index_long : max_key < k → Out ≡ index_ent_at s at
+    pub index_long : max_key < k → None ≡ index_ent_at s at
     unfolding index_ent_at
     index_long h = simp (sym ek, le-leb (at + 2) (length s) h₁, lt-leb k max_key h)
 
     module _ (h₂ : k ≤ max_key) where
-      pub index_cut : length s < at + 2 + (k + 8) → Out ≡ index_ent_at s at
+      pub index_cut : length s < at + 2 + (k + 8) → None ≡ index_ent_at s at
       unfolding index_ent_at
       index_cut h = simp (sym ek, le-leb (at + 2) (length s) h₁, le-leb k max_key h₂, lt-leb (at + 2 + (k + 8)) (length s) h)
 
-      pub index_found : at + 2 + (k + 8) ≤ length s → At k 0 ≡ index_ent_at s at
+      pub index_found : at + 2 + (k + 8) ≤ length s → Some (k, 0) ≡ index_ent_at s at
       unfolding index_ent_at
       index_found h = simp (sym ek, le-leb (at + 2) (length s) h₁, le-leb k max_key h₂, le-leb (at + 2 + (k + 8)) (length s) h)
 
 index_tests : (s : List ℕ) (c : Cursor) (k : ℕ) (x₁ x₂ x₃ : Bool)
-    → cond x₁ (cond x₂ (cond x₃ (Spot.At (index_item s c k) (c.at + 2 + k + 8)) Spot.Out) Spot.Out) Spot.Out ≡ index_spot_of s c (cond x₁ (cond x₂ (cond x₃ (At k 0) Out) Out) Out)
+    → cond x₁ (cond x₂ (cond x₃ (Some (index_item s c k, c.at + 2 + k + 8)) None) None) None ≡ index_spot_of s c (cond x₁ (cond x₂ (cond x₃ (Some (k, 0)) None) None) None)
 index_tests s c k true true true = refl
 index_tests s c k true true false = refl
 index_tests s c k true false x₃ = refl
@@ -133,34 +130,34 @@ module _ (l w : List ℕ) (at : ℕ) (seen : Bool) (kat klen : ℕ) where
   index_end_lem h = rw (le-leb (length l) at h) refl
 
   module _ (h : at < length l) where
-    index_is : (e : Ent) → e ≡ index_ent_at l at → next_of l w (here 1 at seen kat klen) ≡ step_of (here 1 at seen kat klen) (index_spot_of l (here 1 at seen kat klen) e)
+    index_is : (e : Option (ℕ × ℕ)) → e ≡ index_ent_at l at → next_of l w (here 1 at seen kat klen) ≡ step_of (here 1 at seen kat klen) (index_spot_of l (here 1 at seen kat klen) e)
     unfolding next_of list_next spot_at
     index_is e q = rw (lt-leb (length l) at h) (ap (step_of (here 1 at seen kat klen)) (index_ent l (here 1 at seen kat klen) ∙ ap (index_spot_of l (here 1 at seen kat klen)) (sym q)))
 
-    pub index_at_lem : (k v : ℕ) → At k v ≡ index_ent_at l at
+    pub index_at_lem : (k v : ℕ) → Some (k, v) ≡ index_ent_at l at
         → next_of l w (here 1 at seen kat klen) ≡ EntryRead.Got (index_item l (here 1 at seen kat klen) k) (here 1 (at + 2 + k + 8) true (at + 2) k)
     unfolding step_of
-    index_at_lem k v q = index_is (At k v) q
+    index_at_lem k v q = index_is (Some (k, v)) q
 
-    pub index_out : Out ≡ index_ent_at l at → next_of l w (here 1 at seen kat klen) ≡ EntryRead.Bad
+    pub index_out : None ≡ index_ent_at l at → next_of l w (here 1 at seen kat klen) ≡ EntryRead.Bad
     unfolding step_of
-    index_out q = index_is Out q
+    index_out q = index_is None q
 
 -- the step of a record list by the entry's lengths
 module _ (l w : List ℕ) (at : ℕ) (seen : Bool) (kat klen : ℕ) (h : at < length l) where
-  step_is : (e : Ent) → e ≡ ent_at l at → next_of l w (here 0 at seen kat klen) ≡ step_of (here 0 at seen kat klen) (spot_of l (here 0 at seen kat klen) e)
+  step_is : (e : Option (ℕ × ℕ)) → e ≡ ent_at l at → next_of l w (here 0 at seen kat klen) ≡ step_of (here 0 at seen kat klen) (spot_of l (here 0 at seen kat klen) e)
   step_is e q =
       sym (record_on l w (here 0 at seen kat klen) refl h)
       ∙ ap (step_of (here 0 at seen kat klen)) (record_ent l (here 0 at seen kat klen) ∙ ap (spot_of l (here 0 at seen kat klen)) (sym q))
 
-  pub step_at_lem : (k v : ℕ) → At k v ≡ ent_at l at
+  pub step_at_lem : (k v : ℕ) → Some (k, v) ≡ ent_at l at
       → next_of l w (here 0 at seen kat klen) ≡ EntryRead.Got (record_item l (here 0 at seen kat klen) k v) (here 0 (at + 2 + k + 16 + v) true (at + 2) k)
   unfolding step_of
-  step_at_lem k v q = step_is (At k v) q
+  step_at_lem k v q = step_is (Some (k, v)) q
 
-  pub step_out : Out ≡ ent_at l at → next_of l w (here 0 at seen kat klen) ≡ EntryRead.Bad
+  pub step_out : None ≡ ent_at l at → next_of l w (here 0 at seen kat klen) ≡ EntryRead.Bad
   unfolding step_of
-  step_out q = step_is Out q
+  step_out q = step_is None q
 
 -- ---- the key
 
@@ -177,59 +174,59 @@ pub same-order : (s : List ℕ) (source at : ℕ) (seen : Bool) (bat blen kat kl
 unfolding same_key order_at
 same-order s source at seen bat blen kat klen = rw (key-bare s bat blen, key-bare s kat klen) (go seen (cmp_bytes (part_or s bat blen) (part_or s kat klen)))
   where
-    go : (b : Bool) (o : Order) → cond b (is_equal o) false ≡ is_equal (cond b o Less)
+    go : (b : Bool) (o : Ordering) → cond b (is_equal o) false ≡ is_equal (cond b o Ordering.Less)
     go true o = refl
     go false o = refl
 
 -- ---- the ways
 
-pub way_head : (o : Order) (n : Bool) → way_by o n ≡ Head → o ≡ Less
-way_head Less n e = refl
-way_head Equal true e = absurd (let z : ◌≡◌ {A = ℕ} 0 1 = cc in omega arith)
-way_head Equal false e = absurd (let z : ◌≡◌ {A = ℕ} 0 1 = cc in omega arith)
-way_head Greater n e = absurd (let z : ◌≡◌ {A = ℕ} 0 1 = cc in omega arith)
+pub way_head : (o : Ordering) (n : Bool) → way_by o n ≡ Head → o ≡ Ordering.Less
+way_head Ordering.Less n e = refl
+way_head Ordering.Equal true e = absurd (let z : ◌≡◌ {A = ℕ} 0 1 = cc in omega arith)
+way_head Ordering.Equal false e = absurd (let z : ◌≡◌ {A = ℕ} 0 1 = cc in omega arith)
+way_head Ordering.Greater n e = absurd (let z : ◌≡◌ {A = ℕ} 0 1 = cc in omega arith)
 
-pub way_old : (o : Order) (n : Bool) → way_by o n ≡ Old → (o ≡ Equal) × (n ≡ true)
-way_old Less n e = absurd (let z : ◌≡◌ {A = ℕ} 0 1 = cc in omega arith)
-way_old Equal true e = (refl, refl)
-way_old Equal false e = absurd (let z : ◌≡◌ {A = ℕ} 0 1 = cc in omega arith)
-way_old Greater n e = absurd (let z : ◌≡◌ {A = ℕ} 0 1 = cc in omega arith)
+pub way_old : (o : Ordering) (n : Bool) → way_by o n ≡ Old → (o ≡ Ordering.Equal) × (n ≡ true)
+way_old Ordering.Less n e = absurd (let z : ◌≡◌ {A = ℕ} 0 1 = cc in omega arith)
+way_old Ordering.Equal true e = (refl, refl)
+way_old Ordering.Equal false e = absurd (let z : ◌≡◌ {A = ℕ} 0 1 = cc in omega arith)
+way_old Ordering.Greater n e = absurd (let z : ◌≡◌ {A = ℕ} 0 1 = cc in omega arith)
 
 -- an entry that falls is not above the one before
-pub way_falls : (o : Order) (v w : Ver) → way_by o (newer_than v w) ≡ Falls → above_by o v w ≡ false
-way_falls Less v w e = absurd (let z : ◌≡◌ {A = ℕ} 0 1 = cc in omega arith)
-way_falls Equal v w e = go (newer_than v w) e
+pub way_falls : (o : Ordering) (v w : Ver) → way_by o (newer_than v w) ≡ Falls → above_by o v w ≡ false
+way_falls Ordering.Less v w e = absurd (let z : ◌≡◌ {A = ℕ} 0 1 = cc in omega arith)
+way_falls Ordering.Equal v w e = go (newer_than v w) e
   where
     go : (n : Bool) → cond n Old Falls ≡ Falls → n ≡ false
     go true e = absurd (let z : ◌≡◌ {A = ℕ} 0 1 = cc in omega arith)
     go false e = refl
-way_falls Greater v w e = refl
+way_falls Ordering.Greater v w e = refl
 
 -- ---- the functions' returns, from their calls' words
 
 module _ (s : List ℕ) (seen : Bool) (bat blen kat klen : ℕ) where
-  pub order_seen : seen ≡ true → (a b : List ℕ) → a ≡ part_or s bat blen → b ≡ part_or s kat klen → (o : Order) → o ≡ cmp_bytes a b → o ≡ order_at s seen bat blen kat klen
+  pub order_seen : seen ≡ true → (a b : List ℕ) → a ≡ part_or s bat blen → b ≡ part_or s kat klen → (o : Ordering) → o ≡ cmp_bytes a b → o ≡ order_at s seen bat blen kat klen
   unfolding order_at
   order_seen e a b ea eb o eo = eo ∙ rw (e, ea, eb) refl
 
-  pub order_none : seen ≡ false → Less ≡ order_at s seen bat blen kat klen
+  pub order_none : seen ≡ false → Ordering.Less ≡ order_at s seen bat blen kat klen
   unfolding order_at
   order_none e = rw e refl
 
-  module _ (o : Order) (eo : o ≡ order_at s seen bat blen kat klen) where
-    pub less_head : o ≡ Less → Head ≡ way_at s seen bat blen kat klen
+  module _ (o : Ordering) (eo : o ≡ order_at s seen bat blen kat klen) where
+    pub less_head : o ≡ Ordering.Less → Head ≡ way_at s seen bat blen kat klen
     unfolding way_at
     less_head q = rw (sym eo ∙ q) refl
 
-    pub equal_older : o ≡ Equal → (b : Bool) → b ≡ newer_than (ver_in s (bat + blen)) (ver_in s (kat + klen)) → b ≡ true → Old ≡ way_at s seen bat blen kat klen
+    pub equal_older : o ≡ Ordering.Equal → (b : Bool) → b ≡ newer_than (ver_in s (bat + blen)) (ver_in s (kat + klen)) → b ≡ true → Old ≡ way_at s seen bat blen kat klen
     unfolding way_at
     equal_older q b eb t = rw (sym eo ∙ q, sym eb ∙ t) refl
 
-    pub equal_not : o ≡ Equal → (b : Bool) → b ≡ newer_than (ver_in s (bat + blen)) (ver_in s (kat + klen)) → b ≡ false → Falls ≡ way_at s seen bat blen kat klen
+    pub equal_not : o ≡ Ordering.Equal → (b : Bool) → b ≡ newer_than (ver_in s (bat + blen)) (ver_in s (kat + klen)) → b ≡ false → Falls ≡ way_at s seen bat blen kat klen
     unfolding way_at
     equal_not q b eb t = rw (sym eo ∙ q, sym eb ∙ t) refl
 
-    pub greater_falls : o ≡ Greater → Falls ≡ way_at s seen bat blen kat klen
+    pub greater_falls : o ≡ Ordering.Greater → Falls ≡ way_at s seen bat blen kat klen
     unfolding way_at
     greater_falls q = rw (sym eo ∙ q) refl
 

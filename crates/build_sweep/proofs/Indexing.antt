@@ -11,8 +11,6 @@ use borrow.Author.Tests.{leb-true}
 use Rattle.spans.proofs.Tests.{ask}
 use Rattle.numbers.specs.Number.{be_at}
 use Rattle.spans.specs.Span.{part_or}
-use Rattle.order.specs.declared.Order.{Order}
-use Rattle.order.specs.declared.Order.TheVariants.{Less, Equal, Greater}
 use Rattle.order.specs.Order.{cmp_bytes, is_less}
 use Rattle.order.specs.Version.{ver_of, newer_than}
 use Rattle.frames.specs.Limits.{max_entries, max_key}
@@ -25,12 +23,13 @@ use Rattle.build_sources.specs.Source.{Entry, entry_of, entries, well_formed}
 use Rattle.build_sources.specs.Judged.{above_by}
 use Rattle.build_sources.proofs.Sourced.{Found, found, ended, odd}
 use Rattle.build_image.specs.Image.{index_key_len, index_sums}
-use Rattle.build_sweep.specs.declared.Ent.TheVariants.{At, Out}
 use Rattle.build_sweep.specs.Ents.{index_ent_at, order_at}
 use Rattle.build_sweep.specs.Swept.{listed, plain, IndexAccepted}
 use Rattle.build_sweep.proofs.Ents.{here, index_at_lem, index_out, index_end_lem, key-bare}
 use Rattle.build_sweep.proofs.Plain.{not_well, not_rising, not_few}
 use Rattle.build_sweep.proofs.Sweeping.{Climbing, climb_begin, climb_up, climb_last, climb_falls, climb_on}
+use Rattle.std.proofs.Common.{Option, Some, None}
+use Rattle.std.specs.declared.cmp.Ordering.{Ordering}
 
 -- the entry before, by all that the order asks of it
 abbrev pub prior_key : List ℕ → ℕ → ℕ → Entry
@@ -58,28 +57,28 @@ unfolding index_key_size
 key-few n = omega (arith, uleb-few n)
 
 -- versions of one page's keys are the same: a key is above another where it is greater
-above-less : (o : Order) → is_less o ≡ false → above_by o (ver_of 0 0) (ver_of 0 0) ≡ false
+above-less : (o : Ordering) → is_less o ≡ false → above_by o (ver_of 0 0) (ver_of 0 0) ≡ false
 unfolding newer_than
-above-less Less e = absurd (let z : ◌≡◌ {A = ℕ} 0 1 = cc in omega arith)
-above-less Equal e = refl
-above-less Greater e = refl
+above-less Ordering.Less e = absurd (let z : ◌≡◌ {A = ℕ} 0 1 = cc in omega arith)
+above-less Ordering.Equal e = refl
+above-less Ordering.Greater e = refl
 
-less-above : (o : Order) → is_less o ≡ true → above_by o (ver_of 0 0) (ver_of 0 0) ≡ true
-less-above Less e = refl
-less-above Equal e = absurd (let z : ◌≡◌ {A = ℕ} 0 1 = cc in omega arith)
-less-above Greater e = absurd (let z : ◌≡◌ {A = ℕ} 0 1 = cc in omega arith)
+less-above : (o : Ordering) → is_less o ≡ true → above_by o (ver_of 0 0) (ver_of 0 0) ≡ true
+less-above Ordering.Less e = refl
+less-above Ordering.Equal e = absurd (let z : ◌≡◌ {A = ℕ} 0 1 = cc in omega arith)
+less-above Ordering.Greater e = absurd (let z : ◌≡◌ {A = ℕ} 0 1 = cc in omega arith)
 
-no_ent : {k v : ℕ} → Out ≡ At k v → ⊥
+no_ent : {k v : ℕ} → ◌≡◌ {A = Option (ℕ × ℕ)} None (Some (k, v)) → ⊥
 no_ent e = let z : ◌≡◌ {A = ℕ} 0 1 = cc in omega arith
 
 -- where it ends
-ent-room : (s : List ℕ) (at k v : ℕ) → At k v ≡ index_ent_at s at → at + 2 + (k + 8) ≤ length s
+ent-room : (s : List ℕ) (at k v : ℕ) → Some (k, v) ≡ index_ent_at s at → at + 2 + (k + 8) ≤ length s
 unfolding index_ent_at
 ent-room s at k v e =
     let j = be_at 2 s at in
-    let a₁ = ask (leb (at + 2) (length s)) _ Out (At k v) no_ent (sym e) in
-    let a₂ = ask (leb j max_key) _ Out (At k v) no_ent a₁.1 in
-    let a₃ = ask (leb (at + 2 + (j + 8)) (length s)) (At j 0) Out (At k v) no_ent a₂.1 in
+    let a₁ = ask (leb (at + 2) (length s)) _ None (Some (k, v)) no_ent (sym e) in
+    let a₂ = ask (leb j max_key) _ None (Some (k, v)) no_ent a₁.1 in
+    let a₃ = ask (leb (at + 2 + (j + 8)) (length s)) (Some (j, 0)) None (Some (k, v)) no_ent a₂.1 in
     let q : k ≡ be_at 2 s at = let z = a₃.1 in cc in
     let h : at + 2 + (be_at 2 s at + 8) ≤ length s = leb-true _ _ a₃.0 in
     omega (arith, q, h)
@@ -111,10 +110,10 @@ module _ (l : List ℕ) (p at : ℕ) (seen : Bool) (kat klen n s : ℕ) (h : Ind
       }
 
   module _ (lt : at < length l) where
-    pub index_bad : Out ≡ index_ent_at l at → plain l 1 ≡ false
+    pub index_bad : None ≡ index_ent_at l at → plain l 1 ≡ false
     index_bad q = not_well l 1 (sym h.well ∙ (odd l [] c (index_out l [] at seen kat klen lt q)).1)
 
-    module _ (k v : ℕ) (en : At k v ≡ index_ent_at l at) where
+    module _ (k v : ℕ) (en : Some (k, v) ≡ index_ent_at l at) where
       abbrev it : EntryAt
       it = index_item l c k
 
@@ -151,8 +150,8 @@ module _ (l : List ℕ) (p at : ℕ) (seen : Bool) (kat klen n s : ℕ) (h : Ind
       unfolding index_sums
       sums_on = ap (index_sums p) fd.list ∙ ap (λ (y : ℕ). index_key_len p y + 8 + index_sums p (entries l [] on)) (fd.klen ∙ omega arith)
 
-      module _ (o : Order) (eo : o ≡ order_at l seen kat klen (at + 2) k) (b : Bool) (eb : b ≡ is_less o) where
-        ord_is : o ≡ cond seen (cmp_bytes x.key ent.key) Less
+      module _ (o : Ordering) (eo : o ≡ order_at l seen kat klen (at + 2) k) (b : Bool) (eb : b ≡ is_less o) where
+        ord_is : o ≡ cond seen (cmp_bytes x.key ent.key) Ordering.Less
         unfolding order_at
         ord_is = eo ∙ rw key-is refl
 

@@ -7,8 +7,6 @@ use Prim.Native.Nat.{ℕ, ◌+◌, ◌-◌, ◌≤◌, ◌<◌}
 use native.Mathlib.Omega.{arith}
 use lib.ListN.{length}
 use Rattle.spans.specs.Span.{part_or}
-use Rattle.order.specs.declared.Order.{Order}
-use Rattle.order.specs.declared.Order.TheVariants.{Less}
 use Rattle.order.specs.Order.{cmp_bytes, is_equal}
 use Rattle.order.specs.Version.{newer_than}
 use Rattle.frames.specs.Limits.{max_budget, max_entries, max_key, max_limit, max_value}
@@ -23,7 +21,6 @@ use Rattle.build_image.specs.Sizes.{remote_len}
 use Rattle.build_sweep.specs.declared.Tally.{Tally}
 use Rattle.build_sweep.specs.declared.Pages.{Pages}
 use Rattle.build_sweep.specs.declared.Cut.{Cut}
-use Rattle.build_sweep.specs.declared.Ent.TheVariants.{At, Out}
 use Rattle.build_sweep.specs.declared.Way.{Way}
 use Rattle.build_sweep.specs.declared.Way.TheVariants.{Head, Old, Falls}
 use Rattle.build_sweep.specs.Tally.{nothing, with_old, with_head}
@@ -35,6 +32,8 @@ use Rattle.build_sweep.specs.Adding.{Adding}
 use Rattle.build_sweep.proofs.Ents.{here, step_at_lem, step_out, key-bare, same-order, way_head, way_old, way_falls}
 use Rattle.build_sweep.proofs.Plain.{not_well, not_rising, not_few}
 use Rattle.build_sweep.proofs.Sweeping.{Climbing, climb_begin, climb_up, climb_last, climb_falls, climb_on, add_begin, add_bounded, add_slim, add-end, add_many, add_head, add_old}
+use Rattle.std.proofs.Common.{Some, None}
+use Rattle.std.specs.declared.cmp.Ordering.{Ordering}
 
 -- the entry before, by all that the order asks of it
 abbrev pub prior : List ℕ → ℕ → ℕ → Entry
@@ -86,10 +85,10 @@ module _ (l : List ℕ) (p next limit budget at : ℕ) (seen : Bool) (kat klen :
       }
 
   module _ (lt : at < length l) where
-    pub list_bad : Out ≡ ent_at l at → plain l 0 ≡ false
+    pub list_bad : None ≡ ent_at l at → plain l 0 ≡ false
     list_bad q = not_well l 0 (sym h.well ∙ (odd l [] c (step_out l [] at seen kat klen lt q)).1)
 
-    module _ (k v : ℕ) (en : At k v ≡ ent_at l at) where
+    module _ (k v : ℕ) (en : Some (k, v) ≡ ent_at l at) where
       abbrev it : EntryAt
       it = record_item l c k v
 
@@ -135,10 +134,10 @@ module _ (l : List ℕ) (p next limit budget at : ℕ) (seen : Bool) (kat klen :
       unfolding entry_of
       ver-is = refl
 
-      abbrev ord : Order
+      abbrev ord : Ordering
       ord = order_at l seen kat klen (at + 2) k
 
-      ord_is : ord ≡ cond seen (cmp_bytes x.key ent.key) Less
+      ord_is : ord ≡ cond seen (cmp_bytes x.key ent.key) Ordering.Less
       unfolding order_at
       ord_is = rw key-is refl
 

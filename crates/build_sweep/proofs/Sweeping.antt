@@ -7,8 +7,6 @@ use mathlib.Core.Bool.{Bool, true, false, cond}
 use Prim.Native.Nat.{ℕ, ◌+◌, ◌≤◌, ◌<◌}
 use native.Mathlib.Omega.{arith}
 use lib.ListN.{length}
-use Rattle.order.specs.declared.Order.{Order}
-use Rattle.order.specs.declared.Order.TheVariants.{Less}
 use Rattle.order.specs.Order.{cmp_bytes}
 use Rattle.frames.specs.Limits.{max_budget, max_entries, max_key, max_limit, max_value}
 use Rattle.values.specs.Vals.{size_of}
@@ -26,6 +24,7 @@ use Rattle.build_sweep.specs.Swept.{last_key}
 use Rattle.build_sweep.specs.Adding.{Adding, Summed}
 use Rattle.build_sweep.proofs.Tallying.{up, one-bounded, tally_nil}
 use Rattle.build_sweep.proofs.Cutting.{folds, near_begin, near_slim, near_turn, near-end}
+use Rattle.std.specs.declared.cmp.Ordering.{Ordering}
 
 -- ---- the order
 
@@ -51,7 +50,7 @@ unfolding rising_from above
 rising_like a b k v [] = refl
 rising_like a b k v (c ∷ es) = rw (k, v) refl
 
-rises-first : (seen : Bool) (x e : Entry) (es : List Entry) (o : Order) → o ≡ cond seen (cmp_bytes x.key e.key) Less
+rises-first : (seen : Bool) (x e : Entry) (es : List Entry) (o : Ordering) → o ≡ cond seen (cmp_bytes x.key e.key) Ordering.Less
     → rises_on seen x (e ∷ es) ≡ cond (above_by o x.ver e.ver) (rising_from e es) false
 unfolding rises_on rising_from above rising
 rises-first true x e es o q = rw q refl
@@ -76,7 +75,7 @@ module _ (all rest : List Entry) (seen : Bool) (x : Entry) (h : Climbing all res
       go false q = absurd (omega (arith, ap length (h.fresh q), ap length e, n))
 
   -- one entry on
-  module _ (e : Entry) (es : List Entry) (er : rest ≡ e ∷ es) (o : Order) (eo : o ≡ cond seen (cmp_bytes x.key e.key) Less) where
+  module _ (e : Entry) (es : List Entry) (er : rest ≡ e ∷ es) (o : Ordering) (eo : o ≡ cond seen (cmp_bytes x.key e.key) Ordering.Less) where
     rises-is : rising all ≡ cond (above_by o x.ver e.ver) (rising_from e es) false
     rises-is = sym h.rises ∙ ap (rises_on seen x) er ∙ rises-first seen x e es o eo
 

@@ -1,6 +1,6 @@
 -- What one sweep over a list says: all that its judge asks of the entries, or that they are refused.
 -- Assumes nothing.
-use Rattle.std.specs.Prelude.{ℕ, ◌+◌, ◌≤◌, ◌<◌, ◌≡◌, List, [], ◌∷◌, Bool, true, false, cond, ◌&&◌, leb, eqb, length}
+use Rattle.std.specs.Prelude.{ℕ, ◌+◌, ◌≤◌, ◌<◌, ◌≡◌, List, [], ◌∷◌, Bool, true, false, cond, ◌&&◌, leb, eqb, length, Option, Some, None}
 use Rattle.spans.specs.Span.{part_or}
 use Rattle.numbers.specs.Number.{be_at}
 use Rattle.order.specs.Bounds.{below_hi, spanned}
@@ -9,10 +9,8 @@ use Rattle.build_sources.specs.Lists.{first_of}
 use Rattle.build_sources.specs.Source.{Entry, entries, well_formed, only}
 use Rattle.build_sources.specs.Judged.{rising}
 use Rattle.build_image.specs.Image.{index_sums}
-use Rattle.build_sweep.specs.declared.IndexSwept.{IndexSwept}
 use Rattle.build_sweep.specs.declared.Tally.{Tally}
 use Rattle.build_sweep.specs.declared.Pages.{Pages}
-use Rattle.build_sweep.specs.declared.Swept.{Swept}
 use Rattle.build_sweep.specs.Tally.{nothing, tally_of}
 use Rattle.build_sweep.specs.Pages.{pages_of}
 use Rattle.build_sweep.specs.Bounds.{Bounded}
@@ -52,9 +50,9 @@ pub record Accepted (l : List ℕ) (p at limit budget : ℕ) (t : Tally) (g : Pa
   pub end : g.end ≤ at + 12890734500
   pub count : g.count ≤ max_entries
 
-abbrev pub SweptBy : List ℕ → ℕ → ℕ → ℕ → ℕ → Swept → Type 0
-SweptBy l p at limit budget (Swept.Fits t g kat klen) = Accepted l p at limit budget t g kat klen
-SweptBy l p at limit budget Swept.Not = plain l 0 ≡ false
+abbrev pub SweptBy : List ℕ → ℕ → ℕ → ℕ → ℕ → Option (Tally × Pages × ℕ × ℕ) → Type 0
+SweptBy l p at limit budget (Some (t, g, kat, klen)) = Accepted l p at limit budget t g kat klen
+SweptBy l p at limit budget None = plain l 0 ≡ false
 
 -- the same of an index list: n entries, whose records take s bytes
 pub record IndexAccepted (l : List ℕ) (p n s kat klen : ℕ) : Type 0 where
@@ -62,6 +60,6 @@ pub record IndexAccepted (l : List ℕ) (p n s kat klen : ℕ) : Type 0 where
   pub sums : s ≡ index_sums p (listed l 1)
   pub small : s ≤ 269283315
 
-abbrev pub IndexSweptBy : List ℕ → ℕ → IndexSwept → Type 0
-IndexSweptBy l p (IndexSwept.Fits n s kat klen) = IndexAccepted l p n s kat klen
-IndexSweptBy l p IndexSwept.Not = plain l 1 ≡ false
+abbrev pub IndexSweptBy : List ℕ → ℕ → Option (ℕ × ℕ × ℕ × ℕ) → Type 0
+IndexSweptBy l p (Some (n, s, kat, klen)) = IndexAccepted l p n s kat klen
+IndexSweptBy l p None = plain l 1 ≡ false

@@ -15,7 +15,8 @@ ghost use Rattle.build_sweep.specs.Ents.{ent_at, index_ent_at, order_at, ver_in,
 ghost use Rattle.build_sweep.specs.Swept.{SweptBy, IndexSweptBy, spans_ends};
 
 use frames::{Addr, BaseHeader};
-use order::{Order, Ver};
+use order::Ver;
+use std::cmp::Ordering;
 use values::Val;
 
 // What a leaf's size and hint room are made of, summed up entry by entry: `aged` of the remotes are old versions', `after` says that the entry
@@ -49,26 +50,12 @@ pub struct Cut {
     pub remote: usize,
 }
 
-// An entry at a place, by the lengths of its key and its value.
-#[derive(Clone, Copy)]
-pub enum Ent {
-    At(usize, usize),
-    Out,
-}
-
 // What an entry is beside the one before.
 #[derive(Clone, Copy)]
 pub enum Way {
     Head,
     Old,
     Falls,
-}
-
-// What a sweep finds: the tally, the history pages and the place of the last key; or that the list is refused, not why.
-#[derive(Clone, Copy)]
-pub enum Swept {
-    Fits(Tally, Pages, usize, usize),
-    Not,
 }
 
 // ---- one entry added up
@@ -186,29 +173,29 @@ pub fn closed(g: Cut) -> Pages
 
 // ---- an entry of a record list beside the one before
 
-fn ent_at(s: &[u8], at: usize) -> Ent
+fn ent_at(s: &[u8], at: usize) -> Option<(usize, usize)>
     requires { at ≤ length s.now }
     ensures { result ≡ ent_at s.now at }
 {
     let n = s.len() - at;
     if n < 18 {
-        return Ent::Out;
+        return None;
     }
     let klen = numbers::read_u16_be(s, at) as usize;
     if BaseHeader::MAX_KEY < klen {
-        return Ent::Out;
+        return None;
     }
     if n - 18 < klen {
-        return Ent::Out;
+        return None;
     }
     let vlen = numbers::read_u32_be(s, at + 2 + klen + 12) as usize;
     if BaseHeader::MAX_VALUE < vlen {
-        return Ent::Out;
+        return None;
     }
     if n - 18 - klen < vlen {
-        return Ent::Out;
+        return None;
     }
-    Ent::At(klen, vlen)
+    Some((klen, vlen))
 }
 
 // A key that lies in the list.
@@ -221,14 +208,14 @@ fn key_of(s: &[u8], at: usize, n: usize) -> &[u8]
 }
 
 // The key before, if there is one, against this one.
-fn order_at(s: &[u8], seen: bool, bat: usize, blen: usize, kat: usize, klen: usize) -> Order
+fn order_at(s: &[u8], seen: bool, bat: usize, blen: usize, kat: usize, klen: usize) -> Ordering
     requires { (bat + blen ≤ length s.now) × (kat + klen ≤ length s.now) }
     ensures { result ≡ order_at s.now seen bat blen kat klen }
 {
     if seen {
         return order::compare(key_of(s, bat, blen), key_of(s, kat, klen));
     }
-    Order::Less
+    Ordering::Less
 }
 
 // Whether the version at x is newer than that at y.
@@ -247,21 +234,27 @@ fn way_at(s: &[u8], seen: bool, bat: usize, blen: usize, kat: usize, klen: usize
     ensures { result ≡ way_at s.now seen bat blen kat klen }
 {
     match order_at(s, seen, bat, blen, kat, klen) {
-        Order::Less => Way::Head,
-        Order::Equal => {
+        Ordering::Less => Way::Head,
+        Ordering::Equal => {
             if is_newer(s, bat + blen, kat + klen) {
                 return Way::Old;
             }
             Way::Falls
         }
-        Order::Greater => Way::Falls,
+        Ordering::Greater => Way::Falls,
     }
 }
 
 // ---- the sweep
 
 // Sweeps a record list whose history pages are to stand from next on; p is the length of the page's prefix.
-pub fn sweep_list(list: &[u8], p: usize, next: usize, limit: usize, budget: usize) -> Swept
+pub fn sweep_list(
+    list: &[u8],
+    p: usize,
+    next: usize,
+    limit: usize,
+    budget: usize,
+) -> Option<(Tally, Pages, usize, usize)>
     requires limit_le_max_limit { (limit ≤ max_limit) × (budget ≤ max_budget) }
     requires next_bound { next ≤ 9223372036854775807 }
     ensures { SweptBy list.now p next limit budget result }
@@ -289,11 +282,11 @@ pub fn sweep_list(list: &[u8], p: usize, next: usize, limit: usize, budget: usiz
         remote: 0,
     };
     while at < n {
-        let Ent::At(k, v) = ent_at(list, at) else {
-            return Swept::Not;
+        let Some((k, v)) = ent_at(list, at) else {
+            return None;
         };
         if BaseHeader::MAX_ENTRIES <= t.heads + t.olds {
-            return Swept::Not;
+            return None;
         }
         let here = at + 2;
         let past = here + k + 16 + v;
@@ -314,43 +307,36 @@ pub fn sweep_list(list: &[u8], p: usize, next: usize, limit: usize, budget: usiz
                 at = past;
             }
             Way::Falls => {
-                return Swept::Not;
+                return None;
             }
         }
     }
-    Swept::Fits(t, closed(g), kat, klen)
+    Some((t, closed(g), kat, klen))
 }
 
 // ---- an index list
 
-// What a sweep over an index list finds: how many entries, the size of all records and the place of the last key; or that the list is refused.
-#[derive(Clone, Copy)]
-pub enum IndexSwept {
-    Fits(usize, usize, usize, usize),
-    Not,
-}
-
 // An entry of an index list, by the length of its key; it has no value.
-fn index_ent(s: &[u8], at: usize) -> Ent
+fn index_ent(s: &[u8], at: usize) -> Option<(usize, usize)>
     requires { at ≤ length s.now }
     ensures { result ≡ index_ent_at s.now at }
 {
     let n = s.len() - at;
     if n < 10 {
-        return Ent::Out;
+        return None;
     }
     let klen = numbers::read_u16_be(s, at) as usize;
     if BaseHeader::MAX_KEY < klen {
-        return Ent::Out;
+        return None;
     }
     if n - 10 < klen {
-        return Ent::Out;
+        return None;
     }
-    Ent::At(klen, 0)
+    Some((klen, 0))
 }
 
 // Sweeps an index list; p is the length of the page's prefix.
-pub fn sweep_index(list: &[u8], p: usize) -> IndexSwept
+pub fn sweep_index(list: &[u8], p: usize) -> Option<(usize, usize, usize, usize)>
     ensures { IndexSweptBy list.now p result }
 {
     let len = list.len();
@@ -361,15 +347,15 @@ pub fn sweep_index(list: &[u8], p: usize) -> IndexSwept
     let mut n: usize = 0;
     let mut sums: usize = 0;
     while at < len {
-        let Ent::At(k, _) = index_ent(list, at) else {
-            return IndexSwept::Not;
+        let Some((k, _)) = index_ent(list, at) else {
+            return None;
         };
         if BaseHeader::MAX_ENTRIES <= n {
-            return IndexSwept::Not;
+            return None;
         }
         let here = at + 2;
         if !order::is_less(order_at(list, seen, kat, klen, here, k)) {
-            return IndexSwept::Not;
+            return None;
         }
         sums += values::index_key_size(spans::less(k, p) as u16) + 8;
         n += 1;
@@ -378,7 +364,7 @@ pub fn sweep_index(list: &[u8], p: usize) -> IndexSwept
         klen = k;
         at = here + k + 8;
     }
-    IndexSwept::Fits(n, sums, kat, klen)
+    Some((n, sums, kat, klen))
 }
 
 // ---- between the boundaries

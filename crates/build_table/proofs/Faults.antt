@@ -20,17 +20,16 @@ use Rattle.build_image.specs.declared.Call.{Call}
 use Rattle.build_image.specs.Image.{Borders}
 use Rattle.build_bounds.specs.declared.Boundaries.{Boundaries}
 use Rattle.build_bounds.specs.Boundaries.{bounds_of}
-use Rattle.build_sweep.specs.declared.Swept.{Swept}
-use Rattle.build_sweep.specs.declared.IndexSwept.{IndexSwept}
 use Rattle.build_sweep.specs.Swept.{listed, plain, SweptBy, IndexSweptBy}
-use Rattle.build_table.specs.declared.LeafVerdict.{LeafVerdict}
-use Rattle.build_table.specs.declared.IndexVerdict.{IndexVerdict}
 use Rattle.build_table.specs.Index.{Held, index_verdict}
 use Rattle.build_table.specs.Leaf.{leaf_verdict}
 use Rattle.build_table.specs.Table.{of_list, outside_of, refusal_of}
 use Rattle.build_table.proofs.Judging.{index_six, index_outside, index_many}
 use Rattle.build_table.proofs.Leafing.{leaf_six, leaf_outside, leaf_many}
 use Rattle.build_table.proofs.Listing.{of_by, not_two, one_two}
+use Rattle.std.proofs.Common.{Option, None, Err}
+use Rattle.build_sweep.specs.declared.Pages.{Pages}
+use Rattle.build_sweep.specs.declared.Tally.{Tally}
 
 -- ---- the passes' answer, one law a return
 
@@ -100,28 +99,28 @@ module _ (l w : List ℕ) (len next : ℕ) (lo hi : List ℕ) (e : Boundaries) (
 
   -- a record list
   module _ (m : Call) (ec : c ≡ first_of 0) where
-    leaf_by : Wrong l w 0 bs → LeafVerdict.No v ≡ of_list l w 0 (LeafVerdict.No BadList) (leaf_verdict len next m bs)
+    leaf_by : Wrong l w 0 bs → Err v ≡ of_list l w 0 (Err BadList) (leaf_verdict len next m bs)
     leaf_by x =
-        ap LeafVerdict.No (ev ∙ ap (λ (d : Cursor). refusal_of l w d bs) ec)
-        ∙ is_refused LeafVerdict.No l w 0 bs (leaf_verdict len next m bs) x (leaf_six m lo hi w e h len next (entries l w (first_of 0))) (leaf_outside m lo hi w e h len next (entries l w (first_of 0)))
+        ap Err (ev ∙ ap (λ (d : Cursor). refusal_of l w d bs) ec)
+        ∙ is_refused Err l w 0 bs (leaf_verdict len next m bs) x (leaf_six m lo hi w e h len next (entries l w (first_of 0))) (leaf_outside m lo hi w e h len next (entries l w (first_of 0)))
         (λ q r. leaf_many m lo hi w e h len next (entries l w (first_of 0)) q r (length (entries l w (first_of 0))) refl)
 
-    pub leaf_not : (p at limit budget : ℕ) (r : Swept) → SweptBy l p at limit budget r → r ≡ Swept.Not → LeafVerdict.No v ≡ of_list l w 0 (LeafVerdict.No BadList) (leaf_verdict len next m bs)
+    pub leaf_not : (p at limit budget : ℕ) (r : Option (Tally × Pages × ℕ × ℕ)) → SweptBy l p at limit budget r → r ≡ None → Err v ≡ of_list l w 0 (Err BadList) (leaf_verdict len next m bs)
     leaf_not p at limit budget r k z = leaf_by (not_plain l w 0 bs not_two (rw z at k))
 
-    pub leaf_apart : enclosed bs.lo bs.hi (entries l w (first_of 0)) ≡ false → LeafVerdict.No v ≡ of_list l w 0 (LeafVerdict.No BadList) (leaf_verdict len next m bs)
+    pub leaf_apart : enclosed bs.lo bs.hi (entries l w (first_of 0)) ≡ false → Err v ≡ of_list l w 0 (Err BadList) (leaf_verdict len next m bs)
     leaf_apart i = leaf_by (not_inside l w 0 bs i)
 
   -- an index list
   module _ (ec : c ≡ first_of 1) where
-    index_by : Wrong l w 1 bs → IndexVerdict.No v ≡ of_list l w 1 (IndexVerdict.No BadList) (index_verdict len next bs e)
+    index_by : Wrong l w 1 bs → Err v ≡ of_list l w 1 (Err BadList) (index_verdict len next bs e)
     index_by x =
-        ap IndexVerdict.No (ev ∙ ap (λ (d : Cursor). refusal_of l w d bs) ec)
-        ∙ is_refused IndexVerdict.No l w 1 bs (index_verdict len next bs e) x (index_six len next lo hi w e h (entries l w (first_of 1))) (index_outside len next lo hi w e h (entries l w (first_of 1)))
+        ap Err (ev ∙ ap (λ (d : Cursor). refusal_of l w d bs) ec)
+        ∙ is_refused Err l w 1 bs (index_verdict len next bs e) x (index_six len next lo hi w e h (entries l w (first_of 1))) (index_outside len next lo hi w e h (entries l w (first_of 1)))
         (λ q r. index_many len next lo hi w e h (entries l w (first_of 1)) q r (length (entries l w (first_of 1))) refl)
 
-    pub index_not : (p : ℕ) (r : IndexSwept) → IndexSweptBy l p r → r ≡ IndexSwept.Not → IndexVerdict.No v ≡ of_list l w 1 (IndexVerdict.No BadList) (index_verdict len next bs e)
+    pub index_not : (p : ℕ) (r : Option (ℕ × ℕ × ℕ × ℕ)) → IndexSweptBy l p r → r ≡ None → Err v ≡ of_list l w 1 (Err BadList) (index_verdict len next bs e)
     index_not p r k z = index_by (not_plain l w 1 bs one_two (rw z at k))
 
-    pub index_apart : enclosed bs.lo bs.hi (entries l w (first_of 1)) ≡ false → IndexVerdict.No v ≡ of_list l w 1 (IndexVerdict.No BadList) (index_verdict len next bs e)
+    pub index_apart : enclosed bs.lo bs.hi (entries l w (first_of 1)) ≡ false → Err v ≡ of_list l w 1 (Err BadList) (index_verdict len next bs e)
     index_apart i = index_by (not_inside l w 1 bs i)

@@ -18,10 +18,10 @@ use Rattle.build_bounds.specs.declared.Boundaries.{Boundaries}
 use Rattle.build_bounds.specs.Boundaries.{boundary_bytes, bounds_of}
 use Rattle.build_index.proofs.Penning.{sums_part}
 use Rattle.build_index.proofs.Children.{count-is, count-all}
-use Rattle.build_table.specs.declared.IndexVerdict.{IndexVerdict}
-use Rattle.build_table.specs.declared.IndexVerdict.TheVariants.{No}
 use Rattle.build_table.specs.Index.{Held, index_verdict, index_weighed}
 use Rattle.build_table.proofs.Judging.{index_many, index_weighed_lem}
+use Rattle.std.proofs.Common.{Result, Err}
+use Rattle.frames.specs.declared.Refusal.{Refusal}
 
 module _ (w : List ℕ) (b : Body) (from end : ℕ) (d : Body) (count : ℕ) (gb : Judged w b 1) (gd : Judged w d 1) (up : from ≤ end) (ub : end ≤ b.elems) (ud : count ≤ d.elems) where
   abbrev xs : List Entry
@@ -35,11 +35,11 @@ module _ (w : List ℕ) (b : Body) (from end : ℕ) (d : Body) (count : ℕ) (gb
 
   module _ (len next : ℕ) (none : List ℕ) (e : Boundaries) (h : Held none none w e) (h6 : rising (index_entries w b (end - from) from ++ index_entries w d count 0) ≡ true)
       (h10 : enclosed (boundary_bytes none w e.lo) (boundary_bytes none w e.hi) (index_entries w b (end - from) from ++ index_entries w d count 0) ≡ true) where
-    pub pages-many : max_entries < end - from + count → No TooBig ≡ index_verdict len next (bounds_of none none w e) e (index_entries w b (end - from) from ++ index_entries w d count 0)
+    pub pages-many : max_entries < end - from + count → Err TooBig ≡ index_verdict len next (bounds_of none none w e) e (index_entries w b (end - from) from ++ index_entries w d count 0)
     pages-many q = index_many len next none none w e h (xs ++ ys) h6 h10 (end - from + count) both_long q
 
     pub pages-weighed : end - from + count ≤ max_entries → (x y : ℕ) → x ≡ index_sums e.prefix (index_entries w b (end - from) from) → y ≡ index_sums e.prefix (index_entries w d (count - 0) 0)
-        → (v : IndexVerdict) → v ≡ index_weighed len next e.lo.len e.hi.len (end - from + count) (x + y)
+        → (v : Result (ℕ × ℕ) Refusal) → v ≡ index_weighed len next e.lo.len e.hi.len (end - from + count) (x + y)
         → v ≡ index_verdict len next (bounds_of none none w e) e (index_entries w b (end - from) from ++ index_entries w d count 0)
     pages-weighed f x y ex ey v ev =
         let z : count - 0 ≡ count = omega arith in

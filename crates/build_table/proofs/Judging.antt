@@ -31,13 +31,11 @@ use Rattle.build_bounds.specs.declared.Boundaries.{Boundaries}
 use Rattle.build_bounds.specs.Boundaries.{Within, BothWithin, boundary_bytes, bounds_of}
 use Rattle.build_bounds.proofs.Laws.{length_boundary}
 use Rattle.build_index.specs.Parts.{Ready}
-use Rattle.build_table.specs.declared.IndexVerdict.{IndexVerdict}
-use Rattle.build_table.specs.declared.IndexVerdict.TheVariants.{Fits, No}
-use Rattle.build_image.specs.declared.Built.TheVariants.{At, Refused}
 use Rattle.build_image.specs.Table.{Row, row, judged}
 use Rattle.build_table.specs.Table.{entry_rows, outside_of, apart_of}
 use Rattle.build_table.specs.Index.{Held, index_verdict, index_weighed, index_end, index_rows, index_answer, index_arena}
 use Rattle.build_image.proofs.Tables.{All, all_go, refuses, passes}
+use Rattle.std.proofs.Common.{Result, Ok, Err}
 
 pub and_both : (x y : Bool) → x && y ≡ true → (x ≡ true) × (y ≡ true)
 and_both true y e = (refl, e)
@@ -142,20 +140,20 @@ module _ (len next : ℕ) (lo hi w : List ℕ) (e : Boundaries) (h : Held lo hi 
   abbrev bs : Borders
   bs = bounds_of lo hi w e
 
-  pub index_six : rising es ≡ false → No OutOfOrder ≡ index_verdict len next bs e es
+  pub index_six : rising es ≡ false → Err OutOfOrder ≡ index_verdict len next bs e es
   unfolding index_verdict
-  index_six q = let s = index_size_at e.lo.len e.hi.len e.prefix es in at_six true bs es s (next + frame_len s) len No (Fits (length es) s) q
+  index_six q = let s = index_size_at e.lo.len e.hi.len e.prefix es in at_six true bs es s (next + frame_len s) len Err (Ok (length es, s)) q
 
   module _ (h6 : rising es ≡ true) where
-    pub index_outside : enclosed bs.lo bs.hi es ≡ false → No (outside_of (take bs.prefix bs.lo) es) ≡ index_verdict len next bs e es
+    pub index_outside : enclosed bs.lo bs.hi es ≡ false → Err (outside_of (take bs.prefix bs.lo) es) ≡ index_verdict len next bs e es
     unfolding index_verdict
-    index_outside q = let s = index_size_at e.lo.len e.hi.len e.prefix es in at-outside true bs es s (next + frame_len s) len No (Fits (length es) s) h6 q
+    index_outside q = let s = index_size_at e.lo.len e.hi.len e.prefix es in at-outside true bs es s (next + frame_len s) len Err (Ok (length es, s)) h6 q
 
     module _ (h10 : enclosed bs.lo bs.hi es ≡ true) (n : ℕ) (en : n ≡ length es) where
       h7 : prefixed (take bs.prefix bs.lo) es ≡ true
       h7 = held-prefixed lo hi w e h es h10
 
-      pub index_many : max_entries < n → No TooBig ≡ index_verdict len next bs e es
+      pub index_many : max_entries < n → Err TooBig ≡ index_verdict len next bs e es
       unfolding index_verdict
       index_many q = rw (h6, h7, h10, lt-leb (length es) max_entries (rw en at q)) refl
 
@@ -166,7 +164,7 @@ module _ (len next : ℕ) (lo hi w : List ℕ) (e : Boundaries) (h : Held lo hi 
         few : leb (length es) max_entries ≡ true
         few = le-leb (length es) max_entries (rw en at h8)
 
-        index_large : max_size < base_len + 4 * n + e.lo.len + e.hi.len + s → No TooBig ≡ index_verdict len next bs e es
+        index_large : max_size < base_len + 4 * n + e.lo.len + e.hi.len + s → Err TooBig ≡ index_verdict len next bs e es
         unfolding index_verdict
         index_large q = rw (h6, h7, h10, few, lt-leb (index_size_at e.lo.len e.hi.len e.prefix es) max_size (rw size_is at q)) refl
 
@@ -177,13 +175,13 @@ module _ (len next : ℕ) (lo hi w : List ℕ) (e : Boundaries) (h : Held lo hi 
           room-is : (t : Bool) → t ≡ leb (next + x) len → leb (next + frame_len (index_size_at e.lo.len e.hi.len e.prefix es)) len ≡ t
           room-is t q = sym (q ∙ ap (λ (k : ℕ). leb (next + k) len) (ex ∙ ap frame_len size_is))
 
-          index_full : (t : Bool) → t ≡ leb (next + x) len → t ≡ false → No NoRoom ≡ index_verdict len next bs e es
+          index_full : (t : Bool) → t ≡ leb (next + x) len → t ≡ false → Err NoRoom ≡ index_verdict len next bs e es
           unfolding index_verdict
           index_full t q f = rw (h6, h7, h10, few, small, room-is t q ∙ f) refl
 
-          index_fits : (t : Bool) → t ≡ leb (next + x) len → t ≡ true → Fits n (base_len + 4 * n + e.lo.len + e.hi.len + s) ≡ index_verdict len next bs e es
+          index_fits : (t : Bool) → t ≡ leb (next + x) len → t ≡ true → Ok (n, base_len + 4 * n + e.lo.len + e.hi.len + s) ≡ index_verdict len next bs e es
           unfolding index_verdict
-          index_fits t q f = rw (h6, h7, h10, few, small, room-is t q ∙ f) (ap₂ Fits en size_is)
+          index_fits t q f = rw (h6, h7, h10, few, small, room-is t q ∙ f) (ap₂ (λ x0 x1. Ok (x0, x1)) en size_is)
 
 -- ---- 8 and 9, weighed
 
@@ -191,7 +189,7 @@ module _ (len next x y n s : ℕ) where
   abbrev total : ℕ
   total = base_len + 4 * n + x + y + s
 
-  pub weigh_index_large : max_size < total → No TooBig ≡ index_weighed len next x y n s
+  pub weigh_index_large : max_size < total → Err TooBig ≡ index_weighed len next x y n s
   unfolding index_weighed
   weigh_index_large q = rw (lt-leb total max_size q) refl
 
@@ -199,11 +197,11 @@ module _ (len next x y n s : ℕ) where
     fits-is : leb (next + frame_len total) len ≡ t
     fits-is = sym (et ∙ ap (λ (k : ℕ). leb (next + k) len) ef)
 
-    pub weigh_index_full : t ≡ false → No NoRoom ≡ index_weighed len next x y n s
+    pub weigh_index_full : t ≡ false → Err NoRoom ≡ index_weighed len next x y n s
     unfolding index_weighed
     weigh_index_full q = rw (le-leb total max_size hs, fits-is ∙ q) refl
 
-    pub weigh_index_fits : t ≡ true → Fits n total ≡ index_weighed len next x y n s
+    pub weigh_index_fits : t ≡ true → Ok (n, total) ≡ index_weighed len next x y n s
     unfolding index_weighed
     weigh_index_fits q = rw (le-leb total max_size hs, fits-is ∙ q) refl
 
@@ -237,10 +235,10 @@ same_end : (next : ℕ) (m : Call) (b : Borders) (es : List Entry) → next + fr
 unfolding index_end
 same_end next m b es = ap (λ (k : ℕ). next + k) (sym (length_index m b es))
 
-apart : (n s : ℕ) (r : Refusal) → Fits n s ≡ No r → ⊥
+apart : (n s : ℕ) (r : Refusal) → ◌≡◌ {A = Result (ℕ × ℕ) Refusal} (Ok (n, s)) Err r → ⊥
 apart n s r e = absurd (let z : ◌≡◌ {A = ℕ} 0 1 = cc in omega arith)
 
-one_no : (r q : Refusal) → No r ≡ No q → r ≡ q
+one_no : (r q : Refusal) → Err r ≡ Err q → r ≡ q
 one_no r q e = cc
 
 module _ (a : List ℕ) (next : ℕ) (m : Call) (lo hi : List ℕ) (e : Boundaries) (es : List Entry) (le : next ≤ length a) (h : Held lo hi (take next a) e) where
@@ -251,24 +249,24 @@ module _ (a : List ℕ) (next : ℕ) (m : Call) (lo hi : List ℕ) (e : Boundari
   rows = index_rows (length a) next m b es
 
   -- the judge's rows are the table's
-  judge_is : index_verdict (length a) next b e es ≡ judged rows No (Fits (length es) (index_size b es))
+  judge_is : index_verdict (length a) next b e es ≡ judged rows Err (Ok (length es, index_size b es))
   unfolding index_verdict
   judge_is =
-      ap (λ (s : ℕ). judged (entry_rows true b es s (next + frame_len s) (length a)) No (Fits (length es) s)) (same_size lo hi (take next a) e es h.inside)
-      ∙ ap (λ (x : ℕ). judged (entry_rows true b es (index_size b es) x (length a)) No (Fits (length es) (index_size b es))) (same_end next m b es)
+      ap (λ (s : ℕ). judged (entry_rows true b es s (next + frame_len s) (length a)) Err (Ok (length es, s))) (same_size lo hi (take next a) e es h.inside)
+      ∙ ap (λ (x : ℕ). judged (entry_rows true b es (index_size b es) x (length a)) Err (Ok (length es, index_size b es))) (same_end next m b es)
 
-  module _ (v : IndexVerdict) (ev : v ≡ index_verdict (length a) next b e es) where
-    pub index_refused : (r : Refusal) → v ≡ No r → (Refused r ≡ index_answer a next m b es) × (a ≡ index_arena a next m b es)
+  module _ (v : Result (ℕ × ℕ) Refusal) (ev : v ≡ index_verdict (length a) next b e es) where
+    pub index_refused : (r : Refusal) → v ≡ Err r → (Err r ≡ index_answer a next m b es) × (a ≡ index_arena a next m b es)
     unfolding index_answer index_arena
     index_refused r q =
         let z = sym (ev ∙ judge_is) ∙ q in (
-          sym (refuses No (Fits (length es) (index_size b es)) (apart (length es) (index_size b es)) one_no rows r Refused (At (addr next) (index_end next m b es)) z),
-          sym (refuses No (Fits (length es) (index_size b es)) (apart (length es) (index_size b es)) one_no rows r (λ (k : Refusal). a) (put a next (index_image m b es)) z),
+          sym (refuses Err (Ok (length es, index_size b es)) (apart (length es) (index_size b es)) one_no rows r Err (Ok (addr next, index_end next m b es)) z),
+          sym (refuses Err (Ok (length es, index_size b es)) (apart (length es) (index_size b es)) one_no rows r (λ (k : Refusal). a) (put a next (index_image m b es)) z),
         )
 
-    module _ (n s : ℕ) (q : v ≡ Fits n s) where
-      passed : (Fits (length es) (index_size b es) ≡ Fits n s) × All rows
-      passed = passes No (Fits (length es) (index_size b es)) rows (Fits n s) (λ r z. apart n s r (sym z)) (sym (ev ∙ judge_is) ∙ q)
+    module _ (n s : ℕ) (q : v ≡ Ok (n, s)) where
+      passed : (◌≡◌ {A = Result (ℕ × ℕ) Refusal} (Ok (length es, index_size b es)) (Ok (n, s))) × All rows
+      passed = passes Err (Ok (length es, index_size b es)) rows (Ok (n, s)) (λ r z. apart n s r (sym z)) (sym (ev ∙ judge_is) ∙ q)
 
       n-is : n ≡ length es
       n-is = let z = passed.0 in cc
@@ -299,9 +297,9 @@ module _ (a : List ℕ) (next : ℕ) (m : Call) (lo hi : List ℕ) (e : Boundari
       pub index_small : s ≤ max_size
       index_small = index_ready.small
 
-      pub index_built_lem : (a₁ : List ℕ) (x : ℕ) → a₁ ≡ put a next (index_image m b es) → x ≡ frame_len s → (At (addr next) (next + x) ≡ index_answer a next m b es) × (a₁ ≡ index_arena a next m b es)
+      pub index_built_lem : (a₁ : List ℕ) (x : ℕ) → a₁ ≡ put a next (index_image m b es) → x ≡ frame_len s → (Ok (addr next, next + x) ≡ index_answer a next m b es) × (a₁ ≡ index_arena a next m b es)
       unfolding index_answer index_arena
       index_built_lem a₁ x p ex = (
-        ap (λ (k : ℕ). At (addr next) (next + k)) (ex ∙ ap frame_len s_is) ∙ ap (At (addr next)) (same_end next m b es) ∙ sym (all_go rows Refused (At (addr next) (index_end next m b es)) passed.1),
+        ap (λ (k : ℕ). Ok (addr next, next + k)) (ex ∙ ap frame_len s_is) ∙ ap ((λ x0 x1. Ok (x0, x1)) (addr next)) (same_end next m b es) ∙ sym (all_go rows Err (Ok (addr next, index_end next m b es)) passed.1),
         p ∙ sym (all_go rows (λ (k : Refusal). a) (put a next (index_image m b es)) passed.1),
       )

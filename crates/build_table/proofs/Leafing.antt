@@ -33,15 +33,13 @@ use Rattle.build_sweep.specs.Pages.{pages_of}
 use Rattle.build_sweep.proofs.Tallying.{heads_are, olds_are, sums_are, counted_are, remotes_are, aged_are, remote-is}
 use Rattle.build_totals.proofs.Paged.{hist_remotes}
 use Rattle.build_leaf.specs.Leaf.{Small}
-use Rattle.build_table.specs.declared.LeafVerdict.{LeafVerdict}
-use Rattle.build_table.specs.declared.LeafVerdict.TheVariants.{Fits, No}
-use Rattle.build_image.specs.declared.Built.TheVariants.{At, Refused}
 use Rattle.build_image.specs.Table.{Row, judged}
 use Rattle.build_table.specs.Table.{outside_of}
 use Rattle.build_table.specs.Index.{Held}
 use Rattle.build_table.specs.Leaf.{leaf_end, leaf_rows, leaf_answer, leaf_arena, leaf_verdict, weighed}
 use Rattle.build_image.proofs.Tables.{All, all_go, refuses, passes}
 use Rattle.build_table.proofs.Judging.{and_both, held-shared, held-long, held-prefixed, at_six, at-outside}
+use Rattle.std.proofs.Common.{Result, Ok, Err}
 
 -- ---- the totals, field by field
 
@@ -122,20 +120,20 @@ module _ (m : Call) (lo hi w : List ℕ) (e : Boundaries) (h : Held lo hi w e) (
   abbrev b : Borders
   b = bounds_of lo hi w e
 
-  pub leaf_six : rising es ≡ false → No OutOfOrder ≡ leaf_verdict len next m b es
+  pub leaf_six : rising es ≡ false → Err OutOfOrder ≡ leaf_verdict len next m b es
   unfolding leaf_verdict
-  leaf_six q = at_six true b es (leaf_size m b es + leaf_room m es) (leaf_end next m b es) len No (Fits (totals_of m b next es)) q
+  leaf_six q = at_six true b es (leaf_size m b es + leaf_room m es) (leaf_end next m b es) len Err (Ok (totals_of m b next es)) q
 
   module _ (h6 : rising es ≡ true) where
-    pub leaf_outside : enclosed b.lo b.hi es ≡ false → No (outside_of (take b.prefix b.lo) es) ≡ leaf_verdict len next m b es
+    pub leaf_outside : enclosed b.lo b.hi es ≡ false → Err (outside_of (take b.prefix b.lo) es) ≡ leaf_verdict len next m b es
     unfolding leaf_verdict
-    leaf_outside q = at-outside true b es (leaf_size m b es + leaf_room m es) (leaf_end next m b es) len No (Fits (totals_of m b next es)) h6 q
+    leaf_outside q = at-outside true b es (leaf_size m b es + leaf_room m es) (leaf_end next m b es) len Err (Ok (totals_of m b next es)) h6 q
 
     module _ (h10 : enclosed b.lo b.hi es ≡ true) (n : ℕ) (en : n ≡ length es) where
       h7 : prefixed (take b.prefix b.lo) es ≡ true
       h7 = held-prefixed lo hi w e h es h10
 
-      pub leaf_many : max_entries < n → No TooBig ≡ leaf_verdict len next m b es
+      pub leaf_many : max_entries < n → Err TooBig ≡ leaf_verdict len next m b es
       unfolding leaf_verdict
       leaf_many q = rw (h6, h7, h10, lt-leb (length es) max_entries (rw en at q)) refl
 
@@ -183,7 +181,7 @@ module _ (m : Call) (lo hi w : List ℕ) (e : Boundaries) (h : Held lo hi w e) (
         pay_is : size + room ≡ leaf_size m b es + leaf_room m es
         pay_is = ap₂ (λ (x y : ℕ). x + y) size_is room-is
 
-        leaf_large : max_size < size + room → No TooBig ≡ leaf_verdict len next m b es
+        leaf_large : max_size < size + room → Err TooBig ≡ leaf_verdict len next m b es
         unfolding leaf_verdict
         leaf_large q = rw (h6, h7, h10, few, lt-leb (leaf_size m b es + leaf_room m es) max_size (rw pay_is at q)) refl
 
@@ -194,18 +192,18 @@ module _ (m : Call) (lo hi w : List ℕ) (e : Boundaries) (h : Held lo hi w e) (
           end_is : g.end + x + tl.remote ≡ leaf_end next m b es
           end_is = end_by_lem m b next es g.end x tl.remote leaf_is (ex ∙ ap frame_len pay_is) remotes_len_is
 
-          leaf_full : len < g.end + x + tl.remote → No NoRoom ≡ leaf_verdict len next m b es
+          leaf_full : len < g.end + x + tl.remote → Err NoRoom ≡ leaf_verdict len next m b es
           unfolding leaf_verdict
           leaf_full q = rw (h6, h7, h10, few, small, lt-leb (leaf_end next m b es) len (rw end_is at q)) refl
 
-          fit_by : g.end + x + tl.remote ≤ len → Fits (totals_of m b next es) ≡ leaf_verdict len next m b es
+          fit_by : g.end + x + tl.remote ≤ len → Ok (totals_of m b next es) ≡ leaf_verdict len next m b es
           unfolding leaf_verdict
           fit_by q = rw (h6, h7, h10, few, small, le-leb (leaf_end next m b es) len (rw end_is at q)) refl
 
           leaf_fits : g.end + x + tl.remote ≤ len
-              → Fits (record { heads = tl.heads; olds = tl.olds; pages = g.count; remotes = tl.remotes; aged = tl.aged; size = size; room = room; leaf = g.end; end = g.end + x + tl.remote }) ≡ leaf_verdict len next m b es
+              → Ok (record { heads = tl.heads; olds = tl.olds; pages = g.count; remotes = tl.remotes; aged = tl.aged; size = size; room = room; leaf = g.end; end = g.end + x + tl.remote }) ≡ leaf_verdict len next m b es
           leaf_fits q =
-              ap Fits
+              ap Ok
               (totals_by m b next es tl.heads tl.olds g.count tl.remotes tl.aged size room g.end (g.end + x + tl.remote) heads-is olds-is pages-is remotes-is aged-is size_is room-is
               (leaf_by m next es g.end leaf_is) end_is)
               ∙ fit_by q
@@ -216,17 +214,17 @@ module _ (len x y : ℕ) (t : Tally) (g : Pages) (room : ℕ) (er : room ≡ roo
   abbrev all : ℕ
   all = base_len + 4 * t.heads + x + y + t.sums
 
-  pub weigh_large : max_size < all + room → No TooBig ≡ weighed len x y t g
+  pub weigh_large : max_size < all + room → Err TooBig ≡ weighed len x y t g
   unfolding weighed
   weigh_large q = rw (sym er, lt-leb (all + room) max_size q) refl
 
   module _ (hs : all + room ≤ max_size) (f : ℕ) (ef : f ≡ frame_len (all + room)) where
-    pub weigh_full : len < g.end + f + t.remote → No NoRoom ≡ weighed len x y t g
+    pub weigh_full : len < g.end + f + t.remote → Err NoRoom ≡ weighed len x y t g
     unfolding weighed
     weigh_full q = rw (sym er, le-leb (all + room) max_size hs, sym ef, lt-leb (g.end + f + t.remote) len q) refl
 
     pub weigh_fits : g.end + f + t.remote ≤ len
-        → Fits (record { heads = t.heads; olds = t.olds; pages = g.count; remotes = t.remotes; aged = t.aged; size = all; room = room; leaf = g.end; end = g.end + f + t.remote }) ≡ weighed len x y t g
+        → Ok (record { heads = t.heads; olds = t.olds; pages = g.count; remotes = t.remotes; aged = t.aged; size = all; room = room; leaf = g.end; end = g.end + f + t.remote }) ≡ weighed len x y t g
     unfolding weighed
     weigh_fits q = rw (sym er, le-leb (all + room) max_size hs, sym ef, le-leb (g.end + f + t.remote) len q) refl
 
@@ -257,13 +255,13 @@ module _ (m : Call) (lo hi w : List ℕ) (e : Boundaries) (h : Held lo hi w e) (
 
 -- ---- what is built
 
-apart : (t : Totals) (r : Refusal) → Fits t ≡ No r → ⊥
+apart : (t : Totals) (r : Refusal) → Ok t ≡ Err r → ⊥
 apart t r e = absurd (let z : ◌≡◌ {A = ℕ} 0 1 = cc in omega arith)
 
-one_no : (r q : Refusal) → No r ≡ No q → r ≡ q
+one_no : (r q : Refusal) → Err r ≡ Err q → r ≡ q
 one_no r q e = cc
 
-one_fit : (t u : Totals) → Fits t ≡ Fits u → t ≡ u
+one_fit : (t u : Totals) → Ok t ≡ Ok u → t ≡ u
 one_fit t u e = cc
 
 module _ (a : List ℕ) (next : ℕ) (m : Call) (lo hi : List ℕ) (e : Boundaries) (h : Held lo hi (take next a) e) (es : List Entry) where
@@ -276,22 +274,22 @@ module _ (a : List ℕ) (next : ℕ) (m : Call) (lo hi : List ℕ) (e : Boundari
   abbrev tot : Totals
   tot = totals_of m bs next es
 
-  judge_is : leaf_verdict (length a) next m bs es ≡ judged rows No (Fits tot)
+  judge_is : leaf_verdict (length a) next m bs es ≡ judged rows Err (Ok tot)
   unfolding leaf_verdict
   judge_is = refl
 
-  module _ (v : LeafVerdict) (ev : v ≡ leaf_verdict (length a) next m bs es) where
-    pub leaf_refused : (r : Refusal) → v ≡ No r → (Refused r ≡ leaf_answer a next m bs es) × (a ≡ leaf_arena a next m bs es)
+  module _ (v : Result Totals Refusal) (ev : v ≡ leaf_verdict (length a) next m bs es) where
+    pub leaf_refused : (r : Refusal) → v ≡ Err r → (Err r ≡ leaf_answer a next m bs es) × (a ≡ leaf_arena a next m bs es)
     unfolding leaf_answer leaf_arena
     leaf_refused r q =
         let z = sym (ev ∙ judge_is) ∙ q in (
-          sym (refuses No (Fits tot) (apart tot) one_no rows r Refused (At (addr (leaf_at m next es)) (leaf_end next m bs es)) z),
-          sym (refuses No (Fits tot) (apart tot) one_no rows r (λ (k : Refusal). a) (put a next (leaf_image m bs next es)) z),
+          sym (refuses Err (Ok tot) (apart tot) one_no rows r Err (Ok (addr (leaf_at m next es), leaf_end next m bs es)) z),
+          sym (refuses Err (Ok tot) (apart tot) one_no rows r (λ (k : Refusal). a) (put a next (leaf_image m bs next es)) z),
         )
 
-    module _ (t : Totals) (q : v ≡ Fits t) where
-      passed : (Fits tot ≡ Fits t) × All rows
-      passed = passes No (Fits tot) rows (Fits t) (λ r z. apart t r (sym z)) (sym (ev ∙ judge_is) ∙ q)
+    module _ (t : Totals) (q : v ≡ Ok t) where
+      passed : (Ok tot ≡ Ok t) × All rows
+      passed = passes Err (Ok tot) rows (Ok t) (λ r z. apart t r (sym z)) (sym (ev ∙ judge_is) ∙ q)
 
       pub leaf_totals : t ≡ totals_of m (bounds_of lo hi (take next a) e) next es
       leaf_totals = sym (one_fit tot t passed.0)
@@ -321,10 +319,10 @@ module _ (a : List ℕ) (next : ℕ) (m : Call) (lo hi : List ℕ) (e : Boundari
       pub leaf_room_lem : t.end ≤ length a
       leaf_room_lem = let k : leaf_end next m bs es ≤ length a = leb-true (leaf_end next m bs es) (length a) passed.1.1.1.1.1.0 in omega (arith, k, end-at)
 
-      pub leaf_built_lem : (a₁ : List ℕ) (x : ℕ) → x ≡ t.leaf → a₁ ≡ put a next (leaf_image m bs next es) → (At (addr x) t.end ≡ leaf_answer a next m bs es) × (a₁ ≡ leaf_arena a next m bs es)
+      pub leaf_built_lem : (a₁ : List ℕ) (x : ℕ) → x ≡ t.leaf → a₁ ≡ put a next (leaf_image m bs next es) → (Ok (addr x, t.end) ≡ leaf_answer a next m bs es) × (a₁ ≡ leaf_arena a next m bs es)
       unfolding leaf_answer leaf_arena
       leaf_built_lem a₁ x ex p = (
-        ap₂ (λ (j k : ℕ). At (addr j) k) (ex ∙ ap (λ (y : Totals). y.leaf) leaf_totals ∙ tot_leaf m bs next es) end-at
-            ∙ sym (all_go rows Refused (At (addr (leaf_at m next es)) (leaf_end next m bs es)) passed.1),
+        ap₂ (λ (j k : ℕ). Ok (addr j, k)) (ex ∙ ap (λ (y : Totals). y.leaf) leaf_totals ∙ tot_leaf m bs next es) end-at
+            ∙ sym (all_go rows Err (Ok (addr (leaf_at m next es), leaf_end next m bs es)) passed.1),
         p ∙ sym (all_go rows (λ (k : Refusal). a) (put a next (leaf_image m bs next es)) passed.1),
       )

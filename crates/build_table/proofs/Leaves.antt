@@ -20,20 +20,20 @@ use Rattle.build_sweep.specs.Tally.{nothing}
 use Rattle.build_sweep.specs.Cuts.{begun, closed_of, Slim}
 use Rattle.build_sweep.specs.Adding.{Adding, Summed}
 use Rattle.build_sweep.proofs.Sweeping.{add_begin, add_slim, add-end}
-use Rattle.build_page_sweep.specs.declared.PageSwept.{PageSwept}
 use Rattle.build_page_sweep.specs.Going.{Due, Goes, Over}
 use Rattle.build_page_sweep.specs.Sweeps.{PageSweptBy}
-use Rattle.build_table.specs.declared.LeafVerdict.{LeafVerdict}
-use Rattle.build_table.specs.declared.LeafVerdict.TheVariants.{No}
 use Rattle.build_table.specs.Leaf.{leaf_verdict, weighed}
 use Rattle.build_table.specs.Pages.{in_leaves, Leaves}
 use Rattle.build_table.proofs.Leafing.{leaf_many, leaf_weighed}
+use Rattle.std.proofs.Common.{Option, Some, None, Result, Err}
+use Rattle.build_totals.specs.declared.Totals.{Totals}
+use Rattle.frames.specs.declared.Refusal.{Refusal}
 
-pub swept_fits : (w : List ℕ) (b : Body) (from end p limit budget : ℕ) (t : Tally) (g : Cut) (r : PageSwept) (u : Tally) (k : Cut) → PageSweptBy w b from end p limit budget t g r → r ≡ PageSwept.Fits u k
+pub swept_fits : (w : List ℕ) (b : Body) (from end p limit budget : ℕ) (t : Tally) (g : Cut) (r : Option (Tally × Cut)) (u : Tally) (k : Cut) → PageSweptBy w b from end p limit budget t g r → r ≡ Some (u, k)
     → Goes p limit budget (leaf_entries w b (end - from) from) t g [] u k
 swept_fits w b from end p limit budget t g r u k h e = rw e at h
 
-pub swept_many : (w : List ℕ) (b : Body) (from end p limit budget : ℕ) (t : Tally) (g : Cut) (r : PageSwept) → PageSweptBy w b from end p limit budget t g r → r ≡ PageSwept.Many
+pub swept_many : (w : List ℕ) (b : Body) (from end p limit budget : ℕ) (t : Tally) (g : Cut) (r : Option (Tally × Cut)) → PageSweptBy w b from end p limit budget t g r → r ≡ None
     → Over p limit budget (leaf_entries w b (end - from) from) t g
 swept_many w b from end p limit budget t g r h e = rw e at h
 
@@ -53,10 +53,10 @@ module _ (o w : List ℕ) (b : Body) (from end : ℕ) (d : Body) (n len next : �
   pub due-first : Due e.prefix m.limit m.budget (leaf_entries w b (end - from) from) nothing (begun next)
   due-first = record { all = es; rest = right; next = next; low = low; adds = first }
 
-  too_many : max_entries < length es → No TooBig ≡ leaf_verdict len next m (bounds_of o o w e) es
+  too_many : max_entries < length es → Err TooBig ≡ leaf_verdict len next m (bounds_of o o w e) es
   too_many q = leaf_many m o o w e l.held len next es l.rises l.inside (length es) refl q
 
-  pub many-first : Over e.prefix m.limit m.budget (leaf_entries w b (end - from) from) nothing (begun next) → No TooBig ≡ leaf_verdict len next m (bounds_of o o w e) es
+  pub many-first : Over e.prefix m.limit m.budget (leaf_entries w b (end - from) from) nothing (begun next) → Err TooBig ≡ leaf_verdict len next m (bounds_of o o w e) es
   many-first x = too_many (x es right next first)
 
   module _ (t : Tally) (g : Cut) (k : Goes e.prefix m.limit m.budget (leaf_entries w b (end - from) from) nothing (begun next) [] t g) where
@@ -74,7 +74,7 @@ module _ (o w : List ℕ) (b : Body) (from end : ℕ) (d : Body) (n len next : �
     pub due-second : Due e.prefix m.limit m.budget (leaf_entries w d (n - 0) 0) t g
     due-second = record { all = es; rest = []; next = next; low = low; adds = second-due }
 
-    pub many-second : Over e.prefix m.limit m.budget (leaf_entries w d (n - 0) 0) t g → No TooBig ≡ leaf_verdict len next m (bounds_of o o w e) es
+    pub many-second : Over e.prefix m.limit m.budget (leaf_entries w d (n - 0) 0) t g → Err TooBig ≡ leaf_verdict len next m (bounds_of o o w e) es
     many-second x = too_many (x es [] next second-due)
 
     module _ (u : Tally) (h : Cut) (q : Goes e.prefix m.limit m.budget (leaf_entries w d (n - 0) 0) t g [] u h) where
@@ -88,6 +88,6 @@ module _ (o w : List ℕ) (b : Body) (from end : ℕ) (d : Body) (n len next : �
         pub summed : Summed es e.prefix next m.limit m.budget u r
         summed = add-end es [] e.prefix next m.limit m.budget u h third refl r er
 
-        pub leaves-weighed : (v : LeafVerdict) → v ≡ weighed len e.lo.len e.hi.len u r → v ≡ leaf_verdict len next m (bounds_of o o w e) es
+        pub leaves-weighed : (v : Result Totals Refusal) → v ≡ weighed len e.lo.len e.hi.len u r → v ≡ leaf_verdict len next m (bounds_of o o w e) es
         leaves-weighed v ev =
             ev ∙ leaf_weighed m o o w e l.held len next es l.rises l.inside (length es) refl summed.few u summed.tally r summed.pages

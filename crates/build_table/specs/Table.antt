@@ -1,11 +1,10 @@
 -- The rows of document 01's table that builds share.
 -- Assumes nothing.
-use Rattle.std.specs.Prelude.{ℕ, List, [], ◌∷◌, Bool, true, false, cond, ◌&&◌, length, take, leb}
+use Rattle.std.specs.Prelude.{ℕ, List, [], ◌∷◌, Bool, true, false, cond, ◌&&◌, length, take, leb, Option, Some, None}
 use Rattle.frames.specs.declared.Refusal.{Refusal}
 use Rattle.frames.specs.declared.Refusal.TheVariants.{BadList, OutOfOrder, WrongPrefix, Outside, TooBig, NoRoom}
 use Rattle.frames.specs.Limits.{max_entries, max_key, max_size}
 use Rattle.build_sources.specs.declared.Cursor.{Cursor}
-use Rattle.build_sources.specs.declared.Started.{Started}
 use Rattle.build_sources.specs.Lists.{begun_of, first_of}
 use Rattle.build_sources.specs.Source.{Entry, entries, well_formed}
 use Rattle.build_sources.specs.Judged.{rising, prefixed, enclosed}
@@ -22,9 +21,9 @@ leaf_limits limit budget lo hi = limits_ok limit budget && bounds_ok lo hi
 
 -- 3 BAD LIST: "version not 1, count not what remains, header or entry cut short, key over 4,096, value over 65,536"; w is what lies
 -- below the next free address
-abbrev pub is_open : Started → Bool
-is_open (Started.From c) = true
-is_open Started.Bad = false
+abbrev pub is_open : Option Cursor → Bool
+is_open (Some c) = true
+is_open None = false
 
 abbrev pub list_ok : List ℕ → List ℕ → ℕ → Bool
 list_ok l w source = is_open (begun_of l source) && well_formed l w (first_of source)

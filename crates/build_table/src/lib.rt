@@ -3,7 +3,7 @@
 // are the calls' own (crate base).
 #![tactic(auto)]
 
-ghost use Rattle.std.specs.Prelude.{◌≡◌, ◌++◌, true, ◌-◌, ◌≤◌, length, take};
+ghost use Rattle.std.specs.Prelude.{◌≡◌, ◌++◌, true, ◌-◌, ◌≤◌, length, take, Err};
 ghost use Rattle.build_sources.specs.Source.{entries};
 ghost use Rattle.build_sources.specs.Judged.{rising, prefixed, enclosed, risen_of};
 ghost use Rattle.law_rows.specs.Rows.{index_entries};
@@ -11,9 +11,6 @@ ghost use Rattle.build_rows.specs.Judged.{Judged};
 ghost use Rattle.build_bounds.specs.Boundaries.{Within, BothWithin, boundary_bytes, boundary_of, bounds_of};
 ghost use Rattle.build_table.specs.Table.{bounds_ok, leaf_limits, of_list, outside_of, apart_of, refusal_of};
 ghost use Rattle.frames.specs.declared.Refusal.{Refusal};
-ghost use Rattle.build_image.specs.declared.Built.{Built};
-ghost use Rattle.build_table.specs.declared.IndexVerdict.{IndexVerdict};
-ghost use Rattle.build_table.specs.declared.LeafVerdict.{LeafVerdict};
 ghost use Rattle.build_table.specs.Index.{Held, index_verdict, index_answer, index_arena, index_weighed};
 ghost use Rattle.build_table.specs.Pages.{in_leaves, Leaves};
 ghost use Rattle.build_table.specs.Leaf.{leaf_verdict, leaf_answer, leaf_arena, weighed};
@@ -23,26 +20,11 @@ ghost use Rattle.frames.specs.Limits.{max_entries, max_key};
 ghost use Rattle.build_history.specs.Runs.{Sane};
 
 use build_bounds::{Boundaries, Boundary};
-use build_image::{Built, Call};
-use build_page_sweep::PageSwept;
-use build_sources::{Cursor, Risen};
-use build_sweep::{Cut, IndexSwept, Pages, Swept, Tally};
+use build_image::Call;
+use build_sources::Cursor;
+use build_sweep::{Cut, Pages, Tally};
 use build_totals::Totals;
 use frames::{Addr, BaseHeader, Body, Refusal};
-
-// What the judge of an index page finds: the count of its entries and its size.
-#[derive(Clone, Copy)]
-pub enum IndexVerdict {
-    Fits(usize, usize),
-    No(Refusal),
-}
-
-// What the judge of a leaf finds: what it is going to write.
-#[derive(Clone, Copy)]
-pub enum LeafVerdict {
-    Fits(Totals),
-    No(Refusal),
-}
 
 // ---- 1
 
@@ -96,7 +78,7 @@ fn rises_below(
     lo: &[u8],
     hi: &[u8],
     e: Boundary,
-) -> Risen
+) -> Option<(usize, bool)>
     requires { Within hi.now footing.now e }
     ensures { result ≡ risen_of lo.now (boundary_bytes hi.now footing.now e) (entries list.now footing.now from) }
 {
@@ -113,7 +95,14 @@ fn rises_below(
 }
 
 // Whether the entries rise, how many there are, and whether they lie between the boundaries.
-fn rises(list: &[u8], footing: &[u8], from: Cursor, lo: &[u8], hi: &[u8], e: Boundaries) -> Risen
+fn rises(
+    list: &[u8],
+    footing: &[u8],
+    from: Cursor,
+    lo: &[u8],
+    hi: &[u8],
+    e: Boundaries,
+) -> Option<(usize, bool)>
     requires { BothWithin lo.now hi.now footing.now e }
     ensures { result ≡ risen_of (boundary_bytes lo.now footing.now e.lo) (boundary_bytes hi.now footing.now e.hi) (entries list.now footing.now from) }
 {
@@ -157,7 +146,7 @@ pub fn apart(
     requires { Held lo.now hi.now footing.now e }
     ensures { result ≡ apart_of (take e.prefix (boundary_bytes lo.now footing.now e.lo)) (entries list.now footing.now from) }
 {
-    let Risen::Up(_, _) = rises(list, footing, from, lo, hi, e) else {
+    let Some((_, _)) = rises(list, footing, from, lo, hi, e) else {
         return Refusal::OutOfOrder;
     };
     let x = e.lo;
@@ -167,7 +156,14 @@ pub fn apart(
 // ---- index pages
 
 // 8 and 9 of an index page of n entries whose records take so many bytes; x and y are the lengths of the boundaries.
-fn weigh_index(len: usize, next: usize, x: usize, y: usize, n: usize, sums: usize) -> IndexVerdict
+fn weigh_index(
+    len: usize,
+    next: usize,
+    x: usize,
+    y: usize,
+    n: usize,
+    sums: usize,
+) -> Result<(usize, usize), Refusal>
     requires x_le_max_key { (x ≤ max_key) × (y ≤ max_key) }
     requires n_le_max_entries { (n ≤ max_entries) × (sums ≤ 269283315) }
     requires next_le_len { next ≤ len }
@@ -175,18 +171,18 @@ fn weigh_index(len: usize, next: usize, x: usize, y: usize, n: usize, sums: usiz
 {
     let size = BaseHeader::HDR_LEN + 4 * n + x + y + sums;
     if BaseHeader::MAX_SIZE < size {
-        return IndexVerdict::No(Refusal::TooBig);
+        return Err(Refusal::TooBig);
     }
     if !spans::room(len, next, frames::frame_len(size as u32)) {
-        return IndexVerdict::No(Refusal::NoRoom);
+        return Err(Refusal::NoRoom);
     }
-    IndexVerdict::Fits(n, size)
+    Ok((n, size))
 }
 
 // ---- leaves
 
 // 8 and 9, on what a leaf's entries sum up to; x and y are the lengths of the boundaries.
-fn weigh(len: usize, x: usize, y: usize, t: Tally, g: Pages) -> LeafVerdict
+fn weigh(len: usize, x: usize, y: usize, t: Tally, g: Pages) -> Result<Totals, Refusal>
     requires x_le_max_key { (x ≤ max_key) × (y ≤ max_key) }
     requires bounded { Bounded t max_entries }
     requires end_bound { (g.end ≤ 9223372049745510307) × (g.count ≤ max_entries) }
@@ -195,22 +191,22 @@ fn weigh(len: usize, x: usize, y: usize, t: Tally, g: Pages) -> LeafVerdict
     let size = BaseHeader::HDR_LEN + 4 * t.heads + x + y + t.sums;
     let room = build_totals::room_of(g.count, t.counted);
     if BaseHeader::MAX_SIZE < size + room {
-        return LeafVerdict::No(Refusal::TooBig);
+        return Err(Refusal::TooBig);
     }
     let end = g.end + frames::frame_len((size + room) as u32) + t.remote;
     if len < end {
-        return LeafVerdict::No(Refusal::NoRoom);
+        return Err(Refusal::NoRoom);
     }
-    LeafVerdict::Fits(Totals {
+    Ok(Totals {
         heads: t.heads,
         olds: t.olds,
         pages: g.count,
         remotes: t.remotes,
         aged: t.aged,
-        size: size,
-        room: room,
+        size,
+        room,
         leaf: g.end,
-        end: end,
+        end,
     })
 }
 
@@ -229,7 +225,7 @@ fn judge_leaves(
     m: Call,
     none: &[u8],
     e: Boundaries,
-) -> LeafVerdict
+) -> Result<Totals, Refusal>
     requires leaves { Leaves none.now footing.now b from end d n e (in_leaves footing.now b from end d n) }
     requires sane { Sane m }
     requires next_le_len { (next ≤ len) × (len ≤ 9223372036854775807) }
@@ -255,12 +251,12 @@ fn judge_leaves(
     let x = build_page_sweep::sweep_page(
         footing, b, from, end, e.prefix, m.limit, m.budget, none, cut,
     );
-    let PageSwept::Fits(t, g) = x else {
-        return LeafVerdict::No(Refusal::TooBig);
+    let Some((t, g)) = x else {
+        return Err(Refusal::TooBig);
     };
     let y = build_page_sweep::sweep_page(footing, d, 0, n, e.prefix, m.limit, m.budget, t, g);
-    let PageSwept::Fits(u, h) = y else {
-        return LeafVerdict::No(Refusal::TooBig);
+    let Some((u, h)) = y else {
+        return Err(Refusal::TooBig);
     };
     let lo = e.lo;
     let hi = e.hi;
@@ -279,7 +275,7 @@ pub fn build_leaves(
     m: Call,
     none: &[u8],
     e: Boundaries,
-) -> Built
+) -> Result<(Addr, usize), Refusal>
     requires next_in_bounds { next ≤ length a.old }
     requires leaves { Leaves none.now (take next a.old) b from end d n e (in_leaves (take next a.old) b from end d n) }
     requires sane { Sane m }
@@ -289,11 +285,11 @@ pub fn build_leaves(
     let len = a.len();
     let v = judge_leaves(&a[..next], b, from, end, d, n, len, next, m, none, e);
     match v {
-        LeafVerdict::No(r) => Built::Refused(r),
-        LeafVerdict::Fits(t) => {
+        Err(r) => Err(r),
+        Ok(t) => {
             let stop = t.end;
             let leaf = build_leaf::write_leaves(a, next, b, from, end, d, n, next, m, t, none, e);
-            Built::At(Addr(leaf as u64), stop)
+            Ok((Addr(leaf as u64), stop))
         }
     }
 }
@@ -316,7 +312,7 @@ fn refused(
     if !build_sources::well(list, footing, from) {
         return Refusal::BadList;
     }
-    let Risen::Up(_, inside) = rises(list, footing, from, lo, hi, e) else {
+    let Some((_, inside)) = rises(list, footing, from, lo, hi, e) else {
         return Refusal::OutOfOrder;
     };
     if inside {
@@ -339,22 +335,22 @@ pub fn judge_list(
     lo: &[u8],
     hi: &[u8],
     e: Boundaries,
-) -> LeafVerdict
+) -> Result<Totals, Refusal>
     requires from_value { from ≡ first_of 0 }
     requires lo_value { (e.lo ≡ boundary_of lo.now) × (e.hi ≡ boundary_of hi.now) }
     requires held { Held lo.now hi.now footing.now e }
     requires sane { Sane m }
     requires next_le_len { (next ≤ len) × (len ≤ 9223372036854775807) }
-    ensures { result ≡ of_list list.now footing.now 0 (LeafVerdict.No Refusal.BadList) (leaf_verdict len next m (bounds_of lo.now hi.now footing.now e)) }
+    ensures { result ≡ of_list list.now footing.now 0 (Err Refusal.BadList) (leaf_verdict len next m (bounds_of lo.now hi.now footing.now e)) }
 {
     let s = build_sweep::sweep_list(list, e.prefix, next, m.limit, m.budget);
-    let Swept::Fits(t, g, kat, klen) = s else {
-        return LeafVerdict::No(refused(list, footing, from, lo, hi, e));
+    let Some((t, g, kat, klen)) = s else {
+        return Err(refused(list, footing, from, lo, hi, e));
     };
     if build_sweep::spans_ends(list, t.heads + t.olds, kat, klen, lo, hi) {
         return weigh(len, lo.len(), hi.len(), t, g);
     }
-    LeafVerdict::No(refused(list, footing, from, lo, hi, e))
+    Err(refused(list, footing, from, lo, hi, e))
 }
 
 // Builds a leaf of a record list, whose boundaries are the lent slices.
@@ -367,23 +363,23 @@ pub fn build_list(
     lo: &[u8],
     hi: &[u8],
     e: Boundaries,
-) -> Built
+) -> Result<(Addr, usize), Refusal>
     requires from_value { from ≡ first_of 0 }
     requires lo_value { (e.lo ≡ boundary_of lo.now) × (e.hi ≡ boundary_of hi.now) }
     requires next_in_bounds { next ≤ length a.old }
     requires held { Held lo.now hi.now (take next a.old) e }
     requires sane { Sane m }
-    ensures value { result ≡ of_list list.now (take next a.old) 0 (Built.Refused Refusal.BadList) (leaf_answer a.old next m (bounds_of lo.now hi.now (take next a.old) e)) }
+    ensures value { result ≡ of_list list.now (take next a.old) 0 (Err Refusal.BadList) (leaf_answer a.old next m (bounds_of lo.now hi.now (take next a.old) e)) }
     ensures a_after { a.new ≡ of_list list.now (take next a.old) 0 a.old (leaf_arena a.old next m (bounds_of lo.now hi.now (take next a.old) e)) }
 {
     let len = a.len();
     let v = judge_list(list, &a[..next], from, len, next, m, lo, hi, e);
     match v {
-        LeafVerdict::No(r) => Built::Refused(r),
-        LeafVerdict::Fits(t) => {
+        Err(r) => Err(r),
+        Ok(t) => {
             let end = t.end;
             let leaf = build_leaf::write_list(a, next, list, next, m, t, lo, hi, e);
-            Built::At(Addr(leaf as u64), end)
+            Ok((Addr(leaf as u64), end))
         }
     }
 }
@@ -400,21 +396,21 @@ pub fn judge_index_list(
     lo: &[u8],
     hi: &[u8],
     e: Boundaries,
-) -> IndexVerdict
+) -> Result<(usize, usize), Refusal>
     requires from_value { from ≡ first_of 1 }
     requires lo_value { (e.lo ≡ boundary_of lo.now) × (e.hi ≡ boundary_of hi.now) }
     requires held { Held lo.now hi.now footing.now e }
     requires next_le_len { next ≤ len }
-    ensures { result ≡ of_list list.now footing.now 1 (IndexVerdict.No Refusal.BadList) (index_verdict len next (bounds_of lo.now hi.now footing.now e) e) }
+    ensures { result ≡ of_list list.now footing.now 1 (Err Refusal.BadList) (index_verdict len next (bounds_of lo.now hi.now footing.now e) e) }
 {
     let s = build_sweep::sweep_index(list, e.prefix);
-    let IndexSwept::Fits(n, sums, kat, klen) = s else {
-        return IndexVerdict::No(refused(list, footing, from, lo, hi, e));
+    let Some((n, sums, kat, klen)) = s else {
+        return Err(refused(list, footing, from, lo, hi, e));
     };
     if build_sweep::spans_ends(list, n, kat, klen, lo, hi) {
         return weigh_index(len, next, lo.len(), hi.len(), n, sums);
     }
-    IndexVerdict::No(refused(list, footing, from, lo, hi, e))
+    Err(refused(list, footing, from, lo, hi, e))
 }
 
 // Builds an index page of an index list, whose boundaries are the lent slices.
@@ -427,21 +423,21 @@ pub fn build_index_list(
     lo: &[u8],
     hi: &[u8],
     e: Boundaries,
-) -> Built
+) -> Result<(Addr, usize), Refusal>
     requires from_value { from ≡ first_of 1 }
     requires lo_value { (e.lo ≡ boundary_of lo.now) × (e.hi ≡ boundary_of hi.now) }
     requires next_in_bounds { next ≤ length a.old }
     requires held { Held lo.now hi.now (take next a.old) e }
-    ensures value { result ≡ of_list list.now (take next a.old) 1 (Built.Refused Refusal.BadList) (index_answer a.old next m (bounds_of lo.now hi.now (take next a.old) e)) }
+    ensures value { result ≡ of_list list.now (take next a.old) 1 (Err Refusal.BadList) (index_answer a.old next m (bounds_of lo.now hi.now (take next a.old) e)) }
     ensures a_after { a.new ≡ of_list list.now (take next a.old) 1 a.old (index_arena a.old next m (bounds_of lo.now hi.now (take next a.old) e)) }
 {
     let len = a.len();
     let v = judge_index_list(list, &a[..next], from, len, next, lo, hi, e);
     match v {
-        IndexVerdict::No(r) => Built::Refused(r),
-        IndexVerdict::Fits(n, size) => {
+        Err(r) => Err(r),
+        Ok((n, size)) => {
             build_index::write_list(a, next, list, next, m, n, size, lo, hi, e);
-            Built::At(Addr(next as u64), next + frames::frame_len(size as u32))
+            Ok((Addr(next as u64), next + frames::frame_len(size as u32)))
         }
     }
 }
@@ -460,7 +456,7 @@ fn judge_indexes(
     next: usize,
     none: &[u8],
     e: Boundaries,
-) -> IndexVerdict
+) -> Result<(usize, usize), Refusal>
     requires judged { Judged footing.now b 1 × Judged footing.now d 1 }
     requires from_le_end { (from ≤ end) × (end ≤ b.elems) × (count ≤ d.elems) }
     requires held { Held none.now none.now footing.now e }
@@ -474,7 +470,7 @@ fn judge_indexes(
     let p = e.prefix;
     let n = end - from + count;
     if BaseHeader::MAX_ENTRIES < n {
-        return IndexVerdict::No(Refusal::TooBig);
+        return Err(Refusal::TooBig);
     }
     let one = build_index::sum_page(footing, b, from, end, p);
     let two = build_index::sum_page(footing, d, 0, count, p);
@@ -493,7 +489,7 @@ pub fn build_indexes(
     m: Call,
     none: &[u8],
     e: Boundaries,
-) -> Built
+) -> Result<(Addr, usize), Refusal>
     requires next_in_bounds { next ≤ length a.old }
     requires judged { Judged (take next a.old) b 1 × Judged (take next a.old) d 1 }
     requires from_le_end { (from ≤ end) × (end ≤ b.elems) × (count ≤ d.elems) }
@@ -506,10 +502,10 @@ pub fn build_indexes(
     let len = a.len();
     let v = judge_indexes(&a[..next], b, from, end, d, count, len, next, none, e);
     match v {
-        IndexVerdict::No(r) => Built::Refused(r),
-        IndexVerdict::Fits(n, size) => {
+        Err(r) => Err(r),
+        Ok((n, size)) => {
             build_index::write_pages(a, next, b, from, end, d, count, next, m, n, size, none, e);
-            Built::At(Addr(next as u64), next + frames::frame_len(size as u32))
+            Ok((Addr(next as u64), next + frames::frame_len(size as u32)))
         }
     }
 }

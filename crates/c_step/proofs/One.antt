@@ -8,21 +8,17 @@ use native.Mathlib.Omega.{arith}
 use lib.ListN.{length}
 use Rattle.spans.specs.Span.{put}
 use Rattle.frames.specs.declared.Body.{Body}
-use Rattle.frames.specs.declared.Opened.{Opened}
 use Rattle.frames.specs.declared.Refusal.{Refusal}
 use Rattle.frames.specs.Layout.{addr}
 use Rattle.frames.specs.Refusals.{number_of}
 use Rattle.values.specs.declared.HistRef.{HistRef}
 use Rattle.records.specs.declared.Rec.{Rec}
-use Rattle.records.specs.declared.RecRead.{RecRead}
 use Rattle.records.specs.Records.{rec_at}
 use Rattle.records.proofs.Inside.{at_slot}
 use Rattle.walks.specs.declared.OldPlace.{OldPlace}
 use Rattle.walks.specs.declared.Walk.{Walk}
 use Rattle.walks.specs.declared.Item.{Item}
 use Rattle.walks.specs.declared.Branch.{Branch}
-use Rattle.walks.specs.declared.Step.{Step}
-use Rattle.walks.specs.declared.Entered.{Entered}
 use Rattle.walks.specs.Walk.{body_of, moved_of, on_of, behind_of, item_of, rest_of, enter_at, step_at}
 use Rattle.walks.specs.Refused.{step_number}
 use Rattle.walks.proofs.Steps.{step_in, enter_none}
@@ -32,6 +28,8 @@ use Rattle.c_words.proofs.Laws.{written_none, written-length, walk_kept}
 use Rattle.c_words.proofs.Changed.{none_changed, written_over}
 use Rattle.c_steps.specs.Turns.{Ahead}
 use Rattle.c_step.specs.OneStep.{Stepped, Takes, Within, Enters}
+use Rattle.std.proofs.Common.{Some, Result, Ok, Err}
+use Rattle.walks.specs.declared.Step.{Step}
 
 other : true ≡ false → ⊥
 other e = let z : ◌≡◌ {A = ℕ} 0 1 = cc in omega arith
@@ -50,7 +48,7 @@ module _ (s walk : List ℕ) (h : HistRef) where
   unfolding behind_of
   enters_none l e = enters (record { older = (walk_in walk).older; enters = enter_none s h (walk_in walk).older e; stored = none_changed walk l })
 
-  pub enters_is : (p : OldPlace) {was : OldPlace} → was ≡ (walk_in walk).older → enter_at s h was ≡ Entered.Is p
+  pub enters_is : (p : OldPlace) {was : OldPlace} → was ≡ (walk_in walk).older → enter_at s h was ≡ Some p
       → {walk' : List ℕ} → walk' ≡ written (walk_words (behind_of (walk_in walk) p)) walk → Enters s h walk true walk'
   enters_is p u e m = enters (record { older = p; enters = ap (λ (z : OldPlace). enter_at s h z) (sym u) ∙ e; stored = m })
 
@@ -60,30 +58,30 @@ module _ (s walk : List ℕ) (h : HistRef) where
 module _ (s walk out : List ℕ) where
   -- ---- by the walk's own step
 
-  by : (y : Step) {r : ℕ} {walk' out' : List ℕ} → step_at s (walk_in walk) ≡ y → r ≡ step_number y → walk' ≡ written (moved_words y) walk → out' ≡ written (step_words y) out
+  by : (y : Result Step Refusal) {r : ℕ} {walk' out' : List ℕ} → step_at s (walk_in walk) ≡ y → r ≡ step_number y → walk' ≡ written (moved_words y) walk → out' ≡ written (step_words y) out
       → Stepped s walk out r walk' out'
   by y e n m t =
       record {
         number = n ∙ ap step_number (sym e);
-        moved = m ∙ ap (λ (z : Step). written (moved_words z) walk) (sym e);
-        told = t ∙ ap (λ (z : Step). written (step_words z) out) (sym e);
+        moved = m ∙ ap (λ (z : Result Step Refusal). written (moved_words z) walk) (sym e);
+        told = t ∙ ap (λ (z : Result Step Refusal). written (step_words z) out) (sym e);
       }
 
-  pub stepped_found : (x : Item) (v : Walk) {walk' out' : List ℕ} → step_at s (walk_in walk) ≡ Step.Found x v → walk' ≡ written (walk_words v) walk → out' ≡ put out 0 (item_words x)
+  pub stepped_found : (x : Item) (v : Walk) {walk' out' : List ℕ} → step_at s (walk_in walk) ≡ Ok (Step.Found x v) → walk' ≡ written (walk_words v) walk → out' ≡ put out 0 (item_words x)
       → Stepped s walk out 0 walk' out'
   unfolding written
-  stepped_found x v e m t = by (Step.Found x v) e refl m t
+  stepped_found x v e m t = by (Ok (Step.Found x v)) e refl m t
 
-  pub stepped_leads : (x : Branch) (v : Walk) {walk' out' : List ℕ} → step_at s (walk_in walk) ≡ Step.Leads x v → walk' ≡ written (walk_words v) walk → out' ≡ put out 0 (branch_words x)
+  pub stepped_leads : (x : Branch) (v : Walk) {walk' out' : List ℕ} → step_at s (walk_in walk) ≡ Ok (Step.Leads x v) → walk' ≡ written (walk_words v) walk → out' ≡ put out 0 (branch_words x)
       → Stepped s walk out 0 walk' out'
   unfolding written
-  stepped_leads x v e m t = by (Step.Leads x v) e refl m t
+  stepped_leads x v e m t = by (Ok (Step.Leads x v)) e refl m t
 
-  pub stepped_end : {out' : List ℕ} → step_at s (walk_in walk) ≡ Step.End → out' ≡ written end_words out → Stepped s walk out 0 walk out'
-  stepped_end e t = by Step.End e refl (sym (written_none walk)) t
+  pub stepped_end : {out' : List ℕ} → step_at s (walk_in walk) ≡ Ok Step.End → out' ≡ written end_words out → Stepped s walk out 0 walk out'
+  stepped_end e t = by (Ok Step.End) e refl (sym (written_none walk)) t
 
-  pub stepped_refused : (n : Refusal) {r : ℕ} → step_at s (walk_in walk) ≡ Step.Refused n → r ≡ number_of n → Stepped s walk out r walk out
-  stepped_refused n e q = by (Step.Refused n) e q (sym (written_none walk)) (sym (written_none out))
+  pub stepped_refused : (n : Refusal) {r : ℕ} → step_at s (walk_in walk) ≡ Err n → r ≡ number_of n → Stepped s walk out r walk out
+  stepped_refused n e q = by (Err n) e q (sym (written_none walk)) (sym (written_none out))
 
   -- behind a short way that left every word as it was
   pub stepped_from : {walk₁ out₁ : List ℕ} → (walk₁ ≡ walk) × (out₁ ≡ out) → {r : ℕ} {walk' out' : List ℕ} → Stepped s walk₁ out₁ r walk' out' → Stepped s walk out r walk' out'
@@ -101,14 +99,14 @@ module _ (s walk out : List ℕ) where
 
   -- ---- an old version, the page in hand
 
-  pub took-old : {w : Walk} → w ≡ walk_in walk → 0 < w.older.left → (b : Body) → body_of s w.older.page 2 ≡ Opened.Is b → (r : Rec) → rec_at s b w.older.slot ≡ RecRead.Is r
+  pub took-old : {w : Walk} → w ≡ walk_in walk → 0 < w.older.left → (b : Body) → body_of s w.older.page 2 ≡ Some b → (r : Rec) → rec_at s b w.older.slot ≡ Some r
       → {walk' out' : List ℕ} → walk' ≡ written (walk_words (aged_to (walk_in walk) (w.older.slot + 1) (w.older.left - 1))) walk
       → out' ≡ put out 0 (item_words (item_of s w.key r (addr 0))) → Takes s walk out true walk' out'
   unfolding behind_of
   took-old {w} u l b o r q {walk'} {out'} m t =
       let i : b.elems ≡ w.older.page.elems = ap (λ (y : Body). y.elems) (sym (body_is s w.older.page 2 b o)) in
       takes (stepped_found (item_of s w.key r (addr 0)) (aged_to (walk_in walk) (w.older.slot + 1) (w.older.left - 1))
-      (subst (λ (v : Walk). step_at s v ≡ Step.Found (item_of s w.key r (addr 0)) (aged_to v (w.older.slot + 1) (w.older.left - 1))) u
+      (subst (λ (v : Walk). step_at s v ≡ Ok (Step.Found (item_of s w.key r (addr 0)) (aged_to v (w.older.slot + 1) (w.older.left - 1)))) u
       (step_in s w r l (λ z. omega (arith, i, at_slot s b w.older.slot r q, z)) (body_reads s w.older.page 2 b o w.older.slot ∙ q)))
       m t)
 
@@ -122,7 +120,7 @@ module _ (s walk out : List ℕ) where
       let o = f.older in
       let v = behind_of (walk_in walk) o in
       let k : walk_in walk₁ ≡ v = ap walk_in f.stored ∙ walk_kept v walk h in
-      let e : enter_at s r.hist w.older ≡ Entered.Is o = ap (λ (z : Walk). enter_at s r.hist z.older) u ∙ f.enters in
+      let e : enter_at s r.hist w.older ≡ Some o = ap (λ (z : Walk). enter_at s r.hist z.older) u ∙ f.enters in
       takes (stepped_found (item_of s (rest_of r) r r.hist.page) (on_of w (rest_of r) o)
       (ap (λ (z : Walk). step_at s z) (sym u) ∙ a.steps o e)
       (m

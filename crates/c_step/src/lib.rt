@@ -2,18 +2,17 @@
 // goes by the walk's own.
 #![tactic(auto)]
 
-ghost use Rattle.std.specs.Prelude.{◌≡◌, ◌<◌, ◌≤◌, length};
+ghost use Rattle.std.specs.Prelude.{◌≡◌, ◌<◌, ◌≤◌, length, Some};
 ghost use Rattle.records.specs.declared.Rec.{Rec};
-ghost use Rattle.records.specs.declared.RecRead.{RecRead};
 ghost use Rattle.c_words.specs.Words.{walk_in};
 ghost use Rattle.c_steps.specs.Turns.{Ahead};
 ghost use Rattle.c_step.specs.OneStep.{Stepped, Takes, Enters};
 
-use frames::{Body, NULL_ADDR, Opened};
+use frames::{Body, NULL_ADDR};
 use pages::Place;
-use records::{Rec, RecRead, SlotRead, ValRead};
+use records::{Rec, ValParts};
 use values::HistRef;
-use walks::{Entered, OldPlace, Step, Walk};
+use walks::{OldPlace, Step, Walk};
 
 // The old version at the walk: whether it was read.
 fn step_old(s: &[u8], w: Walk, walk: &mut [u64], out: &mut [u64]) -> bool
@@ -25,10 +24,10 @@ fn step_old(s: &[u8], w: Walk, walk: &mut [u64], out: &mut [u64]) -> bool
 {
     let older = w.older;
     let page = older.page;
-    let Opened::Is(b) = walks::body_of(s, page, Body::HISTORY) else {
+    let Some(b) = walks::body_of(s, page, Body::HISTORY) else {
         return false;
     };
-    let RecRead::Is(r) = records::quick_old(s, b, older.slot) else {
+    let Some(r) = records::quick_old(s, b, older.slot) else {
         return false;
     };
     let key = w.key;
@@ -38,47 +37,40 @@ fn step_old(s: &[u8], w: Walk, walk: &mut [u64], out: &mut [u64]) -> bool
 }
 
 // The head at the walk, in the common form: a second text of `records::quick_head`, whose other call would no longer be inlined.
-fn head_read(s: &[u8], w: Walk) -> RecRead
+fn head_read(s: &[u8], w: Walk) -> Option<Rec>
     requires { w.older.left ≡ 0 }
-    ensures { (r : Rec) → result ≡ RecRead.Is r → Ahead s.now w r }
+    ensures { (r : Rec) → result ≡ Some r → Ahead s.now w r }
 {
     let page = w.page;
     if w.heads == 0 {
-        return RecRead::Bad;
+        return None;
     }
     if w.way == Walk::INDEX {
-        return RecRead::Bad;
+        return None;
     }
-    let Opened::Is(b) = walks::body_of(s, page, Body::LEAF) else {
-        return RecRead::Bad;
+    let Some(b) = walks::body_of(s, page, Body::LEAF) else {
+        return None;
     };
-    let SlotRead::At(p) = records::slot_at(s, b, w.pos) else {
-        return RecRead::Bad;
+    let Some(p) = records::slot_at(s, b, w.pos) else {
+        return None;
     };
     let n = records::quick_key(s, b, p);
     if n == 0 {
-        return RecRead::Bad;
+        return None;
     }
-    let ValRead::Is {
-        hist,
-        val_at,
-        val_len,
-        remote,
-        next,
-    } = records::quick_value(s, b, p + 1 + n)
-    else {
-        return RecRead::Bad;
+    let Some(val) = records::quick_value(s, b, p + 1 + n) else {
+        return None;
     };
-    RecRead::Is(Rec {
+    Some(Rec {
         from: p,
         ver_at: p + 1,
         rest_at: p + 1 + 12,
         rest_len: n - 12,
-        hist: hist,
-        val_at: val_at,
-        val_len: val_len,
-        remote: remote,
-        next: next,
+        hist: val.hist,
+        val_at: val.val_at,
+        val_len: val.val_len,
+        remote: val.remote,
+        next: val.next,
     })
 }
 
@@ -91,7 +83,7 @@ fn enter_in(s: &[u8], h: HistRef, was: OldPlace, walk: &mut [u64]) -> bool
     if h.count == 0 {
         return true;
     }
-    let Entered::Is(older) = walks::enter(s, h, was) else {
+    let Some(older) = walks::enter(s, h, was) else {
         return false;
     };
     c_words::put_entered(walk, older);
@@ -106,7 +98,7 @@ fn step_head(s: &[u8], w: Walk, walk: &mut [u64], out: &mut [u64]) -> bool
     requires in_bounds_2 { 9 ≤ length out.old }
     ensures { Takes s.now walk.old out.old result walk.new out.new }
 {
-    let RecRead::Is(r) = head_read(s, w) else {
+    let Some(r) = head_read(s, w) else {
         return false;
     };
     let h = r.hist;
@@ -135,21 +127,21 @@ fn step_any(s: &[u8], walk: &mut [u64], out: &mut [u64]) -> u32
 {
     let w = c_words::walk_in(&walk[..]);
     match w.step(s) {
-        Step::Found(x, v) => {
+        Ok(Step::Found(x, v)) => {
             c_words::store_item(out, 0, x);
             c_words::store_walk(walk, v);
             0
         }
-        Step::Leads(x, v) => {
+        Ok(Step::Leads(x, v)) => {
             c_words::store_branch(out, 0, x);
             c_words::store_walk(walk, v);
             0
         }
-        Step::End => {
+        Ok(Step::End) => {
             c_words::store_end(out);
             0
         }
-        Step::Refused(r) => c_words::no(r),
+        Err(r) => c_words::no(r),
     }
 }
 

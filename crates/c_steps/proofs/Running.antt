@@ -17,12 +17,13 @@ use Rattle.frames.specs.Refusals.{number_of}
 use Rattle.walks.specs.declared.Walk.{Walk}
 use Rattle.walks.specs.declared.Item.{Item}
 use Rattle.walks.specs.declared.Branch.{Branch}
-use Rattle.walks.specs.declared.Step.{Step}
 use Rattle.walks.specs.Walk.{step_at}
 use Rattle.c_steps.specs.declared.Run.{Run}
 use Rattle.c_words.specs.Words.{written, walk_words, item_words, branch_words}
 use Rattle.c_steps.specs.Turns.{Filling, Stopping}
 use Rattle.c_steps.specs.Steps.{run, run_by, run_of, words_by, run_words, run_number, run_walk, run_says, room_in}
+use Rattle.std.proofs.Common.{Result, Ok, Err}
+use Rattle.walks.specs.declared.Step.{Step}
 
 pub filling_begin : (s : List ℕ) (most first : ℕ) (w : Walk) (o : List ℕ) → Filling s most first w o w first 0 o
 filling_begin s most first w o =
@@ -73,26 +74,26 @@ module _ (s : List ℕ) (most first : ℕ) (w₀ : Walk) (o₀ : List ℕ) (w : 
 
 -- the step at hand
 module _ (s : List ℕ) (most at : ℕ) (w : Walk) (o : List ℕ) (h : 0 < most) where
-  turn : (j : ℕ) (x : Step) → step_at s w ≡ x → run_of most j s w ≡ run_by (λ (v : Walk). run_of (most - 1) (j + 1) s v) j w x
+  turn : (j : ℕ) (x : Result Step Refusal) → step_at s w ≡ x → run_of most j s w ≡ run_by (λ (v : Walk). run_of (most - 1) (j + 1) s v) j w x
   unfolding run_of
   turn j x e =
       let l : most ≡ suc (most - 1) = omega arith in
-      ap (λ (i : ℕ). run_of i j s w) l ∙ ap (λ (z : Step). run_by (λ (v : Walk). run_of (most - 1) (j + 1) s v) j w z) e
+      ap (λ (i : ℕ). run_of i j s w) l ∙ ap (λ (z : Result Step Refusal). run_by (λ (v : Walk). run_of (most - 1) (j + 1) s v) j w z) e
 
-  turn_words : (x : Step) → step_at s w ≡ x → run_words most s w ≡ words_by (λ (v : Walk). run_words (most - 1) s v) x
+  turn_words : (x : Result Step Refusal) → step_at s w ≡ x → run_words most s w ≡ words_by (λ (v : Walk). run_words (most - 1) s v) x
   unfolding run_words
   turn_words x e =
       let l : most ≡ suc (most - 1) = omega arith in
-      ap (λ (i : ℕ). run_words i s w) l ∙ ap (λ (z : Step). words_by (λ (v : Walk). run_words (most - 1) s v) z) e
+      ap (λ (i : ℕ). run_words i s w) l ∙ ap (λ (z : Result Step Refusal). words_by (λ (v : Walk). run_words (most - 1) s v) z) e
 
-  pub stops_end : step_at s w ≡ Step.End → Stopping s most w o 0 o
-  stops_end e = record { ends = λ (j : ℕ). turn j Step.End e; writes = turn_words Step.End e; same = refl }
+  pub stops_end : step_at s w ≡ Ok Step.End → Stopping s most w o 0 o
+  stops_end e = record { ends = λ (j : ℕ). turn j (Ok Step.End) e; writes = turn_words (Ok Step.End) e; same = refl }
 
-  pub stops_refused : (r : Refusal) {n : ℕ} → n ≡ number_of r → step_at s w ≡ Step.Refused r → Stopping s most w o n o
+  pub stops_refused : (r : Refusal) {n : ℕ} → n ≡ number_of r → step_at s w ≡ Err r → Stopping s most w o n o
   stops_refused r q e =
       record {
-        ends = λ (j : ℕ). turn j (Step.Refused r) e ∙ ap (λ (i : ℕ). run j i w) (sym q);
-        writes = turn_words (Step.Refused r) e;
+        ends = λ (j : ℕ). turn j (Err r) e ∙ ap (λ (i : ℕ). run j i w) (sym q);
+        writes = turn_words (Err r) e;
         same = refl;
       }
 
@@ -111,11 +112,11 @@ module _ (s : List ℕ) (most at : ℕ) (w : Walk) (o : List ℕ) (h : 0 < most)
         long = ap length p ∙ length-put o at ws;
       }
 
-  pub fills-found : (x : Item) (v : Walk) {at' : ℕ} {o' : List ℕ} → at' ≡ at + 9 → step_at s w ≡ Step.Found x v → o' ≡ put o at (item_words x) → Filling s most at w o v at' 1 o'
-  fills-found x v a e p = on (item_words x) v a refl (λ (j : ℕ). turn j (Step.Found x v) e) (turn_words (Step.Found x v) e) p
+  pub fills-found : (x : Item) (v : Walk) {at' : ℕ} {o' : List ℕ} → at' ≡ at + 9 → step_at s w ≡ Ok (Step.Found x v) → o' ≡ put o at (item_words x) → Filling s most at w o v at' 1 o'
+  fills-found x v a e p = on (item_words x) v a refl (λ (j : ℕ). turn j (Ok (Step.Found x v)) e) (turn_words (Ok (Step.Found x v)) e) p
 
-  pub fills-leads : (x : Branch) (v : Walk) {at' : ℕ} {o' : List ℕ} → at' ≡ at + 9 → step_at s w ≡ Step.Leads x v → o' ≡ put o at (branch_words x) → Filling s most at w o v at' 1 o'
-  fills-leads x v a e p = on (branch_words x) v a refl (λ (j : ℕ). turn j (Step.Leads x v) e) (turn_words (Step.Leads x v) e) p
+  pub fills-leads : (x : Branch) (v : Walk) {at' : ℕ} {o' : List ℕ} → at' ≡ at + 9 → step_at s w ≡ Ok (Step.Leads x v) → o' ≡ put o at (branch_words x) → Filling s most at w o v at' 1 o'
+  fills-leads x v a e p = on (branch_words x) v a refl (λ (j : ℕ). turn j (Ok (Step.Leads x v)) e) (turn_words (Ok (Step.Leads x v)) e) p
 
 -- ---- the count in front
 
@@ -126,11 +127,11 @@ front o j c i [] h = refl
 front o j c i (b ∷ ws) h = front (set o i b) j c (i + 1) ws (omega arith) ∙ ap (λ (z : List ℕ). put z (i + 1) ws) (set_comm o i j b c (λ e. omega (arith, e)))
 
 -- a run counts the records before it
-least_by : (more : Walk → Run) (k : ℕ) (w : Walk) → ((v : Walk) → k + 1 ≤ (more v).count) → (x : Step) → k ≤ (run_by more k w x).count
-least_by more k w h (Step.Found x v) = omega (arith, h v)
-least_by more k w h (Step.Leads x v) = omega (arith, h v)
-least_by more k w h Step.End = omega arith
-least_by more k w h (Step.Refused r) = omega arith
+least_by : (more : Walk → Run) (k : ℕ) (w : Walk) → ((v : Walk) → k + 1 ≤ (more v).count) → (x : Result Step Refusal) → k ≤ (run_by more k w x).count
+least_by more k w h (Ok (Step.Found x v)) = omega (arith, h v)
+least_by more k w h (Ok (Step.Leads x v)) = omega (arith, h v)
+least_by more k w h (Ok Step.End) = omega arith
+least_by more k w h (Err r) = omega arith
 
 count-least : (n k : ℕ) (s : List ℕ) (w : Walk) → k ≤ (run_of n k s w).count
 unfolding run_of
@@ -138,11 +139,11 @@ count-least zero k s w = omega arith
 count-least (suc n) k s w = least_by (λ (v : Walk). run_of n (k + 1) s v) k w (λ (v : Walk). count-least n (k + 1) s v) (step_at s w)
 
 -- so a run without a record has no words
-none_by : (more : Walk → Run) (words : Walk → List ℕ) (w : Walk) → ((v : Walk) → 0 + 1 ≤ (more v).count) → (x : Step) → (run_by more 0 w x).count ≡ 0 → words_by words x ≡ []
-none_by more words w h (Step.Found x v) e = absurd (omega (arith, h v, e))
-none_by more words w h (Step.Leads x v) e = absurd (omega (arith, h v, e))
-none_by more words w h Step.End e = refl
-none_by more words w h (Step.Refused r) e = refl
+none_by : (more : Walk → Run) (words : Walk → List ℕ) (w : Walk) → ((v : Walk) → 0 + 1 ≤ (more v).count) → (x : Result Step Refusal) → (run_by more 0 w x).count ≡ 0 → words_by words x ≡ []
+none_by more words w h (Ok (Step.Found x v)) e = absurd (omega (arith, h v, e))
+none_by more words w h (Ok (Step.Leads x v)) e = absurd (omega (arith, h v, e))
+none_by more words w h (Ok Step.End) e = refl
+none_by more words w h (Err r) e = refl
 
 pub none : (n : ℕ) (s : List ℕ) (w : Walk) → (run_of n 0 s w).count ≡ 0 → run_words n s w ≡ []
 unfolding run_of run_words
@@ -150,11 +151,11 @@ none zero s w e = refl
 none (suc n) s w e = none_by (λ (v : Walk). run_of n (0 + 1) s v) (λ (v : Walk). run_words n s v) w (λ (v : Walk). count-least n (0 + 1) s v) (step_at s w) e
 
 -- and stays where it is
-stay_by : (more : Walk → Run) (w : Walk) → ((v : Walk) → 0 + 1 ≤ (more v).count) → (x : Step) → (run_by more 0 w x).count ≡ 0 → (run_by more 0 w x).walk ≡ w
-stay_by more w h (Step.Found x v) e = absurd (omega (arith, h v, e))
-stay_by more w h (Step.Leads x v) e = absurd (omega (arith, h v, e))
-stay_by more w h Step.End e = refl
-stay_by more w h (Step.Refused r) e = refl
+stay_by : (more : Walk → Run) (w : Walk) → ((v : Walk) → 0 + 1 ≤ (more v).count) → (x : Result Step Refusal) → (run_by more 0 w x).count ≡ 0 → (run_by more 0 w x).walk ≡ w
+stay_by more w h (Ok (Step.Found x v)) e = absurd (omega (arith, h v, e))
+stay_by more w h (Ok (Step.Leads x v)) e = absurd (omega (arith, h v, e))
+stay_by more w h (Ok Step.End) e = refl
+stay_by more w h (Err r) e = refl
 
 pub stay : (n : ℕ) (s : List ℕ) (w : Walk) → (run_of n 0 s w).count ≡ 0 → (run_of n 0 s w).walk ≡ w
 unfolding run_of

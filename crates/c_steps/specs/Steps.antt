@@ -1,33 +1,34 @@
 -- Many records a call: what at most n steps of a walk come to, and the words that ct_steps leaves.
 -- Assumes nothing.
-use Rattle.std.specs.Prelude.{ℕ, zero, suc, ◌+◌, ◌-◌, ◌/◌, cond, List, [], ◌∷◌, ◌++◌, eqb}
+use Rattle.std.specs.Prelude.{ℕ, zero, suc, ◌+◌, ◌-◌, ◌/◌, cond, List, [], ◌∷◌, ◌++◌, eqb, Result, Ok, Err}
 use Rattle.frames.specs.Refusals.{number_of}
 use Rattle.walks.specs.declared.Walk.{Walk}
-use Rattle.walks.specs.declared.Step.{Step}
 use Rattle.walks.specs.Walk.{step_at}
 use Rattle.c_steps.specs.declared.Run.{Run}
 use Rattle.c_words.specs.Words.{walk_in, walk_words, item_words, branch_words}
+use Rattle.frames.specs.declared.Refusal.{Refusal}
+use Rattle.walks.specs.declared.Step.{Step}
 
 abbrev pub run : ℕ → ℕ → Walk → Run
 run k number w = record { count = k; number = number; walk = w }
 
 -- a step is taken where it has a record; the end and a refusal leave the walk where it is
-abbrev pub run_by : (Walk → Run) → ℕ → Walk → Step → Run
-run_by more k w (Step.Found x v) = more v
-run_by more k w (Step.Leads x v) = more v
-run_by more k w Step.End = run k 0 w
-run_by more k w (Step.Refused r) = run k (number_of r) w
+abbrev pub run_by : (Walk → Run) → ℕ → Walk → Result Step Refusal → Run
+run_by more k w (Ok (Step.Found x v)) = more v
+run_by more k w (Ok (Step.Leads x v)) = more v
+run_by more k w (Ok Step.End) = run k 0 w
+run_by more k w (Err r) = run k (number_of r) w
 
 -- at most n steps behind k records: how many records in all, the number of the refusal that ended them, the walk behind the last record
 unfoldable pub run_of : ℕ → ℕ → List ℕ → Walk → Run
 run_of zero k s w = run k 0 w
 run_of (suc n) k s w = run_by (λ (v : Walk). run_of n (k + 1) s v) k w (step_at s w)
 
-abbrev pub words_by : (Walk → List ℕ) → Step → List ℕ
-words_by more (Step.Found x v) = item_words x ++ more v
-words_by more (Step.Leads x v) = branch_words x ++ more v
-words_by more Step.End = []
-words_by more (Step.Refused r) = []
+abbrev pub words_by : (Walk → List ℕ) → Result Step Refusal → List ℕ
+words_by more (Ok (Step.Found x v)) = item_words x ++ more v
+words_by more (Ok (Step.Leads x v)) = branch_words x ++ more v
+words_by more (Ok Step.End) = []
+words_by more (Err r) = []
 
 -- their records' words, "one behind the other"
 unfoldable pub run_words : ℕ → List ℕ → Walk → List ℕ

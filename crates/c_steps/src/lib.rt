@@ -2,21 +2,20 @@
 // quick_old), and a history page that the loop has judged is not judged again; every other record is left to the walk's own step.
 #![tactic(auto)]
 
-ghost use Rattle.std.specs.Prelude.{◌≡◌, [], ◌+◌, ◌*◌, ◌-◌, ◌<◌, ◌≤◌, ◌^◌, length};
+ghost use Rattle.std.specs.Prelude.{◌≡◌, [], ◌+◌, ◌*◌, ◌-◌, ◌<◌, ◌≤◌, ◌^◌, length, Some};
 ghost use Rattle.spans.specs.Span.{put};
 ghost use Rattle.records.specs.declared.Rec.{Rec};
-ghost use Rattle.records.specs.declared.RecRead.{RecRead};
 ghost use Rattle.walks.specs.Walk.{item_of};
 ghost use Rattle.c_words.specs.Words.{written, item_words};
 ghost use Rattle.c_steps.specs.Steps.{run_of, run_words, room_in, run_number, run_walk, run_says};
 ghost use Rattle.c_steps.specs.Turns.{Filling, KnownOlder, Reaches, Ahead, Plains, Heads, Quicks, Turns, aged, plain_of, headed_by, same_page};
 ghost use Rattle.pages.specs.Boundaries.{place};
 
-use frames::{Addr, Body, NULL_ADDR, Opened};
+use frames::{Addr, Body, NULL_ADDR};
 use pages::Place;
-use records::{Rec, RecRead};
+use records::Rec;
 use values::HistRef;
-use walks::{Entered, OldPlace, Step, Walk};
+use walks::{OldPlace, Step, Walk};
 
 // What a run of steps came to: how many records, the number of the refusal that ended it (0 without), and the walk behind the last record.
 #[derive(Clone, Copy)]
@@ -26,27 +25,13 @@ pub struct Run {
     pub walk: Walk,
 }
 
-// What is left of a head's history, and the history page that is known then, or 0.
-#[derive(Clone, Copy)]
-enum Reached {
-    Is(OldPlace, u64),
-    Not,
-}
-
-// A head, the walk behind it, and the history page that is known then, or 0.
-#[derive(Clone, Copy)]
-enum HeadRead {
-    Is(Rec, Walk, u64),
-    Not,
-}
-
 // Heads without history: how many, where the next head stands, the last one's key; and the next head, read, where it has history.
 #[derive(Clone, Copy)]
 struct Plain {
     count: usize,
     pos: usize,
     key: Place,
-    next: RecRead,
+    next: Option<Rec>,
 }
 
 // A turn of the loop: how many records, the walk behind them, the history page that is known then; or no record, and the number of the
@@ -98,14 +83,14 @@ fn olds(s: &[u8], w: Walk, out: &mut [u64], first: usize, room: usize, fit: usiz
     if page.elems < w.older.slot {
         return 0;
     }
-    let Opened::Is(b) = walks::body_of(s, page, Body::HISTORY) else {
+    let Some(b) = walks::body_of(s, page, Body::HISTORY) else {
         return 0;
     };
     let most = least(fit, w.older.left);
     let mut at: usize = first;
     let mut n: usize = 0;
     while n < most {
-        let RecRead::Is(r) = records::quick_old(s, b, w.older.slot + n) else {
+        let Some(r) = records::quick_old(s, b, w.older.slot + n) else {
             return n;
         };
         let key = w.key;
@@ -128,14 +113,14 @@ fn age(w: Walk, n: usize) -> Walk
     let then = older.page;
     let link = older.link;
     Walk {
-        page: page,
+        page,
         way: w.way,
         pos: w.pos,
         heads: w.heads,
-        key: key,
+        key,
         older: OldPlace {
             page: then,
-            link: link,
+            link,
             slot: older.slot + n,
             left: older.left - n,
         },
@@ -143,12 +128,12 @@ fn age(w: Walk, n: usize) -> Walk
 }
 
 // The history behind a head, its page entered: not judged where it is the known one, in which the walk's past stands.
-fn reach(s: &[u8], h: HistRef, was: OldPlace, known: u64) -> Reached
+fn reach(s: &[u8], h: HistRef, was: OldPlace, known: u64) -> Option<(OldPlace, u64)>
     requires { KnownOlder s.now known was }
     ensures { Reaches s.now h was result }
 {
     if h.count == 0 {
-        return Reached::Is(was, known);
+        return Some((was, known));
     }
     let a = h.page;
     let slot = h.slot as usize;
@@ -157,33 +142,33 @@ fn reach(s: &[u8], h: HistRef, was: OldPlace, known: u64) -> Reached
         if a.0 == known {
             if slot < page.elems {
                 let link = was.link;
-                return Reached::Is(
+                return Some((
                     OldPlace {
-                        page: page,
-                        link: link,
-                        slot: slot,
+                        page,
+                        link,
+                        slot,
                         left: h.count as usize,
                     },
                     known,
-                );
+                ));
             }
         }
     }
-    let Entered::Is(older) = walks::enter(s, h, was) else {
-        return Reached::Not;
+    let Some(older) = walks::enter(s, h, was) else {
+        return None;
     };
-    Reached::Is(older, a.0)
+    Some((older, a.0))
 }
 
 // What the heads below come to.
-fn heads_read(count: usize, pos: usize, at: usize, len: usize, next: RecRead) -> Plain
+fn heads_read(count: usize, pos: usize, at: usize, len: usize, next: Option<Rec>) -> Plain
     ensures { result ≡ plain_of count pos (place at len) next }
 {
     Plain {
-        count: count,
-        pos: pos,
-        key: Place { at: at, len: len },
-        next: next,
+        count,
+        pos,
+        key: Place { at, len },
+        next,
     }
 }
 
@@ -192,14 +177,14 @@ fn plains(s: &[u8], w: Walk, out: &mut [u64], first: usize, room: usize, fit: us
     requires fit_le_room { (fit ≤ room) × (9 * fit ≤ length out.old - first) }
     requires left_value { w.older.left ≡ 0 }
     ensures plains { Plains s.now room first w out.old result out.new }
-    ensures count_lt_fit { (r : Rec) → result.next ≡ RecRead.Is r → result.count < fit }
+    ensures count_lt_fit { (r : Rec) → result.next ≡ Some r → result.count < fit }
 {
     let page = w.page;
     if w.way == Walk::INDEX {
-        return heads_read(0, w.pos, w.key.at, w.key.len, RecRead::Bad);
+        return heads_read(0, w.pos, w.key.at, w.key.len, None);
     }
-    let Opened::Is(b) = walks::body_of(s, page, Body::LEAF) else {
-        return heads_read(0, w.pos, w.key.at, w.key.len, RecRead::Bad);
+    let Some(b) = walks::body_of(s, page, Body::LEAF) else {
+        return heads_read(0, w.pos, w.key.at, w.key.len, None);
     };
     let most = least(fit, w.heads);
     let mut at: usize = first;
@@ -208,11 +193,11 @@ fn plains(s: &[u8], w: Walk, out: &mut [u64], first: usize, room: usize, fit: us
     let mut key_len: usize = w.key.len;
     let mut n: usize = 0;
     while n < most {
-        let RecRead::Is(r) = records::quick_head(s, b, pos) else {
-            return heads_read(n, pos, key_at, key_len, RecRead::Bad);
+        let Some(r) = records::quick_head(s, b, pos) else {
+            return heads_read(n, pos, key_at, key_len, None);
         };
         if r.hist.count != 0 {
-            return heads_read(n, pos, key_at, key_len, RecRead::Is(r));
+            return heads_read(n, pos, key_at, key_len, Some(r));
         }
         key_at = r.rest_at;
         key_len = r.rest_len;
@@ -231,7 +216,7 @@ fn plains(s: &[u8], w: Walk, out: &mut [u64], first: usize, room: usize, fit: us
         at += 9;
         n += 1;
     }
-    heads_read(n, pos, key_at, key_len, RecRead::Bad)
+    heads_read(n, pos, key_at, key_len, None)
 }
 
 // The walk behind heads without history.
@@ -243,17 +228,17 @@ fn headed(w: Walk, x: Plain) -> Walk
     let key = x.key;
     let older = w.older;
     Walk {
-        page: page,
+        page,
         way: w.way,
         pos: x.pos,
         heads: w.heads - x.count,
-        key: key,
-        older: older,
+        key,
+        older,
     }
 }
 
 // The head at the walk, which has been read, and the walk behind it.
-fn behind(s: &[u8], w: Walk, known: u64, r: Rec) -> HeadRead
+fn behind(s: &[u8], w: Walk, known: u64, r: Rec) -> Option<(Rec, Walk, u64)>
     requires known_older { KnownOlder s.now known w.older }
     requires ahead { Ahead s.now w r }
     ensures { Heads s.now w result }
@@ -261,13 +246,13 @@ fn behind(s: &[u8], w: Walk, known: u64, r: Rec) -> HeadRead
     let page = w.page;
     let was = w.older;
     let h = r.hist;
-    let Reached::Is(older, seen) = reach(s, h, was, known) else {
-        return HeadRead::Not;
+    let Some((older, seen)) = reach(s, h, was, known) else {
+        return None;
     };
-    HeadRead::Is(
+    Some((
         r,
         Walk {
-            page: page,
+            page,
             way: w.way,
             pos: spans::onward(w.way == Walk::DOWN, w.pos),
             heads: w.heads - 1,
@@ -275,10 +260,10 @@ fn behind(s: &[u8], w: Walk, known: u64, r: Rec) -> HeadRead
                 at: r.rest_at,
                 len: r.rest_len,
             },
-            older: older,
+            older,
         },
         seen,
-    )
+    ))
 }
 
 // A step's walk, with the page and the way that no step changes: so that the loop keeps them.
@@ -289,12 +274,12 @@ fn on_page(w: Walk, v: Walk) -> Walk
     let key = v.key;
     let older = v.older;
     Walk {
-        page: page,
+        page,
         way: w.way,
         pos: v.pos,
         heads: v.heads,
-        key: key,
-        older: older,
+        key,
+        older,
     }
 }
 
@@ -305,16 +290,16 @@ fn any(s: &[u8], w: Walk, out: &mut [u64], at: usize, room: usize) -> Turn
     ensures { Turns s.now room at w out.old result out.new }
 {
     match w.step(s) {
-        Step::Found(x, v) => {
+        Ok(Step::Found(x, v)) => {
             c_words::store_item(out, at, x);
             Turn::On(1, on_page(w, v), 0)
         }
-        Step::Leads(x, v) => {
+        Ok(Step::Leads(x, v)) => {
             c_words::store_branch(out, at, x);
             Turn::On(1, on_page(w, v), 0)
         }
-        Step::End => Turn::Stop(0),
-        Step::Refused(r) => Turn::Stop(c_words::no(r)),
+        Ok(Step::End) => Turn::Stop(0),
+        Err(r) => Turn::Stop(c_words::no(r)),
     }
 }
 
@@ -339,13 +324,13 @@ fn quick(s: &[u8], w: Walk, known: u64, out: &mut [u64], at: usize, room: usize,
     let u = headed(w, x);
     let n = x.count;
     let read = x.next;
-    let RecRead::Is(h) = read else {
+    let Some(h) = read else {
         if n == 0 {
             return Turn::Stop(0);
         }
         return Turn::On(n, u, known);
     };
-    let HeadRead::Is(r, v, seen) = behind(s, u, known, h) else {
+    let Some((r, v, seen)) = behind(s, u, known, h) else {
         if n == 0 {
             return Turn::Stop(0);
         }
@@ -404,7 +389,7 @@ pub fn fill(s: &[u8], from: Walk, out: &mut [u64], first: usize, room: usize) ->
             Turn::Stop(number) => {
                 return Run {
                     count: k,
-                    number: number,
+                    number,
                     walk: w,
                 };
             }

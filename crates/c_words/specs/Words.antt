@@ -1,7 +1,7 @@
 -- What a call leaves in the words that it is lent, and the words of a walk and of its steps, in the order of include/cresttrestle.h.
 -- A refusal has no words, so it changes none.
 -- Assumes nothing.
-use Rattle.std.specs.Prelude.{ℕ, ◌+◌, List, [], ◌∷◌, get_or}
+use Rattle.std.specs.Prelude.{ℕ, ◌+◌, List, [], ◌∷◌, get_or, Result, Ok, Err}
 use Rattle.spans.specs.Span.{put}
 use Rattle.frames.specs.Layout.{addr}
 use Rattle.pages.specs.declared.Place.{Place}
@@ -11,8 +11,9 @@ use Rattle.walks.specs.declared.OldPlace.{OldPlace}
 use Rattle.walks.specs.declared.Walk.{Walk}
 use Rattle.walks.specs.declared.Item.{Item}
 use Rattle.walks.specs.declared.Branch.{Branch}
-use Rattle.walks.specs.declared.Step.{Step}
 use Rattle.walks.specs.Walk.{walk_of, older_of}
+use Rattle.frames.specs.declared.Refusal.{Refusal}
+use Rattle.walks.specs.declared.Step.{Step}
 
 -- the words stored at the front of a slice: "A slice with fewer words takes the first ones only, words behind the answer stay as they are"
 unfoldable pub written : List ℕ → List ℕ → List ℕ
@@ -63,15 +64,15 @@ abbrev pub end_words : List ℕ
 end_words = 0 ∷ 0 ∷ 0 ∷ 0 ∷ 0 ∷ 0 ∷ 0 ∷ 0 ∷ 0 ∷ []
 
 -- a step's words for `out`
-abbrev pub step_words : Step → List ℕ
-step_words (Step.Found x w) = item_words x
-step_words (Step.Leads x w) = branch_words x
-step_words Step.End = end_words
-step_words (Step.Refused r) = []
+abbrev pub step_words : Result Step Refusal → List ℕ
+step_words (Ok (Step.Found x w)) = item_words x
+step_words (Ok (Step.Leads x w)) = branch_words x
+step_words (Ok Step.End) = end_words
+step_words (Err r) = []
 
 -- and for the walk: "The walk moves on, unless it is at its end or refused"
-abbrev pub moved_words : Step → List ℕ
-moved_words (Step.Found x w) = walk_words w
-moved_words (Step.Leads x w) = walk_words w
-moved_words Step.End = []
-moved_words (Step.Refused r) = []
+abbrev pub moved_words : Result Step Refusal → List ℕ
+moved_words (Ok (Step.Found x w)) = walk_words w
+moved_words (Ok (Step.Leads x w)) = walk_words w
+moved_words (Ok Step.End) = []
+moved_words (Err r) = []

@@ -12,8 +12,6 @@ use lib.ListN.{length, take, drop, get_or, length-append}
 use lib.Seq.{drop-append_seam}
 use Rattle.pages.specs.Meaning.{Child}
 use Rattle.walks.specs.declared.Walk.{Walk}
-use Rattle.walks.specs.declared.Begun.{Begun}
-use Rattle.walks.specs.declared.Step.{Step}
 use Rattle.walks.specs.Walk.{step_at}
 use Rattle.walks.specs.Listed.{Entry, entry_of, WalksTo, Lists, lead_of, LeadsTo, Leads}
 use Rattle.walks.specs.Refused.{begun_number}
@@ -25,6 +23,9 @@ use Rattle.capi.specs.Loop.{Row, Branch, Tells, Batch, CallsRead}
 use Rattle.c_words.proofs.Laws.{written_none, written-length, written-whole, walk_kept}
 use Rattle.capi.proofs.Looping.{begun_in}
 use Rattle.c_steps.proofs.Running.{none, stay, room_within}
+use Rattle.std.proofs.Common.{Result, Ok}
+use Rattle.frames.specs.declared.Refusal.{Refusal}
+use Rattle.walks.specs.declared.Step.{Step}
 
 -- T w es: the walk w lists es; Says: words say a record
 module _ {A : Type 0} (Says : ℕ → List ℕ → A → Type 0) (T : Walk → List A → Type 0) (s : List ℕ) where
@@ -46,12 +47,12 @@ module _ {A : Type 0} (Says : ℕ → List ℕ → A → Type 0) (T : Walk → L
     pub rows : (rest : List ℕ) → Tells Says (run_words n s w ++ rest) (take n es)
     pub behind : T (run_of n k s w).walk (drop n es)
 
-  module _ (ends : (w : Walk) → T w [] → step_at s w ≡ Step.End) (next : (w : Walk) (e : A) (es : List A) → T w (e ∷ es) → Next w e es) where
-    ran-end : (n k : ℕ) (w : Walk) → T w [] → step_at s w ≡ Step.End → Ran (suc n) k w []
+  module _ (ends : (w : Walk) → T w [] → step_at s w ≡ Ok Step.End) (next : (w : Walk) (e : A) (es : List A) → T w (e ∷ es) → Next w e es) where
+    ran-end : (n k : ℕ) (w : Walk) → T w [] → step_at s w ≡ Ok Step.End → Ran (suc n) k w []
     unfolding run_of run_words Tells
     ran-end n k w h e =
-        let r : run_of (suc n) k s w ≡ run k 0 w = ap (λ (z : Step). run_by (λ (v : Walk). run_of n (k + 1) s v) k w z) e in
-        let ws : run_words (suc n) s w ≡ [] = ap (λ (z : Step). words_by (λ (v : Walk). run_words n s v) z) e in
+        let r : run_of (suc n) k s w ≡ run k 0 w = ap (λ (z : Result Step Refusal). run_by (λ (v : Walk). run_of n (k + 1) s v) k w z) e in
+        let ws : run_words (suc n) s w ≡ [] = ap (λ (z : Result Step Refusal). words_by (λ (v : Walk). run_words n s v) z) e in
         record {
           count = ap (λ (z : Run). z.count) r ∙ omega arith;
           number = ap (λ (z : Run). z.number) r;
@@ -90,8 +91,8 @@ next_row s prefix w e es h =
       walk = h.1;
       words = item_words h.0;
       nine = refl;
-      runs = λ (n k : ℕ). ap (λ (z : Step). run_by (λ (v : Walk). run_of n (k + 1) s v) k w z) h.2;
-      tells = λ (n : ℕ). ap (λ (z : Step). words_by (λ (v : Walk). run_words n s v) z) h.2;
+      runs = λ (n k : ℕ). ap (λ (z : Result Step Refusal). run_by (λ (v : Walk). run_of n (k + 1) s v) k w z) h.2;
+      tells = λ (n : ℕ). ap (λ (z : Result Step Refusal). words_by (λ (v : Walk). run_words n s v) z) h.2;
       says = λ (rest : List ℕ). record {
         answers = refl;
         row = refl;
@@ -113,8 +114,8 @@ next_branch s prefix w e es h =
       walk = h.1;
       words = branch_words h.0;
       nine = refl;
-      runs = λ (n k : ℕ). ap (λ (z : Step). run_by (λ (v : Walk). run_of n (k + 1) s v) k w z) h.2;
-      tells = λ (n : ℕ). ap (λ (z : Step). words_by (λ (v : Walk). run_words n s v) z) h.2;
+      runs = λ (n k : ℕ). ap (λ (z : Result Step Refusal). run_by (λ (v : Walk). run_of n (k + 1) s v) k w z) h.2;
+      tells = λ (n : ℕ). ap (λ (z : Result Step Refusal). words_by (λ (v : Walk). run_words n s v) z) h.2;
       says = λ (rest : List ℕ). record {
         answers = refl;
         leads = refl;
@@ -190,7 +191,7 @@ module _ {A : Type 0} (Says : ℕ → List ℕ → A → Type 0) (T : Walk → L
       )
 
 -- what ct_forward and ct_backward leave, read by ct_steps: with law_calls demand 3 holds of this C loop, too
-module _ (s prefix : List ℕ) (b : Begun) (walk out : List ℕ) (hw : 18 ≤ length walk) (ho : 1 ≤ length out) where
+module _ (s prefix : List ℕ) (b : Result Walk Refusal) (walk out : List ℕ) (hw : 18 ≤ length walk) (ho : 1 ≤ length out) where
   pub batches_list : (es : List Entry) → Lists s prefix b es → (begun_number b ≡ 0) × ((m : ℕ) → CallsRead (Row s prefix) m s (written (begun_words b) walk) out es)
   batches_list es h = (
     ap begun_number h.begun,

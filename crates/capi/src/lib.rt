@@ -27,9 +27,9 @@ ghost use Rattle.c_steps.specs.Steps.{run_number, run_walk, steps_at, steps_word
 ghost use Rattle.c_words.specs.Words.{written, walk_in, step_words, moved_words};
 ghost use Rattle.c_answers.specs.Answers.{prefix_words, built_words, page_words, hints_words, hints_from, hint_words, found_words, as_of_words, bound_words, floor_words, begun_words, leaf_key_words, index_key_words, value_words, child_words, laid_words};
 
-use frames::{Addr, Opened, PageId, Refusal};
+use frames::{Addr, PageId, Refusal};
 use order::Ver;
-use pages::{Checked, Hints};
+use pages::Hints;
 
 // ---- building
 
@@ -205,8 +205,8 @@ pub extern "C" fn ct_check(arena: &[u8], at: u64) -> u32
     ensures { result ≡ checked_number (check_of (meaning arena.now (addr at))) }
 {
     match pages::check(arena, Addr(at)) {
-        Checked::Sound => 0,
-        Checked::Refused(r) => c_words::no(r),
+        Ok(()) => 0,
+        Err(r) => c_words::no(r),
     }
 }
 
@@ -215,7 +215,7 @@ pub extern "C" fn ct_page(arena: &[u8], at: u64, out: &mut [u64]) -> u32
     ensures value { result ≡ bounds_number (bounds_at arena.now (addr at)) }
     ensures out_after { out.new ≡ written (page_words (open_at arena.now (addr at)) (bounds_at arena.now (addr at))) out.old }
 {
-    let Opened::Is(b) = frames::open_at(arena, Addr(at)) else {
+    let Some(b) = frames::open_at(arena, Addr(at)) else {
         return c_words::no(Refusal::BadFrame);
     };
     let x = pages::bounds_at(arena, Addr(at));
@@ -245,10 +245,7 @@ pub extern "C" fn ct_hint(arena: &[u8], at: usize, count: usize, k: usize, out: 
     ensures value { result ≡ 0 }
     ensures out_after { out.new ≡ written (hint_words (hint_in arena.now (hints_from at count) k)) out.old }
 {
-    let h = Hints {
-        at: at,
-        count: count,
-    };
+    let h = Hints { at, count };
     let x = pages::hint_at(arena, h, k);
     c_answers::tell_hint(out, x)
 }

@@ -1,7 +1,7 @@
 -- Order 3's worked answers: probes below a page's prefix, above it, and such that begin with it, asked of pages and a delta that the Rust built.
 -- Search, lower bound, floor, as of (4, 9), overlay; keys read stand last.
 -- Assumes nothing.
-use Rattle.std.specs.Prelude.{ℕ, ◌+◌, ◌-◌, ◌^◌, ◌≡◌, refl, List, [], ◌∷◌}
+use Rattle.std.specs.Prelude.{ℕ, ◌+◌, ◌-◌, ◌^◌, ◌≡◌, refl, List, [], ◌∷◌, Result, Ok, Err}
 use Rattle.spans.specs.Span.{part, part_or, put}
 use Rattle.numbers.specs.Number.{of_le, le_at}
 use Rattle.order.specs.Order.{cmp_bytes, starts_with}
@@ -18,18 +18,19 @@ use Rattle.pages.specs.Sound.{history_at}
 use Rattle.walks.specs.Walk.{fits_in, read_at, enter_at}
 use Rattle.walks.specs.Turned.{turned_at}
 use Rattle.walks.specs.Aged.{key_old, aged_in, aged_at}
-use Rattle.sst.specs.declared.Bound.{Bound}
-use Rattle.sst.specs.declared.Floor.{Floor}
-use Rattle.sst.specs.declared.Found.{Found}
 use Rattle.sst.specs.Halve.{halve}
 use Rattle.sst.specs.Search.{newer_at, key_cmp, right_kind, ready_at, fits_prefix, halved, elsewhere, probed, outcome_at, page_in, head_in, lower_at, floor_at, search_at}
 use Rattle.search_head.specs.Head.{head_slot, head_at}
-use Rattle.asof.specs.declared.AsOf.{AsOf}
 use Rattle.asof.specs.AsOf.{old_as_of, old_enter, older_as_of, as_of_at}
 use Rattle.delta.specs.Read.{delta_is, leaf_key_at, value_at}
 use Rattle.delta.specs.Read as D
-use Rattle.overlay.specs.declared.Laid.{Laid}
 use Rattle.overlay.specs.Overlay.{page_value, is_probe, delta_value, laid_by, laid_at}
+use Rattle.asof.specs.declared.AsOf.{AsOf}
+use Rattle.frames.specs.declared.Refusal.{Refusal}
+use Rattle.overlay.specs.declared.Laid.{Laid}
+use Rattle.sst.specs.declared.Bound.{Bound}
+use Rattle.sst.specs.declared.Floor.{Floor}
+use Rattle.sst.specs.declared.Found.{Found}
 
 -- lo `ba`, hi `bd`: the leaf with ba (3,0) 1, bb (5,0) 2, bb (4,0) 3, bc (2,0) 4 at 104; the index page with ba 21, bb 22, bc 23 at 288. Their
 -- bytes stand in tests/vectors/searches.txt, "lo ba, hi bd"
@@ -49,31 +50,31 @@ pub data Shown : Type 0 where
   value : List ℕ → Shown
   no : ℕ → Shown
 
-abbrev found : List ℕ → Found → Shown
-found s (Found.Is i v h p n) = row v.txid (part_in s p) n
-found s (Found.Nothing n) = none n
-found s (Found.Refused r) = no (number_of r)
+abbrev found : List ℕ → Result Found Refusal → Shown
+found s (Ok (Found.Is i v h p n)) = row v.txid (part_in s p) n
+found s (Ok (Found.Nothing n)) = none n
+found s (Err r) = no (number_of r)
 
-abbrev bounded : Bound → Shown
-bounded (Bound.At p n) = at p n
-bounded (Bound.PastEnd p n) = past p n
-bounded (Bound.Refused r) = no (number_of r)
+abbrev bounded : Result Bound Refusal → Shown
+bounded (Ok (Bound.At p n)) = at p n
+bounded (Ok (Bound.PastEnd p n)) = past p n
+bounded (Err r) = no (number_of r)
 
-abbrev floored : Floor → Shown
-floored (Floor.Is i p n) = slot i p.0 n
-floored (Floor.Nothing n) = none n
-floored (Floor.Refused r) = no (number_of r)
+abbrev floored : Result Floor Refusal → Shown
+floored (Ok (Floor.Is i p n)) = slot i p.0 n
+floored (Ok (Floor.Nothing n)) = none n
+floored (Err r) = no (number_of r)
 
-abbrev then : List ℕ → AsOf → Shown
-then s (AsOf.Is i v p n) = row v.txid (part_in s p) n
-then s (AsOf.Nothing n) = none n
-then s (AsOf.Refused r) = no (number_of r)
+abbrev then : List ℕ → Result AsOf Refusal → Shown
+then s (Ok (AsOf.Is i v p n)) = row v.txid (part_in s p) n
+then s (Ok (AsOf.Nothing n)) = none n
+then s (Err r) = no (number_of r)
 
-abbrev laid : List ℕ → List ℕ → Laid → Shown
-laid s t (Laid.Delta p) = value (part_in t p)
-laid s t (Laid.Page p) = value (part_in s p)
-laid s t Laid.Nothing = none 0
-laid s t (Laid.Refused r) = no (number_of r)
+abbrev laid : List ℕ → List ℕ → Result Laid Refusal → Shown
+laid s t (Ok (Laid.Delta p)) = value (part_in t p)
+laid s t (Ok (Laid.Page p)) = value (part_in s p)
+laid s t (Ok Laid.Nothing) = none 0
+laid s t (Err r) = no (number_of r)
 
 -- the five calls, a lower bound on both pages with the largest version
 unfoldable pub asked : List ℕ → List ℕ → List Shown

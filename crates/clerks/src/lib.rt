@@ -23,13 +23,7 @@ pub fn alloc(c: &mut Clerk, size: u64) -> Addr
 pub fn alloc_from(next: Addr, limit: u64, size: u64) -> Taken
     ensures { result ≡ taken_of (clerk_of next limit) size }
 {
-    let mut c = Clerk {
-        next: next,
-        limit: limit,
-    };
+    let mut c = Clerk { next, limit };
     let addr = alloc(&mut c, size);
-    Taken {
-        addr: addr,
-        clerk: c,
-    }
+    Taken { addr, clerk: c }
 }

@@ -19,16 +19,12 @@ use Rattle.order.specs.declared.Ver.{Ver}
 use Rattle.order.specs.Version.{ver_of}
 use Rattle.frames.specs.declared.BoxHeader.{BoxHeader}
 use Rattle.frames.specs.declared.Delta.{Delta}
-use Rattle.frames.specs.declared.DeltaRead.{DeltaRead}
-use Rattle.frames.specs.declared.FrameRead.{FrameRead}
 use Rattle.frames.specs.declared.PageId.{PageId}
-use Rattle.frames.specs.declared.RemoteRead.{RemoteRead}
 use Rattle.frames.specs.Layout.{addr, box_len, frame_len, box_fields, box_ok, box_at, remote_at, delta_at, box_delta, box_remote, node_leaf, node_index}
 use Rattle.frames.specs.Stored.{box_bytes}
 use Rattle.frames.specs.Limits.{max_key, max_value}
 use Rattle.frames.proofs.Stores.{length_box, box_reads}
-use Rattle.values.specs.declared.KeyRead.{KeyRead}
-use Rattle.values.specs.Keys.{leaf_key, index_key, ver_in}
+use Rattle.values.specs.Keys.{leaf_key, index_key, ver_in, key_parts}
 use Rattle.values.specs.Vals.{no_hist, front_size, inline_bytes, remote_bytes}
 use Rattle.values.proofs.Laws.{length-leaf_key, length-index_key, length_inline, length-remote}
 use Rattle.values.proofs.KeysBack.{SmallVer, leaf_rest, leaf_version, leaf_back, index_rest, index_back}
@@ -37,13 +33,10 @@ use Rattle.pages.specs.Boundaries.{place}
 use Rattle.build_image.specs.declared.Call.{Call}
 use Rattle.build_image.specs.Sizes.{pad}
 use Rattle.build_image.specs.Image.{box_of, remote_frame}
-use Rattle.delta.specs.declared.LeafKey.{LeafKey}
-use Rattle.delta.specs.declared.IndexKey.{IndexKey}
-use Rattle.delta.specs.declared.Value.{Value}
-use Rattle.delta.specs.declared.Child.{Child}
 use Rattle.delta.specs.Deltas.{delta_head, delta_frame}
-use Rattle.delta.specs.Read.{delta_is, key_in, leaf_key_at, index_key_at, val_in, value_at, child_at}
+use Rattle.delta.specs.Read.{delta_is, key_in, leaf_key_at, index_key_at, val_in, value_at, child_at, keyed}
 use Rattle.delta.proofs.Lengths.{length_head}
+use Rattle.std.proofs.Common.{Some, Ok}
 
 -- what the headers carry fits its fields
 pub record Small (m : Call) : Type 0 where
@@ -95,7 +88,7 @@ module _ (s : List ℕ) (at : ℕ) (m : Call) (node : ℕ) (key val : List ℕ) 
       (record { payload = omega arith; kind = omega arith; node = omega arith; flag = omega arith; group = w.group; link = omega arith; txid = w.txid; lsn = w.lsn })
       (lies_front s at (box_bytes box) (le 4 k ++ le 4 v) head_lies)
 
-  box_at_lem : box_at s (addr at) ≡ FrameRead.Frame box
+  box_at_lem : box_at s (addr at) ≡ Some box
   unfolding box_at box_ok
   box_at_lem =
       rw (le-leb (at + box_len) (length s) (omega arith), box_is, le-leb 8 at h8, eq-eqb (at % 8) 0 hm, le-leb node_leaf node n1, le-leb node node_index n2, le-leb (at + frame_len (8 + k + v)) (length s) room) refl
@@ -109,7 +102,7 @@ module _ (s : List ℕ) (at : ℕ) (m : Call) (node : ℕ) (key val : List ℕ) 
   abbrev cut : Delta
   cut = record { key_at = at + box_len + 8; val_at = at + box_len + 8 + k; end = at + box_len + 8 + k + v; node_type = node; txid = m.txid }
 
-  pub delta_back : delta_is s (addr at) node ≡ DeltaRead.Is cut
+  pub delta_back : delta_is s (addr at) node ≡ Some cut
   unfolding delta_is delta_at
   delta_back = rw (box_at_lem, klen, vlen, le-leb 8 (8 + k + v) (omega arith), eq-eqb (8 + k + v) (8 + k + v) refl, eq-eqb node node refl) refl
 
@@ -138,14 +131,14 @@ module _ (s : List ℕ) (at : ℕ) (m : Call) (v : List ℕ) (w : Small m) (h8 :
       (record { payload = omega arith; kind = omega arith; node = omega arith; flag = omega arith; group = w.group; link = omega arith; txid = omega arith; lsn = w.lsn })
       (lies_front s at (box_bytes remote_box) (le 8 (length v) ++ (v ++ pad (8 + length v))) lies)
 
-  remote-at : box_at s (addr at) ≡ FrameRead.Frame remote_box
+  remote-at : box_at s (addr at) ≡ Some remote_box
   unfolding box_at box_ok
   remote-at = rw (le-leb (at + box_len) (length s) (omega arith), remote-is, le-leb 8 at h8, eq-eqb (at % 8) 0 hm, le-leb (at + frame_len (8 + length v)) (length s) room) refl
 
   remote-size : le_at 8 s (at + box_len) ≡ length v
   remote-size = lies_le s (at + box_len) 8 (length v) (omega arith) (lies_front s (at + box_len) (le 8 (length v)) (v ++ pad (8 + length v)) remote-rest)
 
-  pub remote_resolves : remote_at s (addr at) (length v) ≡ RemoteRead.At (at + box_len + 8)
+  pub remote_resolves : remote_at s (addr at) (length v) ≡ Some (at + box_len + 8)
   unfolding remote_at
   remote_resolves = rw (remote-at, remote-size, eq-eqb (8 + length v) (8 + length v) refl, eq-eqb (length v) (length v) refl) refl
 
@@ -153,17 +146,17 @@ module _ (s : List ℕ) (at : ℕ) (m : Call) (v : List ℕ) (w : Small m) (h8 :
 
 pub record ReadsKey (s : List ℕ) (at : ℕ) (ver : Ver) (key : List ℕ) : Type 0 where
   pub place_of : ℕ
-  pub read : leaf_key_at s (addr at) ≡ LeafKey.Is ver (place place_of (length key))
+  pub read : leaf_key_at s (addr at) ≡ Ok (keyed ver (place place_of (length key)))
   pub bytes : part s place_of (length key) ≡ key
 
 pub record ReadsIndexKey (s : List ℕ) (at : ℕ) (key : List ℕ) : Type 0 where
   pub place_of : ℕ
-  pub read : index_key_at s (addr at) ≡ IndexKey.Is (place place_of (length key))
+  pub read : index_key_at s (addr at) ≡ Ok (place place_of (length key))
   pub bytes : part s place_of (length key) ≡ key
 
 pub record ReadsValue (s : List ℕ) (at : ℕ) (v : List ℕ) : Type 0 where
   pub place_of : ℕ
-  pub read : value_at s (addr at) ≡ Value.Is (place place_of (length v))
+  pub read : value_at s (addr at) ≡ Ok (place place_of (length v))
   pub bytes : part s place_of (length v) ≡ v
 
 -- a leaf delta's key
@@ -181,7 +174,7 @@ module _ (s : List ℕ) (at : ℕ) (m : Call) (ver : Ver) (raw val : List ℕ) (
   here : Lies s from (leaf_key ver raw)
   here = key_lies s at m 1 (leaf_key ver raw) val w (omega arith) (omega arith) h8 hm few room lies
 
-  key_in_lem : key_in s (cut s at m 1 (leaf_key ver raw) val w (omega arith) (omega arith) h8 hm few room lies) 0 ≡ KeyRead.Key (from + lead) (from + lead + 12) (length raw)
+  key_in_lem : key_in s (cut s at m 1 (leaf_key ver raw) val w (omega arith) (omega arith) h8 hm few room lies) 0 ≡ Some (key_parts (from + lead) (from + lead + 12) (length raw))
   unfolding key_in
   key_in_lem =
       rw (leaf_back (take to s) from ver raw small wv (lies_cut s from to (leaf_key ver raw) (omega arith) here), le-leb (length raw) max_key small, eq-eqb (from + lead + 12 + length raw) to (omega (arith, length-leaf_key ver raw)))
@@ -194,7 +187,7 @@ module _ (s : List ℕ) (at : ℕ) (m : Call) (ver : Ver) (raw val : List ℕ) (
         place_of = from + lead + 12;
         read =
             rw (delta_back s at m 1 (leaf_key ver raw) val w (omega arith) (omega arith) h8 hm few room lies, key_in_lem)
-            (ap (λ (x : Ver). LeafKey.Is x (place (from + lead + 12) (length raw))) (leaf_version s from ver raw small wv here));
+            (ap (λ (x : Ver). Ok (keyed x (place (from + lead + 12) (length raw)))) (leaf_version s from ver raw small wv here));
         bytes = lies_part s (from + lead + 12) (length raw) raw refl (leaf_rest s from ver raw small wv here);
       }
 
@@ -213,7 +206,7 @@ module _ (s : List ℕ) (at : ℕ) (m : Call) (raw : List ℕ) (page : PageId) (
   ihere : Lies s ifrom (index_key raw)
   ihere = key_lies s at m 2 (index_key raw) (le 8 page.0) w (omega arith) (omega arith) h8 hm few room lies
 
-  index_key_in : key_in s (cut s at m 2 (index_key raw) (le 8 page.0) w (omega arith) (omega arith) h8 hm few room lies) 1 ≡ KeyRead.Key (ifrom + ilead) (ifrom + ilead + 0) (length raw)
+  index_key_in : key_in s (cut s at m 2 (index_key raw) (le 8 page.0) w (omega arith) (omega arith) h8 hm few room lies) 1 ≡ Some (key_parts (ifrom + ilead) (ifrom + ilead + 0) (length raw))
   unfolding key_in
   index_key_in =
       rw (index_back (take ito s) ifrom raw small (lies_cut s ifrom ito (index_key raw) (omega arith) ihere), le-leb (length raw) max_key small, eq-eqb (ifrom + ilead + 0 + length raw) ito (omega (arith, length-index_key raw)))
@@ -228,7 +221,7 @@ module _ (s : List ℕ) (at : ℕ) (m : Call) (raw : List ℕ) (page : PageId) (
         bytes = lies_part s (ifrom + ilead + 0) (length raw) raw refl (subst (λ (j : ℕ). Lies s j raw) (omega arith) (index_rest s ifrom raw small ihere));
       }
 
-  pub child_back : child_at s (addr at) ≡ Child.Is page
+  pub child_back : child_at s (addr at) ≡ Ok page
   unfolding child_at
   child_back =
       rw (
@@ -253,7 +246,7 @@ module _ (s : List ℕ) (at : ℕ) (m : Call) (key v : List ℕ) (w : Small m) (
   vhere : Lies s vfrom (inline_bytes no_hist v)
   vhere = val_lies s at m 1 key (inline_bytes no_hist v) w (omega arith) (omega arith) h8 hm few room lies
 
-  inline_in : val_in s (cut s at m 1 key (inline_bytes no_hist v) w (omega arith) (omega arith) h8 hm few room lies) ≡ Value.Is (place (vfrom + 5) (length v))
+  inline_in : val_in s (cut s at m 1 key (inline_bytes no_hist v) w (omega arith) (omega arith) h8 hm few room lies) ≡ Ok (place (vfrom + 5) (length v))
   unfolding val_in front_size
   inline_in =
       rw (
@@ -280,7 +273,7 @@ module _ (s : List ℕ) (at remote : ℕ) (m : Call) (key v : List ℕ) (w : Sma
   abbrev rto : ℕ
   rto = at + box_len + 8 + length key + length (remote_bytes no_hist (length v) remote)
 
-  remote_in : val_in s (cut s at m 1 key (remote_bytes no_hist (length v) remote) w (omega arith) (omega arith) h8 hm few room lies) ≡ Value.Is (place (remote + box_len + 8) (length v))
+  remote_in : val_in s (cut s at m 1 key (remote_bytes no_hist (length v) remote) w (omega arith) (omega arith) h8 hm few room lies) ≡ Ok (place (remote + box_len + 8) (length v))
   unfolding val_in front_size
   remote_in =
       rw (

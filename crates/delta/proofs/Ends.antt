@@ -12,32 +12,32 @@ use borrow.Author.Tests.{leb-true}
 use Rattle.spans.proofs.Tests.{ask}
 use Rattle.frames.specs.declared.Addr.{Addr}
 use Rattle.frames.specs.declared.Delta.{Delta}
-use Rattle.frames.specs.declared.DeltaRead.{DeltaRead}
 use Rattle.frames.specs.Layout.{delta_at}
 use Rattle.frames.specs.Limits.{max_key}
 use Rattle.frames.proofs.Frames.{DeltaInside, delta_inside, and_l}
-use Rattle.values.specs.declared.KeyRead.{KeyRead}
-use Rattle.values.specs.Keys.{skip_of, key_at}
+use Rattle.values.specs.Keys.{skip_of, key_at, key_parts}
 use Rattle.records.proofs.Places.{key_no, key-place}
 use Rattle.delta.specs.Read.{typed, delta_is, key_to, key_in}
+use Rattle.std.proofs.Common.{Option, Some, None}
+use Rattle.values.specs.declared.KeyParts.{KeyParts}
 
-delta_no : (d : Delta) → DeltaRead.Bad ≡ DeltaRead.Is d → ⊥
+delta_no : (d : Delta) → None ≡ Some d → ⊥
 delta_no d e = let z : ◌≡◌ {A = ℕ} 0 1 = cc in omega arith
 
-pub is-inside : (s : List ℕ) (a : Addr) (node : ℕ) (d : Delta) → delta_is s a node ≡ DeltaRead.Is d → DeltaInside s d
+pub is-inside : (s : List ℕ) (a : Addr) (node : ℕ) (d : Delta) → delta_is s a node ≡ Some d → DeltaInside s d
 unfolding delta_is
 is-inside s a node d e = go (delta_at s a) refl e
   where
-    go : (r : DeltaRead) → delta_at s a ≡ r → typed node r ≡ DeltaRead.Is d → DeltaInside s d
-    go (DeltaRead.Is x) q e' =
-        let a1 = ask (eqb x.node_type node) (DeltaRead.Is x) DeltaRead.Bad (DeltaRead.Is d) (delta_no d) e' in
+    go : (r : Option Delta) → delta_at s a ≡ r → typed node r ≡ Some d → DeltaInside s d
+    go (Some x) q e' =
+        let a1 = ask (eqb x.node_type node) (Some x) None (Some d) (delta_no d) e' in
         delta_inside s a d (q ∙ a1.1)
-    go DeltaRead.Bad q e' = absurd (delta_no d e')
+    go None q e' = absurd (delta_no d e')
 
-pub key-ends : (s : List ℕ) (a : Addr) (node : ℕ) (d : Delta) → delta_is s a node ≡ DeltaRead.Is d → d.val_at ≤ length s
+pub key-ends : (s : List ℕ) (a : Addr) (node : ℕ) (d : Delta) → delta_is s a node ≡ Some d → d.val_at ≤ length s
 key-ends s a node d e = let i = is-inside s a node d e in omega (arith, i.val, i.arena)
 
-pub val-ends : (s : List ℕ) (a : Addr) (node : ℕ) (d : Delta) → delta_is s a node ≡ DeltaRead.Is d → d.end ≤ length s
+pub val-ends : (s : List ℕ) (a : Addr) (node : ℕ) (d : Delta) → delta_is s a node ≡ Some d → d.end ≤ length s
 val-ends s a node d e = (is-inside s a node d e).arena
 
 -- the key that was read is the one that the bytes say, and fills its length
@@ -46,19 +46,19 @@ pub record Filled (s : List ℕ) (d : Delta) (kind v r n : ℕ) : Type 0 where
   pub ends : r + n ≤ d.val_at
   pub small : n ≤ max_key
 
-pub key-filled : (s : List ℕ) (d : Delta) (kind v r n : ℕ) → d.val_at ≤ length s → key_in s d kind ≡ KeyRead.Key v r n → Filled s d kind v r n
+pub key-filled : (s : List ℕ) (d : Delta) (kind v r n : ℕ) → d.val_at ≤ length s → key_in s d kind ≡ Some (key_parts v r n) → Filled s d kind v r n
 unfolding key_in
 key-filled s d kind v r n h e = go (key_at (take d.val_at s) d.key_at kind) refl e
   where
-    go : (k : KeyRead) → key_at (take d.val_at s) d.key_at kind ≡ k → key_to d.val_at k ≡ KeyRead.Key v r n → Filled s d kind v r n
-    go (KeyRead.Key v' r' n') q e' =
-        let a1 = ask (leb n' max_key && eqb (r' + n') d.val_at) (KeyRead.Key v' r' n') KeyRead.Bad (KeyRead.Key v r n) (key_no v r n) e' in
+    go : (k : Option KeyParts) → key_at (take d.val_at s) d.key_at kind ≡ k → key_to d.val_at k ≡ Some (key_parts v r n) → Filled s d kind v r n
+    go (Some k) q e' =
+        let a1 = ask (leb k.rest_len max_key && eqb (k.rest_at + k.rest_len) d.val_at) (Some k) None (Some (key_parts v r n)) (key_no v r n) e' in
         let p = key-place (take d.val_at s) d.key_at kind v r n (q ∙ a1.1) in
-        let x : n' ≡ n = cc in
-        record { ver = p.ver; ends = omega (arith, p.rest, length-take-le d.val_at s h); small = omega (arith, leb-true n' max_key (and_l (leb n' 4096) (eqb (r' + n') d.val_at) a1.0)) }
-    go KeyRead.Bad q e' = absurd (key_no v r n e')
+        let x : k.rest_len ≡ n = cc in
+        record { ver = p.ver; ends = omega (arith, p.rest, length-take-le d.val_at s h); small = omega (arith, leb-true k.rest_len max_key (and_l (leb k.rest_len 4096) (eqb (k.rest_at + k.rest_len) d.val_at) a1.0)) }
+    go None q e' = absurd (key_no v r n e')
 
-pub ver-ends : (s : List ℕ) (a : Addr) (d : Delta) → delta_is s a 1 ≡ DeltaRead.Is d → (v r n : ℕ) → key_in s d 0 ≡ KeyRead.Key v r n → v + 12 ≤ length s
+pub ver-ends : (s : List ℕ) (a : Addr) (d : Delta) → delta_is s a 1 ≡ Some d → (v r n : ℕ) → key_in s d 0 ≡ Some (key_parts v r n) → v + 12 ≤ length s
 unfolding skip_of
 ver-ends s a d e v r n k =
     let h = key-ends s a 1 d e in

@@ -26,8 +26,6 @@ use Rattle.build_image.specs.declared.Call.{Call}
 use Rattle.build_image.specs.Sizes.{remote_len}
 use Rattle.build_image.specs.Image.{remote_frame}
 use Rattle.build_image.proofs.Lengths.{size-some}
-use Rattle.build_image.specs.declared.Built.{Built}
-use Rattle.delta.specs.declared.Child.{Child}
 use Rattle.delta.specs.Deltas.{value_of, remote_of, delta_frame, leaf_frame, index_frame, leaf_delta, index_len}
 use Rattle.build_image.specs.Call.{built_number}
 use Rattle.build_image.proofs.Tables.{All}
@@ -38,6 +36,7 @@ use Rattle.build_image.proofs.Asked.{limit_true, next_true}
 use Rattle.delta.proofs.Verdict.{lengths_true, leaf_fits, index_fits}
 use Rattle.delta.proofs.Exactly.{leaf_accepted, index_accepted}
 use Rattle.delta.proofs.Back.{Small, ReadsKey, ReadsIndexKey, ReadsValue, key_back, index_key_back, child_back, inline_value_back, remote-value_back}
+use Rattle.std.proofs.Common.{Ok}
 
 -- what an accepted leaf delta is: its fields fit, its lengths are within the table's, it stands at a frame's place and in the buffer
 pub record LeafFit (s : List ℕ) (m : Call) (next : ℕ) (ver : Ver) (key v : List ℕ) : Type 0 where
@@ -140,13 +139,13 @@ module _ (s : List ℕ) (m : Call) (next : ℕ) (key : List ℕ) (page : PageId)
   pub index_reads_key : ReadsIndexKey s next key
   index_reads_key = index_key_back s next m key page f.carried f.page-fits f.above f.even f.key-small index_size_lem index_room index_lies
 
-  pub index_reads_page : child_at s (addr next) ≡ Child.Is page
+  pub index_reads_page : child_at s (addr next) ≡ Ok page
   index_reads_page = child_back s next m key page f.carried f.page-fits f.above f.even f.key-small index_size_lem index_room index_lies
 
 -- ---- on the arena that the call leaves: an accepted call's delta reads back at the address that it answered
 
 module _ (a : List ℕ) (m : Call) (next : ℕ) (ver : Ver) (key v : List ℕ) (x : Addr) (n : ℕ) (w : Small m) (wv : SmallVer ver) (long : length a < 256 ^ 8)
-    (e : leaf_built m (length a) next (length key) (length v) ≡ Built.At x n) where
+    (e : leaf_built m (length a) next (length key) (length v) ≡ Ok (x, n)) where
   abbrev after : List ℕ
   after = put a next (leaf_delta m next ver key v)
 
@@ -156,7 +155,7 @@ module _ (a : List ℕ) (m : Call) (next : ℕ) (ver : Ver) (key v : List ℕ) (
   fits : leaf_end m next (length key) (length v) ≤ length a
   fits = leb-true (leaf_end m next (length key) (length v)) (length a) passed.1.1.1.0
 
-  left : (Built.At (addr (leaf_at m next (length v))) (leaf_end m next (length key) (length v)) ≡ leaf_built m (length a) next (length key) (length v)) × (after ≡ leaf_arena m a next ver key v)
+  left : (Ok (addr (leaf_at m next (length v)), leaf_end m next (length key) (length v)) ≡ leaf_built m (length a) next (length key) (length v)) × (after ≡ leaf_arena m a next ver key v)
   left = leaf_fits m a next ver key v passed.0 passed.1.0 passed.1.1.0 fits
 
   stands : leaf_at m next (length v) ≡ x.0
@@ -190,7 +189,7 @@ module _ (a : List ℕ) (m : Call) (next : ℕ) (ver : Ver) (key v : List ℕ) (
   pub leaf_call-value : ReadsValue (leaf_arena m a next ver key v) x.0 v
   leaf_call-value = subst (λ (s : List ℕ). ReadsValue s x.0 v) left.1 (subst (λ (k : ℕ). ReadsValue after k v) stands (leaf_reads_value after m next ver key v leaf_fit leaf_lies))
 
-module _ (a : List ℕ) (m : Call) (next : ℕ) (key : List ℕ) (page : PageId) (x : Addr) (n : ℕ) (w : Small m) (wp : page.0 < 256 ^ 8) (e : index_built (length a) next (length key) ≡ Built.At x n) where
+module _ (a : List ℕ) (m : Call) (next : ℕ) (key : List ℕ) (page : PageId) (x : Addr) (n : ℕ) (w : Small m) (wp : page.0 < 256 ^ 8) (e : index_built (length a) next (length key) ≡ Ok (x, n)) where
   abbrev index_after : List ℕ
   index_after = put a next (index_frame m key page)
 
@@ -200,7 +199,7 @@ module _ (a : List ℕ) (m : Call) (next : ℕ) (key : List ℕ) (page : PageId)
   index_room' : next + index_len (length key) ≤ length a
   index_room' = leb-true (next + index_len (length key)) (length a) index_passed.1.1.0
 
-  index_left_lem : (Built.At (addr next) (next + index_len (length key)) ≡ index_built (length a) next (length key)) × (index_after ≡ index_arena m a next key page)
+  index_left_lem : (Ok (addr next, next + index_len (length key)) ≡ index_built (length a) next (length key)) × (index_after ≡ index_arena m a next key page)
   index_left_lem = index_fits m a next key page index_passed.0 index_passed.1.0 index_room'
 
   index_stands : next ≡ x.0
@@ -229,7 +228,7 @@ module _ (a : List ℕ) (m : Call) (next : ℕ) (key : List ℕ) (page : PageId)
       subst (λ (s : List ℕ). ReadsIndexKey s x.0 key) index_left_lem.1
       (subst (λ (k : ℕ). ReadsIndexKey index_after k key) index_stands (index_reads_key index_after m next key page index_fit written))
 
-  pub index_call-page : child_at (index_arena m a next key page) (addr x.0) ≡ Child.Is page
+  pub index_call-page : child_at (index_arena m a next key page) (addr x.0) ≡ Ok page
   index_call-page =
-      subst (λ (s : List ℕ). child_at s (addr x.0) ≡ Child.Is page) index_left_lem.1
-      (subst (λ (k : ℕ). child_at index_after (addr k) ≡ Child.Is page) index_stands (index_reads_page index_after m next key page index_fit written))
+      subst (λ (s : List ℕ). child_at s (addr x.0) ≡ Ok page) index_left_lem.1
+      (subst (λ (k : ℕ). child_at index_after (addr k) ≡ Ok page) index_stands (index_reads_page index_after m next key page index_fit written))

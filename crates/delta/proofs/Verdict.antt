@@ -24,11 +24,12 @@ use Rattle.frames.proofs.Frames.{and_l, and_r}
 use Rattle.frames.proofs.Clerks.{take-room, take_none}
 use Rattle.build_image.specs.declared.Call.{Call}
 use Rattle.build_image.specs.Sizes.{remote_len}
-use Rattle.build_image.specs.declared.Built.{Built}
 use Rattle.delta.specs.Deltas.{remote_of, leaf_frame, index_frame, leaf_delta, leaf_len, index_len}
 use Rattle.build_image.specs.Call.{limit_ok, next_ok}
 use Rattle.delta.specs.Built.{leaf_built, leaf_arena, index_built, index_arena, address_or, pair_ok, leaf_at, leaf_end}
 use Rattle.delta.proofs.Lengths.{length-remote_of, length_leaf_frame, length_index_frame}
+use Rattle.std.proofs.Common.{Result, Ok, Err}
+use Rattle.frames.specs.declared.Addr.{Addr}
 
 -- ---- tests that passed
 
@@ -84,52 +85,52 @@ address_zero next len remote n at h e z =
 -- ---- answer and arena, row by row
 
 module _ (m : Call) (a : List ℕ) (next : ℕ) (ver : Ver) (key v : List ℕ) where
-  abbrev Leaves : Built → List ℕ → Type 0
+  abbrev Leaves : Result (Addr × ℕ) Refusal → List ℕ → Type 0
   Leaves r a₁ = (r ≡ leaf_built m (length a) next (length key) (length v)) × (a₁ ≡ leaf_arena m a next ver key v)
 
-  pub leaf_limit : limit_ok m.limit ≡ false → Leaves (Built.Refused Refusal.BadLimit) a
+  pub leaf_limit : limit_ok m.limit ≡ false → Leaves (Err Refusal.BadLimit) a
   unfolding leaf_built leaf_arena
   leaf_limit e = (rw e refl, rw e refl)
 
   module _ (e₁ : limit_ok m.limit ≡ true) where
-    pub leaf_next : next_ok (length a) next ≡ false → Leaves (Built.Refused Refusal.BadArena) a
+    pub leaf_next : next_ok (length a) next ≡ false → Leaves (Err Refusal.BadArena) a
     unfolding leaf_built leaf_arena
     leaf_next e = (rw (e₁, e) refl, rw (e₁, e) refl)
 
     module _ (e₂ : next_ok (length a) next ≡ true) where
-      pub leaf_pair : pair_ok (length key) (length v) ≡ false → Leaves (Built.Refused Refusal.BadList) a
+      pub leaf_pair : pair_ok (length key) (length v) ≡ false → Leaves (Err Refusal.BadList) a
       unfolding leaf_built leaf_arena
       leaf_pair e = (rw (e₁, e₂, e) refl, rw (e₁, e₂, e) refl)
 
       module _ (e₃ : pair_ok (length key) (length v) ≡ true) where
-        pub leaf_full : length a < leaf_end m next (length key) (length v) → Leaves (Built.Refused Refusal.NoRoom) a
+        pub leaf_full : length a < leaf_end m next (length key) (length v) → Leaves (Err Refusal.NoRoom) a
         unfolding leaf_built leaf_arena
         leaf_full h = let e = lt-leb (leaf_end m next (length key) (length v)) (length a) h in (rw (e₁, e₂, e₃, e) refl, rw (e₁, e₂, e₃, e) refl)
 
         pub leaf_fits : leaf_end m next (length key) (length v) ≤ length a
-            → Leaves (Built.At (addr (leaf_at m next (length v))) (leaf_end m next (length key) (length v))) (put a next (leaf_delta m next ver key v))
+            → Leaves (Ok (addr (leaf_at m next (length v)), leaf_end m next (length key) (length v))) (put a next (leaf_delta m next ver key v))
         unfolding leaf_built leaf_arena
         leaf_fits h = let e = le-leb (leaf_end m next (length key) (length v)) (length a) h in (rw (e₁, e₂, e₃, e) refl, rw (e₁, e₂, e₃, e) refl)
 
 module _ (m : Call) (a : List ℕ) (next : ℕ) (key : List ℕ) (page : PageId) where
-  abbrev Indexes : Built → List ℕ → Type 0
+  abbrev Indexes : Result (Addr × ℕ) Refusal → List ℕ → Type 0
   Indexes r a₁ = (r ≡ index_built (length a) next (length key)) × (a₁ ≡ index_arena m a next key page)
 
-  pub index_next : next_ok (length a) next ≡ false → Indexes (Built.Refused Refusal.BadArena) a
+  pub index_next : next_ok (length a) next ≡ false → Indexes (Err Refusal.BadArena) a
   unfolding index_built index_arena
   index_next e = (rw e refl, rw e refl)
 
   module _ (e₂ : next_ok (length a) next ≡ true) where
-    pub index_pair : pair_ok (length key) 0 ≡ false → Indexes (Built.Refused Refusal.BadList) a
+    pub index_pair : pair_ok (length key) 0 ≡ false → Indexes (Err Refusal.BadList) a
     unfolding index_built index_arena
     index_pair e = (rw (e₂, e) refl, rw (e₂, e) refl)
 
     module _ (e₃ : pair_ok (length key) 0 ≡ true) where
-      pub index_full : length a < next + index_len (length key) → Indexes (Built.Refused Refusal.NoRoom) a
+      pub index_full : length a < next + index_len (length key) → Indexes (Err Refusal.NoRoom) a
       unfolding index_built index_arena
       index_full h = let e = lt-leb (next + index_len (length key)) (length a) h in (rw (e₂, e₃, e) refl, rw (e₂, e₃, e) refl)
 
-      pub index_fits : next + index_len (length key) ≤ length a → Indexes (Built.At (addr next) (next + index_len (length key))) (put a next (index_frame m key page))
+      pub index_fits : next + index_len (length key) ≤ length a → Indexes (Ok (addr next, next + index_len (length key))) (put a next (index_frame m key page))
       unfolding index_built index_arena
       index_fits h = let e = le-leb (next + index_len (length key)) (length a) h in (rw (e₂, e₃, e) refl, rw (e₂, e₃, e) refl)
 

@@ -11,13 +11,11 @@ ghost use Rattle.delta.specs.Deltas.{value_of, remote_of, delta_head, leaf_frame
 ghost use Rattle.delta.specs.Built.{address_or, leaf_built, leaf_arena, index_built, index_arena, pair_ok};
 ghost use Rattle.delta.specs.Read.{delta_is, key_in, leaf_key_at, index_key_at, value_to, val_in, value_at, child_at};
 
-use build_image::{Built, Call};
-use frames::{
-    Addr, BaseHeader, BoxHeader, Delta, DeltaRead, NULL_ADDR, PageId, Refusal, RemoteRead,
-};
+use build_image::Call;
+use frames::{Addr, BaseHeader, BoxHeader, Delta, NULL_ADDR, PageId, Refusal};
 use order::Ver;
 use pages::Place;
-use values::{HistRef, KeyRead, Val};
+use values::{HistRef, KeyParts, Val};
 
 // ---- judging
 
@@ -166,29 +164,29 @@ pub fn from_key_val(
     ver: Ver,
     key: &[u8],
     value: &[u8],
-) -> Built
+) -> Result<(Addr, usize), Refusal>
     ensures value { result ≡ leaf_built (call_of limit 0 group ver.txid lsn ckpt) (length a.old) next (length key.now) (length value.now) }
     ensures a_after { a.new ≡ leaf_arena (call_of limit 0 group ver.txid lsn ckpt) a.old next ver key.now value.now }
 {
     if !build_image::limit_ok(limit) {
-        return Built::Refused(Refusal::BadLimit);
+        return Err(Refusal::BadLimit);
     }
     if !build_image::next_ok(a.len(), next) {
-        return Built::Refused(Refusal::BadArena);
+        return Err(Refusal::BadArena);
     }
     if !lengths_ok(key.len(), value.len()) {
-        return Built::Refused(Refusal::BadList);
+        return Err(Refusal::BadList);
     }
     let remote = build_image::remote_len(limit, value.len(), NULL_ADDR);
     let len = leaf_len(limit, key.len(), value.len());
     let at = placed(next, a.len(), remote, len);
     if at == 0 {
-        return Built::Refused(Refusal::NoRoom);
+        return Err(Refusal::NoRoom);
     }
     let m = build_image::call_of(limit, 0, group, ver.txid, lsn, ckpt);
     put_remote(a, next, m, value);
     put_leaf(a, at, m, next, ver, key, value);
-    Built::At(Addr(at as u64), at + len)
+    Ok((Addr(at as u64), at + len))
 }
 
 // An index delta: a key and a page id, written from the next free address on.
@@ -201,198 +199,162 @@ pub fn from_key_index(
     ckpt: u64,
     key: &[u8],
     page: PageId,
-) -> Built
+) -> Result<(Addr, usize), Refusal>
     ensures value { result ≡ index_built (length a.old) next (length key.now) }
     ensures a_after { a.new ≡ index_arena (call_of 0 0 group txid lsn ckpt) a.old next key.now page }
 {
     if !build_image::next_ok(a.len(), next) {
-        return Built::Refused(Refusal::BadArena);
+        return Err(Refusal::BadArena);
     }
     if !lengths_ok(key.len(), 0) {
-        return Built::Refused(Refusal::BadList);
+        return Err(Refusal::BadList);
     }
     let len = index_len(key.len());
     let at = placed(next, a.len(), 0, len);
     if at == 0 {
-        return Built::Refused(Refusal::NoRoom);
+        return Err(Refusal::NoRoom);
     }
     let m = build_image::call_of(0, 0, group, txid, lsn, ckpt);
     put_index(a, at, m, key, page);
-    Built::At(Addr(at as u64), at + len)
+    Ok((Addr(at as u64), at + len))
 }
 
 // ---- readers
 
 // A leaf delta's key: its version, and where the key stands.
 #[derive(Clone, Copy)]
-pub enum LeafKey {
-    Is { ver: Ver, key: Place },
-    Refused(Refusal),
-}
-
-// Where an index delta's key stands.
-#[derive(Clone, Copy)]
-pub enum IndexKey {
-    Is(Place),
-    Refused(Refusal),
-}
-
-// Where a leaf delta's value stands: in the delta, or in its remote frame.
-#[derive(Clone, Copy)]
-pub enum Value {
-    Is(Place),
-    Refused(Refusal),
-}
-
-// The page that an index delta names.
-#[derive(Clone, Copy)]
-pub enum Child {
-    Is(PageId),
-    Refused(Refusal),
+pub struct LeafKey {
+    pub ver: Ver,
+    pub key: Place,
 }
 
 // The delta at an address whose node type is the wanted one.
-fn delta_of(s: &[u8], a: Addr, node: u8) -> DeltaRead
+fn delta_of(s: &[u8], a: Addr, node: u8) -> Option<Delta>
     ensures { result ≡ delta_is s.now a node }
 {
-    let DeltaRead::Is(d) = frames::delta_at(s, a) else {
-        return DeltaRead::Bad;
+    let Some(d) = frames::delta_at(s, a) else {
+        return None;
     };
     if d.node_type == node {
-        return DeltaRead::Is(d);
+        return Some(d);
     }
-    DeltaRead::Bad
+    None
 }
 
 // A delta's key, which fills its length: of a leaf (0) or an index delta (1).
-fn key_in(s: &[u8], d: Delta, kind: u8) -> KeyRead
+fn key_in(s: &[u8], d: Delta, kind: u8) -> Option<KeyParts>
     requires { d.val_at ≤ length s.now }
     ensures { result ≡ key_in s.now d kind }
 {
     let e = d.val_at;
-    let KeyRead::Key {
-        ver_at,
-        rest_at,
-        rest_len,
-    } = values::key_at(&s[..e], d.key_at, kind)
-    else {
-        return KeyRead::Bad;
+    let Some(k) = values::key_at(&s[..e], d.key_at, kind) else {
+        return None;
     };
-    if BaseHeader::MAX_KEY < rest_len {
-        return KeyRead::Bad;
+    if BaseHeader::MAX_KEY < k.rest_len {
+        return None;
     }
-    if rest_at + rest_len != e {
-        return KeyRead::Bad;
+    if k.rest_at + k.rest_len != e {
+        return None;
     }
-    KeyRead::Key {
-        ver_at: ver_at,
-        rest_at: rest_at,
-        rest_len: rest_len,
-    }
+    Some(k)
 }
 
 // The key of the leaf delta at an address; `pages::part_at` lends it on.
-pub fn key(s: &[u8], a: Addr) -> LeafKey
+pub fn key(s: &[u8], a: Addr) -> Result<LeafKey, Refusal>
     ensures { result ≡ leaf_key_at s.now a }
 {
-    let DeltaRead::Is(d) = delta_of(s, a, BoxHeader::LEAF) else {
-        return LeafKey::Refused(Refusal::BadFrame);
+    let Some(d) = delta_of(s, a, BoxHeader::LEAF) else {
+        return Err(Refusal::BadFrame);
     };
-    let KeyRead::Key {
-        ver_at,
-        rest_at,
-        rest_len,
-    } = key_in(s, d, 0)
-    else {
-        return LeafKey::Refused(Refusal::BadFrame);
+    let Some(k) = key_in(s, d, 0) else {
+        return Err(Refusal::BadFrame);
     };
-    let v = records::ver_at(s, ver_at);
+    let v = records::ver_at(s, k.ver_at);
     let p = Place {
-        at: rest_at,
-        len: rest_len,
+        at: k.rest_at,
+        len: k.rest_len,
     };
-    LeafKey::Is { ver: v, key: p }
+    Ok(LeafKey { ver: v, key: p })
 }
 
 // The key of the index delta at an address.
-pub fn index_key(s: &[u8], a: Addr) -> IndexKey
+pub fn index_key(s: &[u8], a: Addr) -> Result<Place, Refusal>
     ensures { result ≡ index_key_at s.now a }
 {
-    let DeltaRead::Is(d) = delta_of(s, a, BoxHeader::INDEX) else {
-        return IndexKey::Refused(Refusal::BadFrame);
+    let Some(d) = delta_of(s, a, BoxHeader::INDEX) else {
+        return Err(Refusal::BadFrame);
     };
-    let KeyRead::Key {
-        ver_at: _,
-        rest_at,
-        rest_len,
-    } = key_in(s, d, 1)
-    else {
-        return IndexKey::Refused(Refusal::BadFrame);
+    let Some(k) = key_in(s, d, 1) else {
+        return Err(Refusal::BadFrame);
     };
-    IndexKey::Is(Place {
-        at: rest_at,
-        len: rest_len,
+    Ok(Place {
+        at: k.rest_at,
+        len: k.rest_len,
     })
 }
 
 // A value's place, if what was read ends where the delta ends.
-fn value_to(at: usize, len: usize, next: usize, end: usize) -> Value
+fn value_to(at: usize, len: usize, next: usize, end: usize) -> Result<Place, Refusal>
     ensures { result ≡ value_to at len next end }
 {
     if next == end {
-        return Value::Is(Place { at: at, len: len });
+        return Ok(Place { at, len });
     }
-    Value::Refused(Refusal::BadFrame)
+    Err(Refusal::BadFrame)
 }
 
 // A leaf delta's value, which fills its length, and its remote frame judged with it.
-fn val_in(s: &[u8], d: Delta) -> Value
+fn val_in(s: &[u8], d: Delta) -> Result<Place, Refusal>
     requires { d.end ≤ length s.now }
     ensures { result ≡ val_in s.now d }
 {
     let e = d.end;
     match Val::decode_from(&s[..e], d.val_at, false) {
-        Val::Inline {
-            hist: _,
-            at,
-            size,
-            next,
-        } => value_to(at, size, next, e),
-        Val::Remote {
-            hist: _,
-            addr,
-            size,
-            next,
-        } => {
-            let RemoteRead::At(p) = frames::remote_at(s, addr, size as u32) else {
-                return Value::Refused(Refusal::BadFrame);
+        Some(
+            Val::Inline {
+                hist: _,
+                at,
+                size,
+                next,
+            },
+        ) => value_to(at, size, next, e),
+        Some(
+            Val::Remote {
+                hist: _,
+                addr,
+                size,
+                next,
+            },
+        ) => {
+            let Some(p) = frames::remote_at(s, addr, size as u32) else {
+                return Err(Refusal::BadFrame);
             };
             value_to(p, size, next, e)
         }
-        Val::Bad => Value::Refused(Refusal::BadFrame),
+        None => Err(Refusal::BadFrame),
     }
 }
 
 // The value of the leaf delta at an address; `pages::part_at` lends it on.
-pub fn val(s: &[u8], a: Addr) -> Value
+pub fn val(s: &[u8], a: Addr) -> Result<Place, Refusal>
     ensures { result ≡ value_at s.now a }
 {
-    let DeltaRead::Is(d) = delta_of(s, a, BoxHeader::LEAF) else {
-        return Value::Refused(Refusal::BadFrame);
+    let Some(d) = delta_of(s, a, BoxHeader::LEAF) else {
+        return Err(Refusal::BadFrame);
     };
     val_in(s, d)
 }
 
 // The page id of the index delta at an address.
-pub fn index(s: &[u8], a: Addr) -> Child
+pub fn index(s: &[u8], a: Addr) -> Result<PageId, Refusal>
     ensures { result ≡ child_at s.now a }
 {
-    let DeltaRead::Is(d) = delta_of(s, a, BoxHeader::INDEX) else {
-        return Child::Refused(Refusal::BadFrame);
+    let Some(d) = delta_of(s, a, BoxHeader::INDEX) else {
+        return Err(Refusal::BadFrame);
     };
     let p = d.val_at;
     if d.end == p + 8 {
-        return Child::Is(PageId(numbers::read_u64(s, p)));
+        return Ok(PageId(numbers::read_u64(s, p)));
     }
-    Child::Refused(Refusal::BadFrame)
+    Err(Refusal::BadFrame)
 }

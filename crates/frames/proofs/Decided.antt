@@ -9,11 +9,6 @@ use denote.Triple.Clauses.{AtExit}
 use Rattle.spans.specs.Only.{Decides, decides}
 use Rattle.frames.specs.declared.Addr.{Addr}
 use Rattle.frames.specs.declared.Refusal.{Refusal}
-use Rattle.frames.specs.declared.FrameRead.{FrameRead}
-use Rattle.frames.specs.declared.PageRead.{PageRead}
-use Rattle.frames.specs.declared.Opened.{Opened}
-use Rattle.frames.specs.declared.RemoteRead.{RemoteRead}
-use Rattle.frames.specs.declared.DeltaRead.{DeltaRead}
 use Rattle.frames.specs.declared.Clerk.{Clerk}
 use Rattle.frames.specs.declared.Taken.{Taken}
 use Rattle.frames.specs.Refusals.{number_of}
@@ -35,6 +30,11 @@ use Rattle.frames.specs.contracts.delta_at as delta_fn
 use Rattle.frames.proofs.delta_at.Reads as delta_at_lem
 use Rattle.frames.specs.contracts.Clerk.take as take_fn
 use Rattle.frames.proofs.Clerk.take.Reads as taking
+use Rattle.std.proofs.Common.{Option}
+use Rattle.frames.specs.declared.BaseHeader.{BaseHeader}
+use Rattle.frames.specs.declared.Body.{Body}
+use Rattle.frames.specs.declared.BoxHeader.{BoxHeader}
+use Rattle.frames.specs.declared.Delta.{Delta}
 
 pub number_decided : (r : Refusal) (x : AtExit number_fn.ended tt) → Decides (λ (n : ℕ). number.Post tt (r, tt) n x) (λ (n : ℕ). n)
 number_decided r x = decides (λ (n : ℕ). n) (number_of r)
@@ -43,17 +43,17 @@ pub take_decided : (c : Clerk) (n : ℕ) (x : AtExit take_fn.ended tt) → Decid
 take_decided c n x = decides (λ (t : Taken). t) (taken_of c n)
 
 module _ (κs : Lfts 1) (s : Bor (List ℕ)) (a : Addr) where
-  pub box_decided : (x : AtExit box_fn.ended κs) → Decides (λ (r : FrameRead). box.Post κs (s, (a, tt)) r x) (λ (r : FrameRead). r)
-  box_decided x = decides (λ (r : FrameRead). r) (box_at s.now a)
+  pub box_decided : (x : AtExit box_fn.ended κs) → Decides (λ (r : Option BoxHeader). box.Post κs (s, (a, tt)) r x) (λ (r : Option BoxHeader). r)
+  box_decided x = decides (λ (r : Option BoxHeader). r) (box_at s.now a)
 
-  pub base_decided : (x : AtExit base_fn.ended κs) → Decides (λ (r : PageRead). base.Post κs (s, (a, tt)) r x) (λ (r : PageRead). r)
-  base_decided x = decides (λ (r : PageRead). r) (page_at s.now a)
+  pub base_decided : (x : AtExit base_fn.ended κs) → Decides (λ (r : Option (BoxHeader × BaseHeader)). base.Post κs (s, (a, tt)) r x) (λ (r : Option (BoxHeader × BaseHeader)). r)
+  base_decided x = decides (λ (r : Option (BoxHeader × BaseHeader)). r) (page_at s.now a)
 
-  pub open_decided : (x : AtExit open_fn.ended κs) → Decides (λ (r : Opened). open_at.Post κs (s, (a, tt)) r x) (λ (r : Opened). r)
-  open_decided x = decides (λ (r : Opened). r) (open_at s.now a)
+  pub open_decided : (x : AtExit open_fn.ended κs) → Decides (λ (r : Option Body). open_at.Post κs (s, (a, tt)) r x) (λ (r : Option Body). r)
+  open_decided x = decides (λ (r : Option Body). r) (open_at s.now a)
 
-  pub delta_decided : (x : AtExit delta_fn.ended κs) → Decides (λ (r : DeltaRead). delta_at_lem.Post κs (s, (a, tt)) r x) (λ (r : DeltaRead). r)
-  delta_decided x = decides (λ (r : DeltaRead). r) (delta_at s.now a)
+  pub delta_decided : (x : AtExit delta_fn.ended κs) → Decides (λ (r : Option Delta). delta_at_lem.Post κs (s, (a, tt)) r x) (λ (r : Option Delta). r)
+  delta_decided x = decides (λ (r : Option Delta). r) (delta_at s.now a)
 
-  pub remote_decided : (n : ℕ) (x : AtExit remote_fn.ended κs) → Decides (λ (r : RemoteRead). remote-at.Post κs (s, (a, (n, tt))) r x) (λ (r : RemoteRead). r)
-  remote_decided n x = decides (λ (r : RemoteRead). r) (remote_at s.now a n)
+  pub remote_decided : (n : ℕ) (x : AtExit remote_fn.ended κs) → Decides (λ (r : Option ℕ). remote-at.Post κs (s, (a, (n, tt))) r x) (λ (r : Option ℕ). r)
+  remote_decided n x = decides (λ (r : Option ℕ). r) (remote_at s.now a n)

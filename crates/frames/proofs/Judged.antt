@@ -12,13 +12,11 @@ use lib.Dec.{leb, ltb, eqb}
 use Rattle.frames.specs.declared.Addr.{Addr}
 use Rattle.frames.specs.declared.BoxHeader.{BoxHeader}
 use Rattle.frames.specs.declared.BaseHeader.{BaseHeader}
-use Rattle.frames.specs.declared.FrameRead.{FrameRead}
-use Rattle.frames.specs.declared.PageRead.{PageRead}
 use Rattle.frames.specs.declared.Body.{Body}
-use Rattle.frames.specs.declared.Opened.{Opened}
 use Rattle.frames.specs.Layout.{box_len, base_len, slots_at, box_base, node_leaf, node_index, flag_sibling, frame_len, box_fields, address_ok, box_ok, box_at, base_fields, zeros_ok, lengths_ok, base_ok, AnyBase, Passes, page_at, kind_of, body_of, open_at}
 use Rattle.frames.specs.Limits.{max_key}
 use Rattle.frames.proofs.Frames.{and_l, and_r, base_sizes}
+use Rattle.std.proofs.Common.{Some, None}
 
 either : (a b : Bool) → (a || b) ≡ true → (a ≡ true) ⊎ (b ≡ true)
 either true b e = inl refl
@@ -166,12 +164,12 @@ module _ (x : BoxHeader) (h : BaseHeader) (at len : ℕ) where
       let s : leb h.size x.payload_size ≡ true = le-leb h.size x.payload_size (omega arith) in
       ((box_history r (eqb-true x.node_type node_leaf n) f q.three, r.kind, base_history r e p s f (and_l i0 m0 q.five) n (and_r i0 m0 q.five) (and_r (front && none) some y2) q.four (and_r (front && none && some) same y)), f)
 
-boxed : (s : List ℕ) (a : Addr) (x : BoxHeader) → leb (a.0 + box_len) (length s) ≡ true → x ≡ box_fields s a.0 → box_ok (box_fields s a.0) a.0 (length s) ≡ true → box_at s a ≡ FrameRead.Frame x
+boxed : (s : List ℕ) (a : Addr) (x : BoxHeader) → leb (a.0 + box_len) (length s) ≡ true → x ≡ box_fields s a.0 → box_ok (box_fields s a.0) a.0 (length s) ≡ true → box_at s a ≡ Some x
 unfolding box_at
 boxed s a x room i b = simp (room, b, i)
 
 -- a page whose headers pass is read
-pub plain-page : (s : List ℕ) (a : Addr) (x : BoxHeader) (h : BaseHeader) → leb (a.0 + slots_at) (length s) ≡ true → x ≡ box_fields s a.0 → h ≡ base_fields s (a.0 + box_len) → Passes x h a.0 (length s) → page_at s a ≡ PageRead.Page x h
+pub plain-page : (s : List ℕ) (a : Addr) (x : BoxHeader) (h : BaseHeader) → leb (a.0 + slots_at) (length s) ≡ true → x ≡ box_fields s a.0 → h ≡ base_fields s (a.0 + box_len) → Passes x h a.0 (length s) → page_at s a ≡ Some (x, h)
 unfolding page_at
 plain-page s a x h r i j p =
     let room : leb (a.0 + box_len) (length s) ≡ true = le-leb (a.0 + box_len) (length s) (omega (arith, leb-true (a.0 + slots_at) (length s) r)) in
@@ -183,13 +181,13 @@ plain-page s a x h r i j p =
     simp (frame, eq-eqb x.box_kind box_base p.1, big, o, j)
 
 -- a page whose flag is a history page's is opened as one
-pub history_open : (s : List ℕ) (a : Addr) (b : Body) (x : BoxHeader) (h : BaseHeader) → page_at s a ≡ PageRead.Page x h → x.flag ≡ flag_sibling → (d : Body) → d ≡ body_of a x h → Opened.Is d ≡ Opened.Is b → (open_at s a ≡ Opened.Is b) × (b.kind ≡ 2)
+pub history_open : (s : List ℕ) (a : Addr) (b : Body) (x : BoxHeader) (h : BaseHeader) → page_at s a ≡ Some (x, h) → x.flag ≡ flag_sibling → (d : Body) → d ≡ body_of a x h → Some d ≡ Some b → (open_at s a ≡ Some b) × (b.kind ≡ 2)
 unfolding open_at body_of kind_of
 history_open s a b x h p f d o e =
     let z : d ≡ b = cc in
-    let w : open_at s a ≡ Opened.Is (body_of a x h) = simp p in
+    let w : open_at s a ≡ Some (body_of a x h) = simp p in
     let k : (body_of a x h).kind ≡ 2 = rw f in
-    (w ∙ ap Opened.Is (sym o ∙ z), sym (ap (λ (y : Body). y.kind) (sym o ∙ z)) ∙ k)
+    (w ∙ ap Some (sym o ∙ z), sym (ap (λ (y : Body). y.kind) (sym o ∙ z)) ∙ k)
 
-pub bad_open : {A : Type 0} (b : Body) → Opened.Bad ≡ Opened.Is b → A
+pub bad_open : {A : Type 0} (b : Body) → None ≡ Some b → A
 bad_open b e = absurd (let z : ◌≡◌ {A = ℕ} 0 1 = cc in omega arith)

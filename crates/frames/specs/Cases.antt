@@ -1,11 +1,10 @@
 -- P5, P6 and P7 of document 01, as far as frames go: the whole arena of P7, its four headers, and how far its frames reach.
 -- Assumes nothing.
-use Rattle.std.specs.Prelude.{ℕ, ◌+◌, ◌≡◌, refl, List, [], ◌∷◌}
+use Rattle.std.specs.Prelude.{ℕ, ◌+◌, ◌≡◌, refl, List, [], ◌∷◌, Some, None}
 use Rattle.spans.specs.Span.{part}
 use Rattle.numbers.specs.Number.{le, of_le, le_at}
 use Rattle.frames.specs.declared.BoxHeader.{BoxHeader}
 use Rattle.frames.specs.declared.BaseHeader.{BaseHeader}
-use Rattle.frames.specs.declared.Opened.{Opened}
 use Rattle.frames.specs.Layout.{box_len, base_len, box_base, node_leaf, flag_sibling, addr, null_addr, frame_len, box_fields, box_ok, box_at, base_fields, base_ok, page_at, kind_of, body_of, open_at}
 use Rattle.frames.specs.Stored.{box_bytes, base_of, base_front, base_back, base_bytes}
 
@@ -45,8 +44,8 @@ unfolding p7 part le box_bytes base_front base_back base_bytes
 p7_headers = (refl, refl, refl, refl)
 
 -- and are read as a history page and a leaf; the places 0, 12 and 112 are no frame's
-pub p7-opens : (open_at p7 (addr 8) ≡ Opened.Is (body_of (addr 8) p7_history_box (p7_base 62 0))) × (open_at p7 (addr 104) ≡ Opened.Is (body_of (addr 104) p7_leaf_box (p7_base 85 1)))
-    × (open_at p7 (addr 0) ≡ Opened.Bad) × (open_at p7 (addr 12) ≡ Opened.Bad) × (open_at p7 (addr 112) ≡ Opened.Bad)
+pub p7-opens : (open_at p7 (addr 8) ≡ Some (body_of (addr 8) p7_history_box (p7_base 62 0))) × (open_at p7 (addr 104) ≡ Some (body_of (addr 104) p7_leaf_box (p7_base 85 1)))
+    × (open_at p7 (addr 0) ≡ None) × (open_at p7 (addr 12) ≡ None) × (open_at p7 (addr 112) ≡ None)
 unfolding p7 part of_le le_at box_fields box_ok box_at base_fields base_ok page_at kind_of body_of open_at
 p7-opens = (refl, refl, refl, refl, refl)
 

@@ -1,18 +1,13 @@
 -- Frames as document 01 lays them out and DECIDED 8 to 11 settle it: read from an arena, a list of bytes. Its words stand over each line.
 -- Assumes nothing.
-use Rattle.std.specs.Prelude.{ℕ, ◌+◌, ◌*◌, ◌/◌, ◌%◌, ◌≤◌, ◌≡◌, List, Bool, true, ◌&&◌, ◌||◌, not, cond, length, get_or, ltb, leb, eqb}
+use Rattle.std.specs.Prelude.{ℕ, ◌+◌, ◌*◌, ◌/◌, ◌%◌, ◌≤◌, ◌≡◌, List, Bool, true, ◌&&◌, ◌||◌, not, cond, length, get_or, ltb, leb, eqb, Option, Some, None}
 use Rattle.numbers.specs.Number.{le_at}
 use Rattle.frames.specs.declared.Addr.{Addr}
 use Rattle.frames.specs.declared.PageId.{PageId}
 use Rattle.frames.specs.declared.BoxHeader.{BoxHeader}
 use Rattle.frames.specs.declared.BaseHeader.{BaseHeader}
-use Rattle.frames.specs.declared.FrameRead.{FrameRead}
-use Rattle.frames.specs.declared.PageRead.{PageRead}
 use Rattle.frames.specs.declared.Body.{Body}
-use Rattle.frames.specs.declared.Opened.{Opened}
-use Rattle.frames.specs.declared.RemoteRead.{RemoteRead}
 use Rattle.frames.specs.declared.Delta.{Delta}
-use Rattle.frames.specs.declared.DeltaRead.{DeltaRead}
 use Rattle.frames.specs.Limits.{max_key}
 
 -- "Box header, 32"; "Base header, 40"
@@ -115,11 +110,11 @@ remote_ok h = not (eqb h.box_kind box_remote) || (eqb h.txid 0 && eqb h.node_typ
 unfoldable pub box_ok : BoxHeader → ℕ → ℕ → Bool
 box_ok h at len = address_ok at && box_kind_ok h && flag_ok h && link_ok h at && remote_ok h && leb (at + frame_len h.payload_size) len
 
-unfoldable pub box_at : List ℕ → Addr → FrameRead
+unfoldable pub box_at : List ℕ → Addr → Option BoxHeader
 box_at s a =
     cond (leb (a.0 + box_len) (length s))
-    (cond (box_ok (box_fields s a.0) a.0 (length s)) (FrameRead.Frame (box_fields s a.0)) FrameRead.Bad)
-    FrameRead.Bad
+    (cond (box_ok (box_fields s a.0) a.0 (length s)) (Some (box_fields s a.0)) None)
+    None
 
 -- ---- Base header
 
@@ -195,16 +190,16 @@ abbrev pub Passes : BoxHeader → BaseHeader → ℕ → ℕ → Type 0
 Passes x h at len = (box_ok x at len ≡ true) × (x.box_kind ≡ box_base) × (base_ok x h ≡ true)
 
 -- of a frame, the base page that it is
-abbrev pub page_of : List ℕ → ℕ → FrameRead → PageRead
-page_of s at (FrameRead.Frame h) =
+abbrev pub page_of : List ℕ → ℕ → Option BoxHeader → Option (BoxHeader × BaseHeader)
+page_of s at (Some h) =
     cond (eqb h.box_kind box_base)
     (cond (leb base_len h.payload_size)
-    (cond (base_ok h (base_fields s (at + box_len))) (PageRead.Page h (base_fields s (at + box_len))) PageRead.Bad)
-    PageRead.Bad)
-    PageRead.Bad
-page_of s at FrameRead.Bad = PageRead.Bad
+    (cond (base_ok h (base_fields s (at + box_len))) (Some (h, base_fields s (at + box_len))) None)
+    None)
+    None
+page_of s at None = None
 
-unfoldable pub page_at : List ℕ → Addr → PageRead
+unfoldable pub page_at : List ℕ → Addr → Option (BoxHeader × BaseHeader)
 page_at s a = page_of s a.0 (box_at s a)
 
 -- ---- A page's places
@@ -231,12 +226,12 @@ body_of a x h =
       link = x.link;
     }
 
-abbrev pub open_of : Addr → PageRead → Opened
-open_of a (PageRead.Page x h) = Opened.Is (body_of a x h)
-open_of a PageRead.Bad = Opened.Bad
+abbrev pub open_of : Addr → Option (BoxHeader × BaseHeader) → Option Body
+open_of a (Some (x, h)) = Some (body_of a x h)
+open_of a None = None
 
 -- the base page at an address, of any kind
-unfoldable pub open_at : List ℕ → Addr → Opened
+unfoldable pub open_at : List ℕ → Addr → Option Body
 open_at s a = open_of a (page_at s a)
 
 -- slots, boundaries and records stand in the page, and the page in the arena
@@ -250,16 +245,16 @@ pub record Inside (s : List ℕ) (b : Body) : Type 0 where
 -- ---- The other kinds
 
 -- "Remote frame payload: size u64, bytes", "exactly 8 + size": where the n bytes stand
-abbrev pub remote_of : List ℕ → ℕ → ℕ → FrameRead → RemoteRead
-remote_of s at n (FrameRead.Frame h) =
+abbrev pub remote_of : List ℕ → ℕ → ℕ → Option BoxHeader → Option ℕ
+remote_of s at n (Some h) =
     cond (eqb h.box_kind box_remote)
     (cond (eqb h.payload_size (8 + n))
-    (cond (eqb (le_at 8 s (at + box_len)) n) (RemoteRead.At (at + box_len + 8)) RemoteRead.Bad)
-    RemoteRead.Bad)
-    RemoteRead.Bad
-remote_of s at n FrameRead.Bad = RemoteRead.Bad
+    (cond (eqb (le_at 8 s (at + box_len)) n) (Some (at + box_len + 8)) None)
+    None)
+    None
+remote_of s at n None = None
 
-unfoldable pub remote_at : List ℕ → Addr → ℕ → RemoteRead
+unfoldable pub remote_at : List ℕ → Addr → ℕ → Option ℕ
 remote_at s a n = remote_of s a.0 n (box_at s a)
 
 -- "Delta payload: klen u32, vlen u32, key, value", "exactly 8 + klen + vlen"
@@ -273,14 +268,14 @@ cut_at s p h =
       txid = h.txid;
     }
 
-abbrev pub delta_of : List ℕ → ℕ → FrameRead → DeltaRead
-delta_of s at (FrameRead.Frame h) =
+abbrev pub delta_of : List ℕ → ℕ → Option BoxHeader → Option Delta
+delta_of s at (Some h) =
     cond (eqb h.box_kind box_delta)
     (cond (leb delta_lens h.payload_size)
-    (cond (eqb h.payload_size (delta_lens + le_at 4 s (at + box_len) + le_at 4 s (at + box_len + 4))) (DeltaRead.Is (cut_at s (at + box_len) h)) DeltaRead.Bad)
-    DeltaRead.Bad)
-    DeltaRead.Bad
-delta_of s at FrameRead.Bad = DeltaRead.Bad
+    (cond (eqb h.payload_size (delta_lens + le_at 4 s (at + box_len) + le_at 4 s (at + box_len + 4))) (Some (cut_at s (at + box_len) h)) None)
+    None)
+    None
+delta_of s at None = None
 
-unfoldable pub delta_at : List ℕ → Addr → DeltaRead
+unfoldable pub delta_at : List ℕ → Addr → Option Delta
 delta_at s a = delta_of s a.0 (box_at s a)

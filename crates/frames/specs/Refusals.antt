@@ -1,13 +1,12 @@
 -- Document 01's numbers of refusal, in the order in which they are judged: 10 (order 4) stands between 7 and 8.
 -- Assumes nothing.
-use Rattle.std.specs.Prelude.{ℕ, ◌≡◌, ◌⊎◌}
+use Rattle.std.specs.Prelude.{ℕ, ◌≡◌, ◌⊎◌, Option, Some, None}
 use Rattle.frames.specs.declared.Refusal.{Refusal}
 use Rattle.frames.specs.declared.Refusal.TheVariants.{BadLimit, BadArena, BadList, BadFrame, MixedKinds, OutOfOrder, WrongPrefix, Outside, TooBig, NoRoom}
-use Rattle.frames.specs.declared.FrameRead.{FrameRead}
-use Rattle.frames.specs.declared.PageRead.{PageRead}
-use Rattle.frames.specs.declared.Opened.{Opened}
-use Rattle.frames.specs.declared.RemoteRead.{RemoteRead}
-use Rattle.frames.specs.declared.DeltaRead.{DeltaRead}
+use Rattle.frames.specs.declared.BaseHeader.{BaseHeader}
+use Rattle.frames.specs.declared.Body.{Body}
+use Rattle.frames.specs.declared.BoxHeader.{BoxHeader}
+use Rattle.frames.specs.declared.Delta.{Delta}
 
 abbrev pub number_of : Refusal → ℕ
 number_of BadLimit = 1
@@ -27,22 +26,22 @@ ZeroOrFour n = (n ≡ 0) ⊎ (n ≡ 4)
 
 -- the number of a reader's answer: 4 where an address is no such frame's, 0 where it answers
 
-abbrev pub frame_number : FrameRead → ℕ
-frame_number (FrameRead.Frame h) = 0
-frame_number FrameRead.Bad = number_of BadFrame
+abbrev pub frame_number : Option BoxHeader → ℕ
+frame_number (Some h) = 0
+frame_number None = number_of BadFrame
 
-abbrev pub page_number : PageRead → ℕ
-page_number (PageRead.Page x h) = 0
-page_number PageRead.Bad = number_of BadFrame
+abbrev pub page_number : Option (BoxHeader × BaseHeader) → ℕ
+page_number (Some (x, h)) = 0
+page_number None = number_of BadFrame
 
-abbrev pub opened_number : Opened → ℕ
-opened_number (Opened.Is b) = 0
-opened_number Opened.Bad = number_of BadFrame
+abbrev pub opened_number : Option Body → ℕ
+opened_number (Some b) = 0
+opened_number None = number_of BadFrame
 
-abbrev pub remote_number : RemoteRead → ℕ
-remote_number (RemoteRead.At p) = 0
-remote_number RemoteRead.Bad = number_of BadFrame
+abbrev pub remote_number : Option ℕ → ℕ
+remote_number (Some p) = 0
+remote_number None = number_of BadFrame
 
-abbrev pub delta_number : DeltaRead → ℕ
-delta_number (DeltaRead.Is d) = 0
-delta_number DeltaRead.Bad = number_of BadFrame
+abbrev pub delta_number : Option Delta → ℕ
+delta_number (Some d) = 0
+delta_number None = number_of BadFrame

@@ -2,11 +2,10 @@
 // Headers are judged once a call, into one body by value; everything after works on places inside it.
 #![tactic(auto)]
 
-ghost use Rattle.std.specs.Prelude.{◌≡◌, true, ◌+◌, ◌*◌, ◌≤◌, ◌<◌, ◌^◌, length};
+ghost use Rattle.std.specs.Prelude.{◌≡◌, true, ◌+◌, ◌*◌, ◌≤◌, ◌<◌, ◌^◌, length, Some};
 ghost use Rattle.spans.specs.Span.{put};
 ghost use Rattle.frames.specs.Refusals.{number_of};
 ghost use Rattle.frames.specs.declared.Body.{Body};
-ghost use Rattle.frames.specs.declared.Opened.{Opened};
 ghost use Rattle.frames.specs.Layout.{box_len, base_len, slots_at, flag_sibling, frame_len, box_fields, box_ok, box_at, base_fields, base_ok, AnyBase, Passes, page_at, kind_of, body_of, open_at, remote_at, delta_at};
 ghost use Rattle.frames.specs.Stored.{box_bytes, base_of, base_front, base_back, base_bytes, page_bytes};
 ghost use Rattle.frames.specs.Clerks.{taken_of};
@@ -68,12 +67,6 @@ pub struct BoxHeader {
 }
 
 #[derive(Clone, Copy)]
-pub enum FrameRead {
-    Frame(BoxHeader),
-    Bad,
-}
-
-#[derive(Clone, Copy)]
 pub struct BaseHeader {
     pub size: u32,
     pub elems: u16,
@@ -87,13 +80,6 @@ pub struct BaseHeader {
     pub is_index: u8,
     pub has_multiple_versions: u8,
     pub padding: u8,
-}
-
-// A base page of any kind: its frame's header and its own.
-#[derive(Clone, Copy)]
-pub enum PageRead {
-    Page(BoxHeader, BaseHeader),
-    Bad,
 }
 
 // What a frame takes in the arena: box header and payload, rounded up to 8.
@@ -155,17 +141,17 @@ impl BoxHeader {
     }
 
     // The box header of the frame at an address.
-    pub fn at(s: &[u8], a: Addr) -> FrameRead
+    pub fn at(s: &[u8], a: Addr) -> Option<BoxHeader>
         ensures { result ≡ box_at s.now a }
     {
         let at = a.0 as usize;
         if spans::room(s.len(), at, BoxHeader::HDR_LEN) {
             let h = BoxHeader::fields(s, at);
             if h.ok(at, s.len()) {
-                return FrameRead::Frame(h);
+                return Some(h);
             }
         }
-        FrameRead::Bad
+        None
     }
 }
 
@@ -206,8 +192,8 @@ impl BaseHeader {
         ensures { result ≡ base_of size elems sibling.0 lo hi prefix index many }
     {
         BaseHeader {
-            size: size,
-            elems: elems,
+            size,
+            elems,
             split_elems: 0,
             right_sibling: sibling,
             merging_child: NULL_PID,
@@ -280,25 +266,21 @@ impl BaseHeader {
     }
 
     // Both headers of the base page at an address.
-    pub fn at(s: &[u8], a: Addr) -> PageRead
+    pub fn at(s: &[u8], a: Addr) -> Option<(BoxHeader, BaseHeader)>
         ensures { result ≡ page_at s.now a }
     {
-        let FrameRead::Frame(h) = BoxHeader::at(s, a) else {
-            return PageRead::Bad;
+        let Some(h) = BoxHeader::at(s, a) else {
+            return None;
         };
         if h.box_kind != BoxHeader::BASE {
-            return PageRead::Bad;
+            return None;
         }
         if (h.payload_size as usize) < BaseHeader::HDR_LEN {
-            return PageRead::Bad;
+            return None;
         }
         let at = a.0 as usize;
         let b = BaseHeader::fields(s, at + BoxHeader::HDR_LEN);
-        if b.ok(h) {
-            PageRead::Page(h, b)
-        } else {
-            PageRead::Bad
-        }
+        if b.ok(h) { Some((h, b)) } else { None }
     }
 }
 
@@ -386,12 +368,6 @@ impl Body {
     pub const HISTORY: u8 = 2;
 }
 
-#[derive(Clone, Copy)]
-pub enum Opened {
-    Is(Body),
-    Bad,
-}
-
 fn kind_of(flag: u8, is_index: u8) -> u8
     ensures { result ≡ kind_of flag is_index }
 {
@@ -414,7 +390,7 @@ fn body_of(a: Addr, x: BoxHeader, h: BaseHeader) -> Body
     let sibling = h.right_sibling;
     let link = x.link;
     Body {
-        at: at,
+        at,
         end: at + (h.size as usize),
         tail: at + (x.payload_size as usize),
         elems: h.elems as usize,
@@ -427,9 +403,9 @@ fn body_of(a: Addr, x: BoxHeader, h: BaseHeader) -> Body
         prefix_len: h.prefix_len as usize,
         lo_len: h.lo_len as usize,
         hi_len: h.hi_len as usize,
-        sibling: sibling,
+        sibling,
         multi: h.has_multiple_versions,
-        link: link,
+        link,
     }
 }
 
@@ -491,32 +467,32 @@ fn history(x: BoxHeader, h: BaseHeader, at: usize, len: usize) -> bool
 }
 
 // The history page at an address, judged quickly; Bad says nothing.
-pub fn quick_history(s: &[u8], a: Addr) -> Opened
-    ensures { (b : Body) → result ≡ Opened.Is b → (open_at s.now a ≡ Opened.Is b) × (b.kind ≡ 2) }
+pub fn quick_history(s: &[u8], a: Addr) -> Option<Body>
+    ensures { (b : Body) → result ≡ Some b → (open_at s.now a ≡ Some b) × (b.kind ≡ 2) }
 {
     let at = a.0 as usize;
     if spans::room(s.len(), at, BaseHeader::SLOTS_AT) {
         let x = BoxHeader::fields(s, at);
         let h = BaseHeader::fields(s, at + BoxHeader::HDR_LEN);
         if history(x, h, at, s.len()) {
-            return Opened::Is(body_of(a, x, h));
+            return Some(body_of(a, x, h));
         }
     }
-    Opened::Bad
+    None
 }
 
 // The base page at an address, by both headers' tests.
-fn any_at(s: &[u8], a: Addr) -> Opened
+fn any_at(s: &[u8], a: Addr) -> Option<Body>
     ensures { result ≡ open_at s.now a }
 {
-    let PageRead::Page(x, h) = BaseHeader::at(s, a) else {
-        return Opened::Bad;
+    let Some((x, h)) = BaseHeader::at(s, a) else {
+        return None;
     };
-    Opened::Is(body_of(a, x, h))
+    Some(body_of(a, x, h))
 }
 
 // The base page at an address, of any kind: leaf and index pages are judged quickly.
-pub fn open_at(s: &[u8], a: Addr) -> Opened
+pub fn open_at(s: &[u8], a: Addr) -> Option<Body>
     ensures { result ≡ open_at s.now a }
 {
     let at = a.0 as usize;
@@ -524,37 +500,30 @@ pub fn open_at(s: &[u8], a: Addr) -> Opened
         let x = BoxHeader::fields(s, at);
         let h = BaseHeader::fields(s, at + BoxHeader::HDR_LEN);
         if plain(x, h, at, s.len()) {
-            return Opened::Is(body_of(a, x, h));
+            return Some(body_of(a, x, h));
         }
     }
     any_at(s, a)
 }
 
-// Where a remote value's bytes stand.
-#[derive(Clone, Copy)]
-pub enum RemoteRead {
-    At(usize),
-    Bad,
-}
-
 // The remote frame at an address that holds n bytes.
-pub fn remote_at(s: &[u8], a: Addr, n: u32) -> RemoteRead
+pub fn remote_at(s: &[u8], a: Addr, n: u32) -> Option<usize>
     ensures { result ≡ remote_at s.now a n }
 {
-    let FrameRead::Frame(h) = BoxHeader::at(s, a) else {
-        return RemoteRead::Bad;
+    let Some(h) = BoxHeader::at(s, a) else {
+        return None;
     };
     if h.box_kind != BoxHeader::REMOTE {
-        return RemoteRead::Bad;
+        return None;
     }
     if (h.payload_size as u64) != 8 + (n as u64) {
-        return RemoteRead::Bad;
+        return None;
     }
     let p = (a.0 as usize) + BoxHeader::HDR_LEN;
     if numbers::read_u64(s, p) != (n as u64) {
-        return RemoteRead::Bad;
+        return None;
     }
-    RemoteRead::At(p + 8)
+    Some(p + 8)
 }
 
 // Where a delta's key and value stand, and what its frame says of it.
@@ -574,32 +543,26 @@ impl Delta {
     pub const KEY_AT: usize = BoxHeader::HDR_LEN + Delta::LENS;
 }
 
-#[derive(Clone, Copy)]
-pub enum DeltaRead {
-    Is(Delta),
-    Bad,
-}
-
 // The delta frame at an address: its payload is cut by its two lengths and nothing is left.
-pub fn delta_at(s: &[u8], a: Addr) -> DeltaRead
+pub fn delta_at(s: &[u8], a: Addr) -> Option<Delta>
     ensures { result ≡ delta_at s.now a }
 {
-    let FrameRead::Frame(h) = BoxHeader::at(s, a) else {
-        return DeltaRead::Bad;
+    let Some(h) = BoxHeader::at(s, a) else {
+        return None;
     };
     if h.box_kind != BoxHeader::DELTA {
-        return DeltaRead::Bad;
+        return None;
     }
     if (h.payload_size as usize) < Delta::LENS {
-        return DeltaRead::Bad;
+        return None;
     }
     let p = (a.0 as usize) + BoxHeader::HDR_LEN;
     let k = numbers::read_u32(s, p) as usize;
     let v = numbers::read_u32(s, p + 4) as usize;
     if (h.payload_size as usize) != Delta::LENS + k + v {
-        return DeltaRead::Bad;
+        return None;
     }
-    DeltaRead::Is(Delta {
+    Some(Delta {
         key_at: p + Delta::LENS,
         val_at: p + Delta::LENS + k,
         end: p + Delta::LENS + k + v,
@@ -633,7 +596,7 @@ impl Clerk {
             if size <= limit - at.0 {
                 let c = Clerk {
                     next: Addr(at.0 + size),
-                    limit: limit,
+                    limit,
                 };
                 return Taken { addr: at, clerk: c };
             }

@@ -16,11 +16,9 @@ use Rattle.build_sources.specs.Source.{Entry}
 use Rattle.build_sources.specs.Marks.{Marked}
 use Rattle.build_sources.proofs.Marked.{list-wide, marked}
 use Rattle.build_image.specs.declared.Call.{Call}
-use Rattle.build_image.specs.declared.Built.{Built}
 use Rattle.build_image.specs.Image.{Borders}
 use Rattle.base.specs.Calls.{bounds_from, listed, new_answer, new_arena}
 use Rattle.sst.specs.Search.{search_at}
-use Rattle.asof.specs.declared.AsOf.{AsOf}
 use Rattle.asof.specs.AsOf.{as_of_at}
 use Rattle.law_history.specs.Fit.{Numbers}
 use Rattle.law_leaf.specs.Grouped.{leaf_page}
@@ -29,10 +27,11 @@ use Rattle.law_calls.proofs.New.{new_says}
 use Rattle.law_asof.specs.Asked.{AsOfSays}
 use Rattle.law_asof.proofs.Searched.{as_found}
 use Rattle.law_asof.proofs.Leaves.{as_of_list, as_of_answers, as_of_largest}
+use Rattle.std.proofs.Common.{Ok, Err}
 
 -- what the types of the call's arguments say: bytes, and numbers of their widths
 module _ (a : List ℕ) (next : ℕ) (l : List ℕ) (m : Call) (lo hi : List ℕ) (sibling : ℕ) (bytes : Bytes l) (word : length a < 256 ^ 8) (numbers : Numbers m) (id : sibling < 256 ^ 8)
-    (p : Addr) (end : ℕ) (built : new_answer a next l m (bounds_from lo hi sibling) ≡ Built.At p end)
+    (p : Addr) (end : ℕ) (built : new_answer a next l m (bounds_from lo hi sibling) ≡ Ok (p, end))
     (s : List ℕ) (long : end ≤ length s) (same : take end s ≡ take end (new_arena a next l m (bounds_from lo hi sibling))) (probe : List ℕ) where
   abbrev b : Borders
   b = bounds_from lo hi sibling
@@ -49,7 +48,7 @@ module _ (a : List ℕ) (next : ℕ) (l : List ℕ) (m : Call) (lo hi : List ℕ
   pub new_as_of : (v : Ver) → AsOfSays s (records_of es) probe v (as_of_at s p probe v)
   new_as_of = as_of_list s p b es means marks probe
 
-  pub new_as_of_answers : (v : Ver) (r : Refusal) → as_of_at s p probe v ≡ AsOf.Refused r → ⊥
+  pub new_as_of_answers : (v : Ver) (r : Refusal) → as_of_at s p probe v ≡ Err r → ⊥
   new_as_of_answers = as_of_answers s p b es means marks probe
 
   pub new_as_of_largest : as_of_at s p probe largest ≡ as_found (search_at s p probe)

@@ -12,7 +12,6 @@ use Rattle.order.specs.declared.Ver.{Ver}
 use Rattle.order.specs.Version.{newer_than}
 use Rattle.frames.specs.declared.Addr.{Addr}
 use Rattle.frames.specs.declared.Body.{Body}
-use Rattle.frames.specs.declared.Opened.{Opened}
 use Rattle.values.specs.declared.HistRef.{HistRef}
 use Rattle.values.specs.Keys.{ver_in}
 use Rattle.records.proofs.Inside.{val-part}
@@ -28,28 +27,30 @@ use Rattle.walks.specs.Walk.{older_on, no_older, item_of}
 use Rattle.walks.specs.Listed.{Entry as Listed, older_entries}
 use Rattle.walks.proofs.Steps.{Next, next-old, enter_none, enter_in}
 use Rattle.walks.proofs.Ages.{Ages, next-aged, aged_none}
-use Rattle.asof.specs.declared.AsOf.{AsOf}
 use Rattle.asof.specs.AsOf.{old_as_of, old_enter}
 use Rattle.asof.proofs.Olds.{old-end, old_newer, old-found}
 use Rattle.law_asof.specs.Asked.{first, no_newer}
 use Rattle.law_asof.proofs.Picking.{first-here, first_next}
+use Rattle.std.proofs.Common.{Some, Result, Ok, Err}
+use Rattle.asof.specs.declared.AsOf.{AsOf}
+use Rattle.frames.specs.declared.Refusal.{Refusal}
 
 -- an answer beside a key's records, newest first: it is the first that is no newer, or all are newer
-abbrev pub Picks : List ℕ → List ℕ → Ver → List Listed → AsOf → Type 0
-Picks s probe v rs (AsOf.Is i ver x n) = first (no_newer v) rs ≡ (record { key = probe; ver = ver; value = part_in s x }) ∷ []
-Picks s probe v rs (AsOf.Nothing n) = first (no_newer v) rs ≡ []
-Picks s probe v rs (AsOf.Refused r) = ⊥
+abbrev pub Picks : List ℕ → List ℕ → Ver → List Listed → Result AsOf Refusal → Type 0
+Picks s probe v rs (Ok (AsOf.Is i ver x n)) = first (no_newer v) rs ≡ (record { key = probe; ver = ver; value = part_in s x }) ∷ []
+Picks s probe v rs (Ok (AsOf.Nothing n)) = first (no_newer v) rs ≡ []
+Picks s probe v rs (Err r) = ⊥
 
 module _ (s : List ℕ) (probe : List ℕ) (v : Ver) where
   -- one that is newer is passed over
-  pub picks_next : (r : Listed) (rs : List Listed) → newer_than r.ver v ≡ true → (x : AsOf) → Picks s probe v rs x → Picks s probe v (r ∷ rs) x
-  picks_next r rs e (AsOf.Is i ver x n) h = first_next (no_newer v) r rs (ap not e) ∙ h
-  picks_next r rs e (AsOf.Nothing n) h = first_next (no_newer v) r rs (ap not e) ∙ h
-  picks_next r rs e (AsOf.Refused q) h = h
+  pub picks_next : (r : Listed) (rs : List Listed) → newer_than r.ver v ≡ true → (x : Result AsOf Refusal) → Picks s probe v rs x → Picks s probe v (r ∷ rs) x
+  picks_next r rs e (Ok (AsOf.Is i ver x n)) h = first_next (no_newer v) r rs (ap not e) ∙ h
+  picks_next r rs e (Ok (AsOf.Nothing n)) h = first_next (no_newer v) r rs (ap not e) ∙ h
+  picks_next r rs e (Err q) h = h
 
   -- one that is not is handed back
   pub picks_here : (ver : Ver) (x : Place) (y : List ℕ) (rs : List Listed) (i n : ℕ) → newer_than ver v ≡ false → y ≡ part_in s x
-      → Picks s probe v ((record { key = probe; ver = ver; value = y }) ∷ rs) (AsOf.Is i ver x n)
+      → Picks s probe v ((record { key = probe; ver = ver; value = y }) ∷ rs) (Ok (AsOf.Is i ver x n))
   picks_here ver x y rs i n e q =
       first-here (no_newer v) (record { key = probe; ver = ver; value = y }) rs (ap not e) ∙ ap (λ (z : List ℕ). (record { key = probe; ver = ver; value = z }) ∷ []) q
 
@@ -91,7 +92,7 @@ module _ (s : List ℕ) (probe : List ℕ) (v : Ver) where
           rw g.read
           (turn_by ih (next-aged s (place 0 0) here rest (item_of s (place 0 0) g.rec x.names) (omega arith) x.next) (newer_than ver v) refl)
 
-    olds_pick : (k : ℕ) (h : Addr) (d : Body) (i : ℕ) (t : Ver) → history_at s h ≡ Opened.Is d → chain_from s k h i t ≡ true
+    olds_pick : (k : ℕ) (h : Addr) (d : Body) (i : ℕ) (t : Ver) → history_at s h ≡ Some d → chain_from s k h i t ≡ true
         → Picks s probe v (older_entries probe (olds_from s k h i)) (old_as_of s v slot reads k (older_on d i k))
     olds_pick zero h d i t o c = none_left 0 h i (older_on d i 0) refl refl
     olds_pick (suc k) h d i t o c =

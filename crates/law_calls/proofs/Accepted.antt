@@ -12,17 +12,17 @@ use Rattle.frames.specs.declared.Addr.{Addr}
 use Rattle.frames.specs.declared.Refusal.{Refusal}
 use Rattle.frames.specs.Layout.{addr}
 use Rattle.pages.specs.Meaning.{Page, says, meaning}
-use Rattle.build_image.specs.declared.Built.{Built}
 use Rattle.build_image.specs.Table.{Row, judged}
 use Rattle.build_image.proofs.Tables.{All, all_go, passes}
 use Rattle.law_calls.proofs.Stored.{stored, others_stay, from-then-on}
+use Rattle.std.proofs.Common.{Result, Ok, Err}
 
-module _ (rows : List Row) (at to : ℕ) (p : Addr) (end : ℕ) (built : judged rows Built.Refused (Built.At (addr at) to) ≡ Built.At p end) where
-  apart : (r : Refusal) → Built.Refused r ≡ Built.At p end → ⊥
+module _ (rows : List Row) (at to : ℕ) (p : Addr) (end : ℕ) (built : judged rows Err (Ok (addr at, to)) ≡ Ok (p, end)) where
+  apart : (r : Refusal) → Err r ≡ Ok (p, end) → ⊥
   apart r e = let z : ◌≡◌ {A = ℕ} 0 1 = cc in omega arith
 
-  passed : (Built.At (addr at) to ≡ Built.At p end) × All rows
-  passed = passes Built.Refused (Built.At (addr at) to) rows (Built.At p end) apart built
+  passed : (◌≡◌ {A = Result (Addr × ℕ) Refusal} (Ok (addr at, to)) (Ok (p, end))) × All rows
+  passed = passes Err (Ok (addr at, to)) rows (Ok (p, end)) apart built
 
   pub all_hold : All rows
   all_hold = passed.1
@@ -33,7 +33,7 @@ module _ (rows : List Row) (at to : ℕ) (p : Addr) (end : ℕ) (built : judged 
   pub end_is : to ≡ end
   end_is = let e = passed.0 in cc
 
-module _ (rows : List Row) (a : List ℕ) (next at : ℕ) (image : List ℕ) (p : Addr) (end : ℕ) (built : judged rows Built.Refused (Built.At (addr at) (next + length image)) ≡ Built.At p end)
+module _ (rows : List Row) (a : List ℕ) (next at : ℕ) (image : List ℕ) (p : Addr) (end : ℕ) (built : judged rows Err (Ok (addr at, next + length image)) ≡ Ok (p, end))
     (room : next + length image ≤ length a) (after : List ℕ) (is : after ≡ judged rows (λ r. a) (put a next image)) where
   ends : next + length image ≡ end
   ends = end_is rows at (next + length image) p end built

@@ -12,14 +12,12 @@ use Rattle.numbers.specs.Number.{Bytes}
 use Rattle.order.specs.declared.Ver.{Ver}
 use Rattle.frames.specs.declared.Addr.{Addr}
 use Rattle.frames.specs.Layout.{addr}
-use Rattle.pages.specs.declared.Checked.{Checked}
 use Rattle.pages.specs.Meaning.{Page, says, meaning, check_of}
 use Rattle.pages.proofs.Says.{says_checked}
 use Rattle.build_sources.specs.Source.{Entry}
 use Rattle.build_image.specs.declared.Call.{Call}
 use Rattle.build_image.specs.Prefix.{common}
 use Rattle.build_image.specs.Image.{Borders, index_image}
-use Rattle.build_image.specs.declared.Built.{Built}
 use Rattle.build_table.specs.Index.{index_end}
 use Rattle.build_image.specs.Table.{judged}
 use Rattle.build_image.proofs.Tables.{All}
@@ -36,6 +34,8 @@ use Rattle.law_calls.proofs.Stored.{index_stored}
 use Rattle.law_calls.proofs.Listing.{index_each}
 use Rattle.law_calls.proofs.Fitting.{bounds_fit, address, index_fit}
 use Rattle.law_calls.proofs.Accepted.{all_hold, after-long, answered_says, answered_others}
+use Rattle.std.proofs.Common.{Ok, Err}
+use Rattle.frames.specs.declared.Refusal.{Refusal}
 
 -- what the types of the call's arguments say: bytes, and numbers of their widths
 module _ (a : List ℕ) (next : ℕ) (l : List ℕ) (m : Call) (lo hi : List ℕ) (sibling : ℕ) (bytes : Bytes l) (word : length a < 256 ^ 8) (numbers : Numbers m) (id : sibling < 256 ^ 8) where
@@ -48,8 +48,8 @@ module _ (a : List ℕ) (next : ℕ) (l : List ℕ) (m : Call) (lo hi : List ℕ
   abbrev after : List ℕ
   after = new_index_arena a next l m b
 
-  module _ (p : Addr) (end : ℕ) (built : new_index_answer a next l m b ≡ Built.At p end) where
-    built' : judged (new_index_rows a next l m b) Built.Refused (Built.At (addr next) (next + length (index_image m b es))) ≡ Built.At p end
+  module _ (p : Addr) (end : ℕ) (built : new_index_answer a next l m b ≡ Ok (p, end)) where
+    built' : judged (new_index_rows a next l m b) Err (Ok (addr next, next + length (index_image m b es))) ≡ Ok (p, end)
     unfolding new_index_answer index_end
     built' = built
 
@@ -85,7 +85,7 @@ module _ (a : List ℕ) (next : ℕ) (l : List ℕ) (m : Call) (lo hi : List ℕ
       index_says = answered_says (new_index_rows a next l m b) a next next (index_image m b es) p end built' room after is s long same (index_page b es) (index_stored a m b next es fit room)
 
       -- the check says sound
-      pub index_sound : check_of (meaning s p) ≡ Checked.Sound
+      pub index_sound : check_of (meaning s p) ≡ Ok tt
       index_sound = says_checked (meaning s p) (index_page b es) index_says
 
       -- every page that said something below the old mark still says it

@@ -20,7 +20,6 @@ use Rattle.build_sources.proofs.Marked.{list-wide, marked}
 use Rattle.build_image.specs.declared.Call.{Call}
 use Rattle.build_image.specs.Prefix.{common}
 use Rattle.build_image.specs.Image.{Borders, cuts_of, history_end, leaf_size, leaf_room, leaf_image}
-use Rattle.build_image.specs.declared.Built.{Built}
 use Rattle.build_image.specs.Call.{limit_ok, budget_ok}
 use Rattle.build_image.specs.Table.{Row, judged}
 use Rattle.build_table.specs.Table.{bounds_ok, entry_rows}
@@ -37,6 +36,7 @@ use Rattle.law_calls.proofs.Stored.{leaf_stored}
 use Rattle.law_calls.proofs.Listing.{record_each}
 use Rattle.law_calls.proofs.Fitting.{bounds_fit, call_fits, address_below, leaf_fit}
 use Rattle.law_calls.proofs.Accepted.{all_hold, after-long, answered_says, answered_others}
+use Rattle.std.proofs.Common.{Ok, Err}
 
 -- what row 1 asks of a leaf build
 pub record Limits (m : Call) (lo hi : List ℕ) : Type 0 where
@@ -61,7 +61,7 @@ module _ (a : List ℕ) (next : ℕ) (l : List ℕ) (m : Call) (lo hi : List ℕ
   abbrev at : ℕ
   at = history_end m.limit next (cuts_of m es) (olds es)
 
-  module _ (p : Addr) (end : ℕ) (built : judged rows Built.Refused (Built.At (addr at) (next + length image)) ≡ Built.At p end)
+  module _ (p : Addr) (end : ℕ) (built : judged rows Err (Ok (addr at, next + length image)) ≡ Ok (p, end))
       (after : List ℕ) (is : after ≡ judged rows (λ r. a) (put a next image)) where
     holds : All rows
     holds = all_hold rows at (next + length image) p end built

@@ -10,7 +10,6 @@ use lib.ListN.{length, take}
 use Rattle.numbers.specs.Number.{Bytes}
 use Rattle.frames.specs.declared.Addr.{Addr}
 use Rattle.frames.proofs.Frames.{and_l, and_r}
-use Rattle.pages.specs.declared.Checked.{Checked}
 use Rattle.pages.specs.Meaning.{Page, says, meaning, check_of}
 use Rattle.pages.proofs.Says.{says_checked}
 use Rattle.build_sources.specs.Source.{Entry, heads}
@@ -18,7 +17,6 @@ use Rattle.build_image.specs.declared.Call.{Call}
 use Rattle.build_image.specs.Prefix.{common}
 use Rattle.build_image.specs.Image.{Borders}
 use Rattle.build_totals.specs.Totals.{leaf_at}
-use Rattle.build_image.specs.declared.Built.{Built}
 use Rattle.build_image.specs.Call.{limit_ok, budget_ok}
 use Rattle.build_table.specs.Table.{bounds_ok, leaf_limits}
 use Rattle.build_table.specs.Leaf.{leaf_end}
@@ -30,6 +28,8 @@ use Rattle.law_history.specs.Fit.{Numbers}
 use Rattle.law_leaf.specs.Grouped.{grouped, leaf_page}
 use Rattle.law_list.specs.Asked.{records_of, having, between, key_is, largest, pos_of, SearchSays}
 use Rattle.law_calls.proofs.Judged.{Limits, leaf_long, leaf_says, leaf_others, leaf_lists, leaf_all_back, leaf_range, leaf_back, leaf_search}
+use Rattle.std.proofs.Common.{Ok}
+use Rattle.frames.specs.declared.Refusal.{Refusal}
 
 limits : (m : Call) (lo hi : List ℕ) → leaf_limits m.limit m.budget lo hi ≡ true → Limits m lo hi
 limits m lo hi e =
@@ -38,14 +38,14 @@ limits m lo hi e =
 
 -- the arena afterwards is one of those that the laws below speak of
 pub new_long : (a : List ℕ) (next : ℕ) (l : List ℕ) (m : Call) (lo hi : List ℕ) (sibling : ℕ) → Bytes l → length a < 256 ^ 8 → Numbers m → sibling < 256 ^ 8
-    → (p : Addr) (end : ℕ) → new_answer a next l m (bounds_from lo hi sibling) ≡ Built.At p end → end ≤ length (new_arena a next l m (bounds_from lo hi sibling))
+    → (p : Addr) (end : ℕ) → new_answer a next l m (bounds_from lo hi sibling) ≡ Ok (p, end) → end ≤ length (new_arena a next l m (bounds_from lo hi sibling))
 unfolding new_answer new_arena leaf_end leaf_at
 new_long a next l m lo hi sibling bytes word numbers id p end built =
     leaf_long a next l m lo hi sibling bytes word numbers id (leaf_limits m.limit m.budget lo hi) (limits m lo hi) p end built (new_arena a next l m (bounds_from lo hi sibling)) refl
 
 -- what the types of the call's arguments say: bytes, and numbers of their widths
 module _ (a : List ℕ) (next : ℕ) (l : List ℕ) (m : Call) (lo hi : List ℕ) (sibling : ℕ) (bytes : Bytes l) (word : length a < 256 ^ 8) (numbers : Numbers m) (id : sibling < 256 ^ 8)
-    (p : Addr) (end : ℕ) (built : new_answer a next l m (bounds_from lo hi sibling) ≡ Built.At p end)
+    (p : Addr) (end : ℕ) (built : new_answer a next l m (bounds_from lo hi sibling) ≡ Ok (p, end))
     (s : List ℕ) (long : end ≤ length s) (same : take end s ≡ take end (new_arena a next l m (bounds_from lo hi sibling))) where
   abbrev b : Borders
   b = bounds_from lo hi sibling
@@ -65,7 +65,7 @@ module _ (a : List ℕ) (next : ℕ) (l : List ℕ) (m : Call) (lo hi : List ℕ
   new_says = leaf_says a next l m lo hi sibling bytes word numbers id ok (limits m lo hi) p end built (new_arena a next l m b) refl s long same
 
   -- the check says sound
-  pub new_sound : check_of (meaning s p) ≡ Checked.Sound
+  pub new_sound : check_of (meaning s p) ≡ Ok tt
   new_sound = says_checked (meaning s p) (leaf_page b es) new_says
 
   -- every page that said something below the old mark still says it

@@ -13,7 +13,6 @@ use Rattle.spans.proofs.Lying.{lies_front, lies_back, lies_part}
 use Rattle.frames.specs.declared.BoxHeader.{BoxHeader}
 use Rattle.frames.specs.declared.BaseHeader.{BaseHeader}
 use Rattle.frames.specs.declared.Body.{Body}
-use Rattle.frames.specs.declared.Opened.{Opened}
 use Rattle.frames.specs.Layout.{box_len, base_len, box_base, node_leaf, node_index, addr, frame_len, box_ok, base_ok, body_of, open_at}
 use Rattle.frames.specs.Stored.{page_bytes, base_of}
 use Rattle.frames.proofs.Stores.{BaseFits, base_of_fits, length-heads, box_of_heads, base_of_heads}
@@ -22,6 +21,7 @@ use Rattle.build_image.specs.declared.Call.{Call}
 use Rattle.build_image.specs.Image.{page_box, first_of, Borders}
 use Rattle.law_history.specs.Fit.{Numbers, BoundsFit, Address}
 use Rattle.law_history.proofs.Opening.{box_fits, open_back}
+use Rattle.std.proofs.Common.{Some}
 
 -- the front of what lies there
 pub lies_first : (s : List ℕ) (at n : ℕ) (x : List ℕ) → n ≤ length x → Lies s at x → part s at n ≡ take n x
@@ -86,7 +86,7 @@ module _ (s : List ℕ) (m : Call) (b : Borders) (at : ℕ) (k : Sheet) (f : She
       base_of_fits k.size k.count b.sibling (length b.lo) (length b.hi) b.prefix k.index k.many (omega (arith, f.small, f.sized)) f.few u.sibling (omega (arith, u.lo)) (omega (arith, u.hi))
       (omega (arith, u.prefix, u.lo)) (omega (arith, f.kind)) (omega (arith, f.multi))
 
-  pub sheet_opens : open_at s (addr at) ≡ Opened.Is body
+  pub sheet_opens : open_at s (addr at) ≡ Some body
   sheet_opens =
       open_back s at x (box_fits m k.payload box_base k.node 0 0 m.txid f.numbers f.small (omega arith) (omega (arith, f.high)) (omega arith) (omega arith) f.numbers.txid) (box_of_heads s at x h heads_lie) (omega (arith, f.room)) box_ok_lem
       h base_fits (base_of_heads s at x h heads_lie) refl (omega (arith, f.sized, f.holds)) f.ok

@@ -12,15 +12,12 @@ use lib.Dec.{ltb, eqb}
 use Rattle.spans.specs.Span.{Lies}
 use Rattle.spans.proofs.Lying.{lies_front, lies_back}
 use Rattle.frames.specs.declared.Body.{Body}
-use Rattle.frames.specs.declared.Opened.{Opened}
 use Rattle.frames.specs.Layout.{addr, body_of}
 use Rattle.records.specs.declared.Rec.{Rec}
-use Rattle.records.specs.declared.RecRead.{RecRead}
 use Rattle.records.specs.Records.{rec_at}
 use Rattle.build_sources.specs.Source.{Entry}
 use Rattle.build_sources.specs.Marks.{Each}
-use Rattle.pages.specs.declared.OldRead.{OldRead}
-use Rattle.pages.specs.Sound.{history_at, hist_ok, old_in, old_at, entered}
+use Rattle.pages.specs.Sound.{history_at, hist_ok, old_in, old_at, entered, old_version}
 use Rattle.build_image.specs.declared.Call.{Call}
 use Rattle.build_image.specs.Image.{hist_size, hist_page, page_end, link_to, history, history_end, PageSlot, places_in, places}
 use Rattle.build_image.proofs.Lengths.{length-page}
@@ -29,12 +26,13 @@ use Rattle.law_history.specs.Rows.{Rows}
 use Rattle.law_history.proofs.Remotes.{remotes-even}
 use Rattle.law_history.proofs.Page.{SaysOld}
 use Rattle.law_history.proofs.History.{PageFits, hist_body, hist_at_lem, hist_rows, hist_whole}
+use Rattle.std.proofs.Common.{Some}
 
 -- ---- reading from a place on gives these old versions
 
 unfoldable pub Olds : List ℕ → ℕ → ℕ → List Entry → Type 0
 Olds s a i [] = Unit {0}
-Olds s a i (e ∷ es) = (p : ℕ) × (q : ℕ) × (r : Rec) × (old_at s (addr a) i ≡ OldRead.Old (addr p) q r) × (hist_ok s (addr p) ≡ true) × SaysOld s r e × Olds s p (q + 1) es
+Olds s a i (e ∷ es) = (p : ℕ) × (q : ℕ) × (r : Rec) × (old_at s (addr a) i ≡ Some (old_version (addr p) q r)) × (hist_ok s (addr p) ≡ true) × SaysOld s r e × Olds s p (q + 1) es
 
 -- a place is a slot of a history page, its numbers have their widths, and reading from it on gives these
 pub record Placed (s : List ℕ) (p : PageSlot) (es : List Entry) : Type 0 where
@@ -52,8 +50,8 @@ Told s (p ∷ ps) (e ∷ es) = Placed s p (e ∷ es) × Told s ps es
 
 -- ---- in one page
 
-module _ (s : List ℕ) (a : ℕ) (b : Body) (at : history_at s (addr a) ≡ Opened.Is b) (whole : hist_ok s (addr a) ≡ true) where
-  in_page : (i : ℕ) (r : Rec) → i < b.elems → rec_at s b i ≡ RecRead.Is r → old_at s (addr a) i ≡ OldRead.Old (addr a) i r
+module _ (s : List ℕ) (a : ℕ) (b : Body) (at : history_at s (addr a) ≡ Some b) (whole : hist_ok s (addr a) ≡ true) where
+  in_page : (i : ℕ) (r : Rec) → i < b.elems → rec_at s b i ≡ Some r → old_at s (addr a) i ≡ Some (old_version (addr a) i r)
   unfolding old_at old_in
   in_page i r l e = rw (at, ne_eqb i b.elems (λ q. omega arith), e) refl
 
@@ -76,7 +74,7 @@ module _ (s : List ℕ) (a : ℕ) (b : Body) (at : history_at s (addr a) ≡ Ope
   )
 
   -- ---- across the link: behind the last slot stands the first of the linked page
-  module _ (next : ℕ) (d : Body) (link : b.link ≡ addr next) (at' : history_at s (addr next) ≡ Opened.Is d) (some : 0 < d.elems) where
+  module _ (next : ℕ) (d : Body) (link : b.link ≡ addr next) (at' : history_at s (addr next) ≡ Some d) (some : 0 < d.elems) where
     across : old_at s (addr a) b.elems ≡ old_at s (addr next) 0
     unfolding old_at
     across = rw (at, eq-eqb b.elems b.elems refl, link, at', ne_eqb 0 d.elems (λ q. omega arith)) refl
@@ -126,7 +124,7 @@ end-even limit (n ∷ ns) at es e = end-even limit ns (page_end limit at (take n
 -- the first page, where there is one
 pub record First (s : List ℕ) (at : ℕ) : Type 0 where
   pub body : Body
-  pub opened : history_at s (addr at) ≡ Opened.Is body
+  pub opened : history_at s (addr at) ≡ Some body
   pub some : 0 < body.elems
 
 unfoldable pub FirstOf : List ℕ → ℕ → List ℕ → Type 0
@@ -150,7 +148,7 @@ module _ (s : List ℕ) (m : Call) (w : CallFits m) where
   link-word x (n ∷ ns) h = h
 
   -- behind a page's last old version stand those of the next page, if there is one
-  behind : (ns : List ℕ) (limit at next : ℕ) (here rest : List Entry) → history_at s (addr at) ≡ Opened.Is (hist_body m at (link_to next ns) here) → hist_ok s (addr at) ≡ true → Paged limit ns rest → FirstOf s next ns → Olds s next 0 rest
+  behind : (ns : List ℕ) (limit at next : ℕ) (here rest : List Entry) → history_at s (addr at) ≡ Some (hist_body m at (link_to next ns) here) → hist_ok s (addr at) ≡ true → Paged limit ns rest → FirstOf s next ns → Olds s next 0 rest
       → Olds s at (length here) rest
   unfolding Paged FirstOf Olds body_of
   behind [] limit at next here rest o k p f h = rw p tt

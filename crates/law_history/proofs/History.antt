@@ -13,7 +13,6 @@ use Rattle.spans.proofs.Lying.{lies_front, lies_back, lies_in}
 use Rattle.frames.specs.declared.BoxHeader.{BoxHeader}
 use Rattle.frames.specs.declared.BaseHeader.{BaseHeader}
 use Rattle.frames.specs.declared.Body.{Body}
-use Rattle.frames.specs.declared.Opened.{Opened}
 use Rattle.frames.specs.Layout.{box_len, base_len, slots_at, box_base, node_leaf, flag_sibling, addr, frame_len, box_ok, base_ok, kind_of, body_of, open_at}
 use Rattle.frames.specs.Stored.{box_bytes, base_bytes, base_of}
 use Rattle.frames.proofs.Stores.{BaseFits, base_of_fits, box_of_heads, base_of_heads}
@@ -29,6 +28,7 @@ use Rattle.law_history.specs.Rows.{Rows}
 use Rattle.law_history.proofs.Opening.{box_fits, open_back}
 use Rattle.law_history.proofs.Rowing.{slots-old}
 use Rattle.law_history.proofs.Page.{SaysOld, rows-old}
+use Rattle.std.proofs.Common.{Some}
 
 -- what a page needs: "no history page is empty", its count and size have their widths, "links go to higher addresses"
 pub record PageFits (limit at link : ℕ) (es : List Entry) : Type 0 where
@@ -121,12 +121,12 @@ module _ (s : List ℕ) (m : Call) (at link : ℕ) (es : List Entry) (w : CallFi
   base_fits : BaseFits h
   base_fits = base_of_fits size (length es) 0 0 0 0 0 0 pf.size pf.few (omega arith) (omega arith) (omega arith) (omega arith) (omega arith) (omega arith)
 
-  pub hist_opens : open_at s (addr at) ≡ Opened.Is body
+  pub hist_opens : open_at s (addr at) ≡ Some body
   hist_opens =
       open_back s at x (box_fits m size box_base node_leaf flag_sibling link m.txid w.numbers pf.size (omega arith) (omega arith) (omega arith) pf.word w.numbers.txid) box_lies (omega (arith, whole)) box_ok_lem
       h base_fits base_lies refl (omega (arith, size_is)) base_ok_lem
 
-  pub hist_at_lem : history_at s (addr at) ≡ Opened.Is body
+  pub hist_at_lem : history_at s (addr at) ≡ Some body
   unfolding history_at body_of kind_of
   hist_at_lem = rw hist_opens refl
 

@@ -13,10 +13,6 @@ use Rattle.numbers.specs.Number.{le, le_at}
 use Rattle.numbers.proofs.Numbers.{length-le, lies_le}
 use Rattle.frames.specs.declared.BoxHeader.{BoxHeader}
 use Rattle.frames.specs.declared.BaseHeader.{BaseHeader}
-use Rattle.frames.specs.declared.FrameRead.{FrameRead}
-use Rattle.frames.specs.declared.PageRead.{PageRead}
-use Rattle.frames.specs.declared.Opened.{Opened}
-use Rattle.frames.specs.declared.RemoteRead.{RemoteRead}
 use Rattle.frames.specs.Layout.{box_len, base_len, box_base, box_remote, node_leaf, addr, frame_len, box_fields, box_ok, box_at, base_fields, base_ok, page_at, body_of, open_at, remote_at}
 use Rattle.frames.specs.Stored.{box_bytes, base_bytes}
 use Rattle.frames.specs.Limits.{max_value}
@@ -25,22 +21,23 @@ use Rattle.build_image.specs.declared.Call.{Call}
 use Rattle.build_image.specs.Sizes.{pad}
 use Rattle.build_image.specs.Image.{box_of, remote_frame}
 use Rattle.law_history.specs.Fit.{Numbers}
+use Rattle.std.proofs.Common.{Some}
 
 -- ---- any frame, any page
 
 module _ (s : List ℕ) (a : ℕ) (x : BoxHeader) (f : BoxFits x) (lies : Lies s a (box_bytes x)) (room : a + box_len ≤ length s) (ok : box_ok x a (length s) ≡ true) where
-  pub box_back : box_at s (addr a) ≡ FrameRead.Frame x
+  pub box_back : box_at s (addr a) ≡ Some x
   unfolding box_at
   box_back = let e : box_fields s a ≡ x = box_reads s a x f lies in rw (le-leb (a + box_len) (length s) room, e, ok) refl
 
   module _ (h : BaseHeader) (g : BaseFits h) (back : Lies s (a + box_len) (base_bytes h)) (kind : x.box_kind ≡ box_base) (holds : base_len ≤ x.payload_size) (ok' : base_ok x h ≡ true) where
-    pub page_back : page_at s (addr a) ≡ PageRead.Page x h
+    pub page_back : page_at s (addr a) ≡ Some (x, h)
     unfolding page_at
     page_back =
         let e : base_fields s (a + box_len) ≡ h = base_reads s (a + box_len) h g back in
         rw (box_back, eq-eqb x.box_kind box_base kind, le-leb base_len x.payload_size holds, e, ok') refl
 
-    pub open_back : open_at s (addr a) ≡ Opened.Is (body_of (addr a) x h)
+    pub open_back : open_at s (addr a) ≡ Some (body_of (addr a) x h)
     unfolding open_at
     open_back = rw page_back refl
 
@@ -75,7 +72,7 @@ module _ (s : List ℕ) (m : Call) (a : ℕ) (v : List ℕ) (w : Numbers m) (fr 
   unfolding box_ok
   is_ok = rw (le-leb 8 a fr.above, eq-eqb (a % 8) 0 fr.even, le-leb (a + frame_len (8 + length v)) (length s) fr.room) refl
 
-  pub remote_back : remote_at s (addr a) (length v) ≡ RemoteRead.At (a + box_len + 8)
+  pub remote_back : remote_at s (addr a) (length v) ≡ Some (a + box_len + 8)
   unfolding remote_at
   remote_back =
       let e : le_at 8 s (a + box_len) ≡ length v = lies_le s (a + box_len) 8 (length v) (omega arith) (lies_front s (a + box_len) (le 8 (length v)) (v ++ pad (8 + length v)) rest) in

@@ -13,8 +13,7 @@ use Rattle.numbers.specs.Number.{le}
 use Rattle.numbers.proofs.Numbers.{length-le}
 use Rattle.frames.specs.declared.Body.{Body}
 use Rattle.frames.specs.Layout.{base_len}
-use Rattle.values.specs.declared.KeyRead.{KeyRead}
-use Rattle.values.specs.Keys.{ver_in, ver_bytes, key_at}
+use Rattle.values.specs.Keys.{ver_in, ver_bytes, key_at, key_parts}
 use Rattle.values.specs.Vals.{no_hist}
 use Rattle.values.proofs.Laws.{length-ver}
 use Rattle.values.proofs.KeysBack.{SmallVer, ver_back}
@@ -31,6 +30,7 @@ use Rattle.law_history.specs.Fit.{Fits, CallFits, Address}
 use Rattle.law_history.specs.Rows.{Rows}
 use Rattle.law_history.proofs.Values.{Resolves, val_back, RecBack, rec_back, rec-at}
 use Rattle.law_history.proofs.Remotes.{remote-even, resolves}
+use Rattle.std.proofs.Common.{Some}
 
 -- a record says an old version
 pub record SaysOld (s : List ℕ) (r : Rec) (e : Entry) : Type 0 where
@@ -58,7 +58,7 @@ module _ (s : List ℕ) (b : Body) (p limit remote : ℕ) (e : Entry) (kind : b.
   long : length (old_rec limit remote e) ≡ 12 + length (val_bytes limit remote no_hist e)
   long = length-old limit remote e ∙ ap (λ (k : ℕ). 12 + k) (sym (length-plain limit remote e))
 
-  key : key_in s b p ≡ KeyRead.Key p (p + 12) 0
+  key : key_in s b p ≡ Some (key_parts p (p + 12) 0)
   unfolding key_in key_at
   key =
       let x : length (take b.end s) ≡ b.end = length-take-le b.end s ends in

@@ -8,7 +8,6 @@ use borrow.Author.Tests.{eq-eqb}
 use lib.ListN.{length}
 use lib.Dec.{eqb}
 use Rattle.spans.specs.Span.{part}
-use Rattle.order.specs.declared.Order.{Order}
 use Rattle.order.specs.Order.{cmp_bytes, is_less}
 use Rattle.order.proofs.Laws.{cmp_front}
 use Rattle.frames.specs.declared.Body.{Body}
@@ -16,6 +15,7 @@ use Rattle.records.specs.declared.Rec.{Rec}
 use Rattle.pages.specs.Sound.{in_order, slots_from, head_ok, multi_of, chains_from}
 use Rattle.pages.specs.Meaning.{rows_from, prefix_of, key_of}
 use Rattle.law_history.specs.Rows.{Rows, Up, UpAll, multis}
+use Rattle.std.specs.declared.cmp.Ordering.{Ordering}
 
 module _ {A : Type 0} (P : Rec → A → Type 0) (s : List ℕ) (b : Body) where
   -- the rows are the list
@@ -33,7 +33,7 @@ module _ {A : Type 0} (P : Rec → A → Type 0) (s : List ℕ) (b : Body) where
 
   -- another page's: the whole keys rise
   module _ (key : A → List ℕ) (keys : (r : Rec) (a : A) → P r a → key_of s b r ≡ key a) where
-    less : (k i la ln ra rn : ℕ) → cmp_bytes (prefix_of s b ++ part s la ln) (prefix_of s b ++ part s ra rn) ≡ Order.Less → in_order s k i la ln ra rn ≡ true
+    less : (k i la ln ra rn : ℕ) → cmp_bytes (prefix_of s b ++ part s la ln) (prefix_of s b ++ part s ra rn) ≡ Ordering.Less → in_order s k i la ln ra rn ≡ true
     unfolding in_order
     less k i la ln ra rn e = go (eqb k 2 || eqb i 0)
       where

@@ -20,20 +20,17 @@ use Rattle.frames.specs.declared.Body.{Body}
 use Rattle.frames.specs.Layout.{addr, base_len}
 use Rattle.frames.specs.Limits.{max_value}
 use Rattle.values.specs.declared.HistRef.{HistRef}
-use Rattle.values.specs.declared.KeyRead.{KeyRead}
-use Rattle.values.specs.Keys.{ver_bytes, ver_in}
+use Rattle.values.specs.Keys.{ver_bytes, ver_in, key_parts}
 use Rattle.values.specs.Vals.{front_size, inline_bytes, remote_bytes}
 use Rattle.values.proofs.Laws.{length_inline, length-remote}
 use Rattle.values.proofs.KeysBack.{SmallVer}
 use Rattle.values.proofs.ValsBack.{SmallHist, canon, Allowed, inline_back, inline_bytes_lem, remote_back}
-use Rattle.records.specs.declared.SlotRead.{SlotRead}
-use Rattle.records.specs.declared.ValRead.{ValRead}
 use Rattle.records.specs.declared.Rec.{Rec}
-use Rattle.records.specs.declared.RecRead.{RecRead}
-use Rattle.records.specs.Records.{slot_at, key_in, val_of, val_in, rec_of, rec_in, rec_at}
+use Rattle.records.specs.Records.{slot_at, key_in, val_of, val_in, rec_of, rec_in, rec_at, val_parts}
 use Rattle.build_sources.specs.Source.{Entry}
 use Rattle.build_sources.specs.Marks.{Held}
 use Rattle.build_image.specs.Image.{remote_addr, val_bytes}
+use Rattle.std.proofs.Common.{Some}
 
 -- what lies in the front of a list lies there by itself
 pub lies_take : (s : List ℕ) (at n : ℕ) (x : List ℕ) → at + length x ≤ n → Lies s at x → Lies (take n s) at x
@@ -49,7 +46,7 @@ pub record Resolves (s : List ℕ) (limit frame_at : ℕ) (e : Entry) : Type 0 w
 pub record ValBack (s : List ℕ) (b : Body) (at : ℕ) (h : HistRef) (e : Entry) (next : ℕ) : Type 0 where
   pub place : ℕ
   pub remote : Addr
-  pub read : val_in s b at ≡ ValRead.Is (canon h) place (length e.val) remote next
+  pub read : val_in s b at ≡ Some (val_parts (canon h) place (length e.val) remote next)
   pub bytes : part s place (length e.val) ≡ e.val
 
 module _ (s : List ℕ) (b : Body) (at limit frame_at : ℕ) (h : HistRef) (e : Entry) (ok : Allowed h (eqb b.kind 0)) (w : SmallHist h) (small : length e.val ≤ max_value) (res : Resolves s limit frame_at e) where
@@ -62,7 +59,7 @@ module _ (s : List ℕ) (b : Body) (at limit frame_at : ℕ) (h : HistRef) (e : 
         remote = addr 0;
         read =
             ap (val_of s) (inline_back (take b.end s) at h e.val (eqb b.kind 0) ok w small (lies_take s at b.end (inline_bytes h e.val) r l))
-            ∙ ap (λ (k : ℕ). ValRead.Is (canon h) (at + front_size h.count) (length e.val) (addr 0) k) (omega arith);
+            ∙ ap (λ (k : ℕ). Some (val_parts (canon h) (at + front_size h.count) (length e.val) (addr 0) k)) (omega arith);
         bytes = lies_part s (at + front_size h.count) (length e.val) e.val refl (inline_bytes_lem s at h e.val (eqb b.kind 0) ok w small l);
       }
 
@@ -97,7 +94,7 @@ module _ (s : List ℕ) (b : Body) (at limit frame_at : ℕ) (h : HistRef) (e : 
 
 pub record RecBack (s : List ℕ) (b : Body) (p v ra rn : ℕ) (h : HistRef) (e : Entry) (next : ℕ) : Type 0 where
   pub rec : Rec
-  pub read : rec_in s b p ≡ RecRead.Is rec
+  pub read : rec_in s b p ≡ Some rec
   pub from : rec.from ≡ p
   pub behind : rec.next ≡ next
   pub ver-at : rec.ver_at ≡ v
@@ -106,7 +103,7 @@ pub record RecBack (s : List ℕ) (b : Body) (p v ra rn : ℕ) (h : HistRef) (e 
   pub hist : rec.hist ≡ canon h
   pub val : part s rec.val_at rec.val_len ≡ e.val
 
-pub rec_back : (s : List ℕ) (b : Body) (p v ra rn : ℕ) (h : HistRef) (e : Entry) (next : ℕ) → (b.kind ≡ 1 → ⊥) → key_in s b p ≡ KeyRead.Key v ra rn → ValBack s b (ra + rn) h e next → RecBack s b p v ra rn h e next
+pub rec_back : (s : List ℕ) (b : Body) (p v ra rn : ℕ) (h : HistRef) (e : Entry) (next : ℕ) → (b.kind ≡ 1 → ⊥) → key_in s b p ≡ Some (key_parts v ra rn) → ValBack s b (ra + rn) h e next → RecBack s b p v ra rn h e next
 unfolding rec_in
 rec_back s b p v ra rn h e next k q x =
     record {
@@ -125,7 +122,7 @@ rec_back s b p v ra rn h e next k q x =
 
 -- the record of slot i stands where the slot says
 module _ (s : List ℕ) (b : Body) (i off : ℕ) (in_page : i < b.elems) (low : b.first ≤ b.at + off) (high : b.at + off < b.end) (word : off < 256 ^ 4) (lies : Lies s (b.at + base_len + 4 * i) (le 4 off)) where
-  pub slot_back : slot_at s b i ≡ SlotRead.At (b.at + off)
+  pub slot_back : slot_at s b i ≡ Some (b.at + off)
   unfolding slot_at
   slot_back =
       let e : le_at 4 s (b.at + base_len + 4 * i) ≡ off = lies_le s (b.at + base_len + 4 * i) 4 off word lies in

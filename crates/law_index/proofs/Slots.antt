@@ -12,20 +12,17 @@ use Rattle.spans.proofs.Lying.{lies_front, lies_back, lies_part, lies_append}
 use Rattle.numbers.specs.Number.{le, le_at}
 use Rattle.numbers.proofs.Numbers.{length-le, lies_le}
 use Rattle.lengths.specs.Leb128.{uleb}
-use Rattle.order.specs.declared.Order.{Order}
 use Rattle.order.specs.Order.{cmp_bytes}
 use Rattle.order.specs.Version.{ver_of}
 use Rattle.order.proofs.Versions.{newer_self}
 use Rattle.frames.specs.declared.Body.{Body}
 use Rattle.frames.specs.Layout.{addr, base_len}
 use Rattle.frames.specs.Limits.{max_key}
-use Rattle.values.specs.declared.KeyRead.{KeyRead}
-use Rattle.values.specs.Keys.{index_key, key_at}
+use Rattle.values.specs.Keys.{index_key, key_at, key_parts}
 use Rattle.values.specs.Vals.{no_hist}
 use Rattle.values.proofs.Laws.{length-index_key}
 use Rattle.values.proofs.KeysBack.{index_back, index_rest}
 use Rattle.records.specs.declared.Rec.{Rec}
-use Rattle.records.specs.declared.RecRead.{RecRead}
 use Rattle.records.specs.Records.{key_in, rec_of, rec_in}
 use Rattle.pages.specs.Meaning.{Child, prefix_of, child_of}
 use Rattle.pages.proofs.Given.{yes}
@@ -38,6 +35,8 @@ use Rattle.law_history.specs.Rows.{Rows, Up, UpAll}
 use Rattle.law_history.proofs.Values.{lies_take, rec-at}
 use Rattle.law_history.proofs.Prefix.{Split, split, prefixed-first}
 use Rattle.law_index.specs.Children.{child_is, children_of, Leads}
+use Rattle.std.proofs.Common.{Some}
+use Rattle.std.specs.declared.cmp.Ordering.{Ordering}
 
 -- ---- one record
 
@@ -59,10 +58,10 @@ module _ (s : List ℕ) (b : Body) (p : ℕ) (e : Entry) (pre : List ℕ) (kind 
   key_lies : Lies s at (index_key rest)
   key_lies = lies_front s at (index_key rest) (le 8 e.page) lies
 
-  key : key_in s b at ≡ KeyRead.Key (at + n) (at + n + 0) (length rest)
+  key : key_in s b at ≡ Some (key_parts (at + n) (at + n + 0) (length rest))
   unfolding key_in
   key =
-      let k : key_at (take b.end s) at 1 ≡ KeyRead.Key (at + n) (at + n + 0) (length rest) = index_back (take b.end s) at rest small (lies_take s at b.end (index_key rest) (omega arith) key_lies) in
+      let k : key_at (take b.end s) at 1 ≡ Some (key_parts (at + n) (at + n + 0) (length rest)) = index_back (take b.end s) at rest small (lies_take s at b.end (index_key rest) (omega arith) key_lies) in
       rw (kind, k, cut, le-leb (p + length rest) max_key (omega (arith, sp.long, fit.short.key))) refl
 
   abbrev next : ℕ
@@ -71,7 +70,7 @@ module _ (s : List ℕ) (b : Body) (p : ℕ) (e : Entry) (pre : List ℕ) (kind 
   abbrev rec : Rec
   rec = rec_of at (at + n) (at + n + 0) (length rest) no_hist (at + n + 0 + length rest) 8 (addr 0) next
 
-  pub child-read : rec_in s b at ≡ RecRead.Is rec
+  pub child-read : rec_in s b at ≡ Some rec
   unfolding rec_in
   child-read = rw (key, eq-eqb b.kind 1 kind, le-leb next b.end (omega (arith, length-index_key rest))) refl
 
@@ -126,14 +125,14 @@ no : {A : Type 0} → false ≡ true → A
 no e = absurd (let z : ◌≡◌ {A = ℕ} 0 1 = cc in omega arith)
 
 -- an entry without a version that is above the one before has a greater key
-above-key : (a e : Entry) → Leads a → Leads e → above a e ≡ true → cmp_bytes a.key e.key ≡ Order.Less
+above-key : (a e : Entry) → Leads a → Leads e → above a e ≡ true → cmp_bytes a.key e.key ≡ Ordering.Less
 unfolding above
 above-key a e f g h = go (cmp_bytes a.key e.key) (rw (f.plain, g.plain) at h)
   where
-    go : (o : Order) → above_by o (ver_of 0 0) (ver_of 0 0) ≡ true → o ≡ Order.Less
-    go Order.Less x = refl
-    go Order.Equal x = no (sym (newer_self (ver_of 0 0)) ∙ x)
-    go Order.Greater x = no x
+    go : (o : Ordering) → above_by o (ver_of 0 0) (ver_of 0 0) ≡ true → o ≡ Ordering.Less
+    go Ordering.Less x = refl
+    go Ordering.Equal x = no (sym (newer_self (ver_of 0 0)) ∙ x)
+    go Ordering.Greater x = no x
 
 up_from : (a : Entry) (es : List Entry) → Leads a → Each Leads es → rising_from a es ≡ true → Up (λ (c : Child). c.key) a.key (children_of es)
 unfolding rising_from Each children_of Up

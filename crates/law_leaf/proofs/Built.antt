@@ -14,7 +14,6 @@ use Rattle.spans.proofs.Lying.{lies_front, lies_back, lies_in}
 use Rattle.order.specs.Bounds.{below_hi, bounded}
 use Rattle.order.proofs.Bounds.{both, both_first, both_second}
 use Rattle.frames.specs.declared.Body.{Body}
-use Rattle.frames.specs.declared.Opened.{Opened}
 use Rattle.frames.specs.Layout.{addr, box_len, base_len, frame_len, base_ok, kind_of, body_of, open_at}
 use Rattle.frames.specs.Stored.{page_bytes}
 use Rattle.frames.specs.Limits.{max_key}
@@ -38,6 +37,7 @@ use Rattle.law_leaf.specs.Grouped.{grouped, leaf_page, LeafFit}
 use Rattle.law_leaf.proofs.Groups.{grouped-many, count_of, multis-is, ages, keyed, heads_rise, heads_in}
 use Rattle.law_leaf.proofs.Slots.{SaysHead, Coming, rows_leaf}
 use Rattle.law_leaf.proofs.Hints.{hints_back}
+use Rattle.std.proofs.Common.{Some}
 
 -- ---- what holds of all entries holds of the old ones, or the heads, alone
 
@@ -179,7 +179,7 @@ module _ (s : List ℕ) (m : Call) (b : Borders) (first : ℕ) (es : List Entry)
   abbrev pre : List ℕ
   pre = take b.prefix b.lo
 
-  pub leaf_opens : open_at s (addr at) ≡ Opened.Is body
+  pub leaf_opens : open_at s (addr at) ≡ Some body
   leaf_opens = sheet_opens s m b at k sheet slots more long frame_lies
 
   is-pre : prefix_of s body ≡ pre

@@ -7,7 +7,6 @@ use mathlib.Core.List.{List, [], ◌∷◌, ◌++◌, map}
 use native.Mathlib.Omega.{arith}
 use borrow.Author.Tests.{ne_eqb}
 use lib.ListN.{length}
-use Rattle.order.specs.declared.Order.{Order}
 use Rattle.order.specs.declared.Ver.{Ver}
 use Rattle.order.specs.Order.{cmp_bytes, is_equal}
 use Rattle.order.specs.Bounds.{in_bounds, all_in_bounds}
@@ -25,6 +24,7 @@ use Rattle.build_image.specs.Image.{one_if}
 use Rattle.law_history.specs.Rows.{Up, UpAll, multis}
 use Rattle.law_history.specs.Olders.{olders_of, Aged}
 use Rattle.law_leaf.specs.Grouped.{run_of, head_is, grouped}
+use Rattle.std.specs.declared.cmp.Ordering.{Ordering}
 
 -- ---- counts
 
@@ -117,12 +117,12 @@ no' : {A : Type 0} → true ≡ false → A
 no' e = absurd (let z : ◌≡◌ {A = ℕ} 0 1 = cc in omega arith)
 
 -- an old version is older than the entry before, of the same key; a head's key is greater
-step_by : (o : Order) (v w : Ver) (t : Bool) → t ≡ is_equal o → above_by o v w ≡ true → (t ≡ true → (o ≡ Order.Equal) × (newer_than v w ≡ true)) × (t ≡ false → o ≡ Order.Less)
-step_by Order.Less v w t e h = (λ q. no (sym e ∙ q), λ q. refl)
-step_by Order.Equal v w t e h = (λ q. (refl, h), λ q. no' (sym e ∙ q))
-step_by Order.Greater v w t e h = no h
+step_by : (o : Ordering) (v w : Ver) (t : Bool) → t ≡ is_equal o → above_by o v w ≡ true → (t ≡ true → (o ≡ Ordering.Equal) × (newer_than v w ≡ true)) × (t ≡ false → o ≡ Ordering.Less)
+step_by Ordering.Less v w t e h = (λ q. no (sym e ∙ q), λ q. refl)
+step_by Ordering.Equal v w t e h = (λ q. (refl, h), λ q. no' (sym e ∙ q))
+step_by Ordering.Greater v w t e h = no h
 
-step : (a e : Entry) → e.old ≡ is_equal (cmp_bytes a.key e.key) → above a e ≡ true → (e.old ≡ true → (cmp_bytes a.key e.key ≡ Order.Equal) × (newer_than a.ver e.ver ≡ true)) × (e.old ≡ false → cmp_bytes a.key e.key ≡ Order.Less)
+step : (a e : Entry) → e.old ≡ is_equal (cmp_bytes a.key e.key) → above a e ≡ true → (e.old ≡ true → (cmp_bytes a.key e.key ≡ Ordering.Equal) × (newer_than a.ver e.ver ≡ true)) × (e.old ≡ false → cmp_bytes a.key e.key ≡ Ordering.Less)
 unfolding above
 step a e m h = step_by (cmp_bytes a.key e.key) a.ver e.ver e.old m h
 
@@ -153,7 +153,7 @@ ages (e ∷ es) h m = ages_from es e h m.1
 abbrev pub keyed : Head → List ℕ
 keyed h = h.key
 
-up_by : (t : Bool) (k : List ℕ) (e : Entry) (h : Head) (hs : List Head) → h.key ≡ e.key → (t ≡ true → cmp_bytes k e.key ≡ Order.Equal) → (t ≡ false → cmp_bytes k e.key ≡ Order.Less) → Up keyed e.key hs → Up keyed k (cond t hs (h ∷ hs))
+up_by : (t : Bool) (k : List ℕ) (e : Entry) (h : Head) (hs : List Head) → h.key ≡ e.key → (t ≡ true → cmp_bytes k e.key ≡ Ordering.Equal) → (t ≡ false → cmp_bytes k e.key ≡ Ordering.Less) → Up keyed e.key hs → Up keyed k (cond t hs (h ∷ hs))
 unfolding Up
 up_by true k e h hs q f g u = let z : k ≡ e.key = cmp_eq k e.key (f refl) in rw z u
 up_by false k e h hs q f g u = rw q (g refl, u)

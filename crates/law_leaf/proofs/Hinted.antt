@@ -10,7 +10,6 @@ use lib.ListN.{length, take, drop, get_or, length-append}
 use lib.Dec.{ltb, eqb}
 use Rattle.spans.specs.Span.{Lies}
 use Rattle.frames.specs.Layout.{addr, box_len, frame_len, body_of}
-use Rattle.pages.specs.declared.Hint.{Hint}
 use Rattle.pages.specs.HintsAt.{hints_of, history_hints_at, remote_hints_at, hint_in}
 use Rattle.build_sources.specs.Source.{Entry, olds, heads}
 use Rattle.build_sources.specs.Marks.{Each}
@@ -24,6 +23,7 @@ use Rattle.law_leaf.specs.Grouped.{LeafFit}
 use Rattle.law_leaf.proofs.Hints.{pages_lie, remotes_lie, history-hints, remote-hints}
 use Rattle.law_leaf.proofs.Listed.{Word, hint_back}
 use Rattle.law_leaf.proofs.Built.{each-only, body, whole, kind-is, leaf_opens, hints_lie}
+use Rattle.std.proofs.Common.{Some}
 
 -- ---- every address is a u64
 
@@ -143,7 +143,7 @@ module _ (s : List ℕ) (m : Call) (b : Borders) (first : ℕ) (es : List Entry)
   full false e n = refl
 
   -- each of the addresses
-  pub leaf_history-hint : (k : ℕ) → k < length pages → hint_in s (record { at = hints-at + 4; count = length pages }) k ≡ Hint.Is (addr (get_or pages k 0))
+  pub leaf_history-hint : (k : ℕ) → k < length pages → hint_in s (record { at = hints-at + 4; count = length pages }) k ≡ Some (addr (get_or pages k 0))
   unfolding body_of
   leaf_history-hint k h =
       let q : eqb (leaf_room m es) 0 ≡ false = full (eqb (leaf_room m es) 0) refl (λ z. omega (arith, (none z).0)) in
@@ -151,7 +151,7 @@ module _ (s : List ℕ) (m : Call) (b : Borders) (first : ℕ) (es : List Entry)
       hint_back s pages (hints-at + 4) k (starts-word m.limit (cuts_of m es) first (olds es) word) h (omega (arith, whole s m b first es fit lies))
       (pages_lie s (body s m b first es fit lies) (leaf_room m es) pages remotes_of_lem (omega arith) small (leaf_hints_fit m es first remote) (hints_lie s m b first es fit lies) q)
 
-  pub leaf_remote-hint : (k : ℕ) → k < length remotes_of_lem → hint_in s (record { at = hints-at + 4 + 8 * length pages + 4; count = length remotes_of_lem }) k ≡ Hint.Is (addr (get_or remotes_of_lem k 0))
+  pub leaf_remote-hint : (k : ℕ) → k < length remotes_of_lem → hint_in s (record { at = hints-at + 4 + 8 * length pages + 4; count = length remotes_of_lem }) k ≡ Some (addr (get_or remotes_of_lem k 0))
   unfolding body_of
   leaf_remote-hint k h =
       let q : eqb (leaf_room m es) 0 ≡ false = full (eqb (leaf_room m es) 0) refl (λ z. omega (arith, (none z).1)) in

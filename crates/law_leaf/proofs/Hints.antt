@@ -14,12 +14,12 @@ use Rattle.numbers.specs.Number.{le, le_at}
 use Rattle.numbers.proofs.Numbers.{length-le, lies_le}
 use Rattle.frames.specs.declared.Addr.{Addr}
 use Rattle.frames.specs.declared.Body.{Body}
-use Rattle.frames.specs.declared.Opened.{Opened}
 use Rattle.frames.specs.Layout.{open_at}
 use Rattle.pages.specs.Sound.{hints_ok}
 use Rattle.pages.specs.HintsAt.{hints_of, history_hints_at, remote_hints_at}
 use Rattle.build_image.specs.Image.{les, hints}
 use Rattle.build_image.proofs.Leaf.{length-les}
+use Rattle.std.proofs.Common.{Some}
 
 module _ (s : List ℕ) (b : Body) (room : ℕ) (ps rs : List ℕ) (tail : b.tail ≡ b.end + room) (small : room < 256 ^ 4) (fits : eqb room 0 ≡ false → 8 + 8 * length ps + 8 * length rs ≤ room) (lies : Lies s b.end (hints room ps rs)) where
   abbrev rest : List ℕ
@@ -81,7 +81,7 @@ module _ (s : List ℕ) (b : Body) (room : ℕ) (ps rs : List ℕ) (tail : b.tai
 
   -- ---- the hint readers: each list's place and count
 
-  module _ (a : Addr) (opened : open_at s a ≡ Opened.Is b) (kind : b.kind ≡ 0) (zero_room : eqb room 0 ≡ true → (length ps ≡ 0) × (length rs ≡ 0)) where
+  module _ (a : Addr) (opened : open_at s a ≡ Some b) (kind : b.kind ≡ 0) (zero_room : eqb room 0 ≡ true → (length ps ≡ 0) × (length rs ≡ 0)) where
     pub history-hints : history_hints_at s a ≡ hints_of (b.end + 4) (length ps)
     unfolding history_hints_at hints_of
     history-hints = go (eqb room 0) refl

@@ -11,10 +11,10 @@ use Rattle.spans.proofs.Lying.{lies_front, lies_back}
 use Rattle.numbers.specs.Number.{le, le_at}
 use Rattle.numbers.proofs.Numbers.{length-le, lies_le}
 use Rattle.frames.specs.Layout.{addr}
-use Rattle.pages.specs.declared.Hint.{Hint}
 use Rattle.pages.specs.HintsAt.{hint_in}
 use Rattle.build_sources.specs.Marks.{Each}
 use Rattle.build_image.specs.Image.{les}
+use Rattle.std.proofs.Common.{Some}
 
 -- an address is a u64
 abbrev pub Word : ℕ → Type 0
@@ -32,7 +32,7 @@ les-read s (x ∷ xs) at (suc k) f h l =
     rw z (les-read s xs (at + 8) k f.1 (omega arith) r)
 
 -- the k-th address of a list of hints
-pub hint_back : (s : List ℕ) (xs : List ℕ) (at k : ℕ) → Each Word xs → k < length xs → at + 8 * length xs ≤ length s → Lies s at (les 8 xs) → hint_in s (record { at = at; count = length xs }) k ≡ Hint.Is (addr (get_or xs k 0))
+pub hint_back : (s : List ℕ) (xs : List ℕ) (at k : ℕ) → Each Word xs → k < length xs → at + 8 * length xs ≤ length s → Lies s at (les 8 xs) → hint_in s (record { at = at; count = length xs }) k ≡ Some (addr (get_or xs k 0))
 unfolding hint_in
 hint_back s xs at k f h r l =
     let q : k < (length s - at) / 8 = omega arith in

@@ -16,14 +16,12 @@ use Rattle.frames.specs.declared.Body.{Body}
 use Rattle.frames.specs.Layout.{base_len}
 use Rattle.frames.specs.Limits.{max_key}
 use Rattle.values.specs.declared.HistRef.{HistRef}
-use Rattle.values.specs.declared.KeyRead.{KeyRead}
-use Rattle.values.specs.Keys.{ver_bytes, leaf_front, leaf_key, key_at, ver_in}
+use Rattle.values.specs.Keys.{ver_bytes, leaf_front, leaf_key, key_at, ver_in, key_parts}
 use Rattle.values.specs.Vals.{size_of}
 use Rattle.values.proofs.Laws.{length-leaf_key}
 use Rattle.values.proofs.KeysBack.{SmallVer, ver_back, leaf_back, leaf_rest}
 use Rattle.values.proofs.ValsBack.{SmallHist, canon}
 use Rattle.records.specs.declared.Rec.{Rec}
-use Rattle.records.specs.declared.RecRead.{RecRead}
 use Rattle.records.specs.Records.{key_in, rec_in, rec_at}
 use Rattle.pages.specs.Sound.{head_ok}
 use Rattle.pages.specs.Meaning.{Head, prefix_of, head_of}
@@ -45,6 +43,7 @@ use Rattle.law_history.proofs.Prefix.{Split, split, prefixed-first}
 use Rattle.law_leaf.specs.Grouped.{run_of, head_is, grouped}
 use Rattle.law_leaf.proofs.Groups.{length_run, run_short, length_olders, run-front, Ages, count_of}
 use Rattle.law_leaf.proofs.Refs.{told-drop, ref-small, ref-count, RefReads, ref_reads}
+use Rattle.std.proofs.Common.{Some}
 
 -- a record says a head
 pub record SaysHead (s : List ℕ) (b : Body) (r : Rec) (h : Head) : Type 0 where
@@ -55,7 +54,7 @@ pub record SaysHead (s : List ℕ) (b : Body) (r : Rec) (h : Head) : Type 0 wher
 -- the record at a place of the page
 pub record HeadRead (s : List ℕ) (b : Body) (at next : ℕ) (h : Head) : Type 0 where
   pub rec : Rec
-  pub read : rec_in s b at ≡ RecRead.Is rec
+  pub read : rec_in s b at ≡ Some rec
   pub from : rec.from ≡ at
   pub behind : rec.next ≡ next
   pub says : SaysHead s b rec h
@@ -89,10 +88,10 @@ module _ (s : List ℕ) (b : Body) (p : ℕ) (pre : List ℕ) (kind : b.kind ≡
   unfolding leaf_key leaf_front
   ver_lies = lies_back s at (uleb (12 + length rest)) (ver_bytes e.ver) (lies_front s at (leaf_front e.ver (length rest)) rest key_lies)
 
-  key : key_in s b at ≡ KeyRead.Key (at + n) (at + n + 12) (length rest)
+  key : key_in s b at ≡ Some (key_parts (at + n) (at + n + 12) (length rest))
   unfolding key_in
   key =
-      let k : key_at (take b.end s) at 0 ≡ KeyRead.Key (at + n) (at + n + 12) (length rest) =
+      let k : key_at (take b.end s) at 0 ≡ Some (key_parts (at + n) (at + n + 12) (length rest)) =
       leaf_back (take b.end s) at e.ver rest tiny sver (lies_take s at b.end (leaf_key e.ver rest) (omega (arith, long)) key_lies) in
       rw (kind, k, cut, le-leb (p + length rest) max_key (omega (arith, sp.long, fit.short.key))) refl
 

@@ -8,19 +8,21 @@ use native.Mathlib.Omega.{arith}
 use borrow.Author.Tests.{le-ltb}
 use lib.ListN.{get_or}
 use lib.Dec.{eqb}
-use Rattle.order.specs.declared.Order.{Order}
 use Rattle.order.specs.declared.Ver.{Ver}
 use Rattle.order.specs.Order.{cmp_bytes, is_less}
 use Rattle.order.specs.Version.{newer_than}
 use Rattle.pages.specs.Meaning.{Head, Child, Rows, leaf, index}
 use Rattle.build_sources.specs.Source.{Entry}
 use Rattle.build_sources.specs.Marks.{Each, Wide}
-use Rattle.sst.specs.declared.Bound.{Bound}
 use Rattle.sst.specs.Says.{no_head, no_child, row_count, row_key, row_newer, earlier, row_less, FirstNotLess, BoundSays}
 use Rattle.law_leaf.specs.Grouped.{head_is, grouped}
 use Rattle.law_leaf.proofs.Groups.{keyed}
 use Rattle.law_list.specs.Asked.{largest, pos_of}
 use Rattle.law_list.proofs.Having.{CutAt, cut_at}
+use Rattle.std.proofs.Common.{Result, Ok, Err}
+use Rattle.frames.specs.declared.Refusal.{Refusal}
+use Rattle.sst.specs.declared.Bound.{Bound}
+use Rattle.std.specs.declared.cmp.Ordering.{Ordering}
 
 -- ---- no version is newer than the largest
 
@@ -57,10 +59,10 @@ heads-plain es f i = each_at (grouped es) (plain-heads es f) i
 
 -- ---- the position
 
-earlier-less : (o : Order) → earlier false o ≡ is_less o
-earlier-less Order.Less = refl
-earlier-less Order.Equal = refl
-earlier-less Order.Greater = refl
+earlier-less : (o : Ordering) → earlier false o ≡ is_less o
+earlier-less Ordering.Less = refl
+earlier-less Ordering.Equal = refl
+earlier-less Ordering.Greater = refl
 
 -- the bound is a position, and the rows below it are those with a lesser key
 pub record Cuts (rows : Rows) (v : Ver) (probe : List ℕ) (q : ℕ) : Type 0 where
@@ -79,10 +81,10 @@ cuts_first rows v probe q n l f =
       behind = λ i h m. sym (less-row rows v probe i (n i)) ∙ f.behind i h m;
     }
 
-pub bound-cuts : (rows : Rows) (probe : List ℕ) (v : Ver) → ((i : ℕ) → row_newer rows v i ≡ false) → (r : Bound) → BoundSays rows probe v r → Cuts rows v probe (pos_of r)
-bound-cuts rows probe v n (Bound.At q k) f = cuts_first rows v probe q n (omega (arith, f.0)) f.1
-bound-cuts rows probe v n (Bound.PastEnd q k) f = cuts_first rows v probe q n (omega (arith, f.0)) f.1
-bound-cuts rows probe v n (Bound.Refused r) f = absurd f
+pub bound-cuts : (rows : Rows) (probe : List ℕ) (v : Ver) → ((i : ℕ) → row_newer rows v i ≡ false) → (r : Result Bound Refusal) → BoundSays rows probe v r → Cuts rows v probe (pos_of r)
+bound-cuts rows probe v n (Ok (Bound.At q k)) f = cuts_first rows v probe q n (omega (arith, f.0)) f.1
+bound-cuts rows probe v n (Ok (Bound.PastEnd q k)) f = cuts_first rows v probe q n (omega (arith, f.0)) f.1
+bound-cuts rows probe v n (Err r) f = absurd f
 
 -- of a leaf's heads, of an index page's children
 pub heads_cut : (hs : List Head) (v : Ver) (probe : List ℕ) (q : ℕ) → Cuts (leaf hs) v probe q → CutAt keyed probe q hs

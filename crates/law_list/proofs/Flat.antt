@@ -5,7 +5,6 @@ use mathlib.Core.Path.{◌≡◌, refl, sym, ap, ◌∙◌}
 use mathlib.Core.Bool.{Bool, true, false, cond}
 use mathlib.Core.List.{List, [], ◌∷◌, ◌++◌}
 use native.Mathlib.Omega.{arith}
-use Rattle.order.specs.declared.Order.{Order}
 use Rattle.order.specs.Order.{cmp_bytes, is_equal}
 use Rattle.order.proofs.Laws.{cmp_eq}
 use Rattle.pages.specs.Meaning.{Head}
@@ -17,11 +16,12 @@ use Rattle.law_leaf.specs.Grouped.{run_of, head_is, grouped}
 use Rattle.law_leaf.proofs.Groups.{keyed}
 use Rattle.law_list.specs.Asked.{records_of, having, key_is}
 use Rattle.law_list.proofs.Having.{having-all}
+use Rattle.std.specs.declared.cmp.Ordering.{Ordering}
 
-equal_by : (o : Order) → true ≡ is_equal o → o ≡ Order.Equal
-equal_by Order.Less e = absurd (let z : ◌≡◌ {A = ℕ} 0 1 = cc in omega arith)
-equal_by Order.Equal e = refl
-equal_by Order.Greater e = absurd (let z : ◌≡◌ {A = ℕ} 0 1 = cc in omega arith)
+equal_by : (o : Ordering) → true ≡ is_equal o → o ≡ Ordering.Equal
+equal_by Ordering.Less e = absurd (let z : ◌≡◌ {A = ℕ} 0 1 = cc in omega arith)
+equal_by Ordering.Equal e = refl
+equal_by Ordering.Greater e = absurd (let z : ◌≡◌ {A = ℕ} 0 1 = cc in omega arith)
 
 -- an old version has the key of the entry before
 pub old-key : (a e : Entry) → e.old ≡ is_equal (cmp_bytes a.key e.key) → e.old ≡ true → a.key ≡ e.key

@@ -8,7 +8,6 @@ use native.Mathlib.Omega.{arith}
 use lib.IntN.{pos}
 use lib.ListN.{length, take, drop, get_or}
 use lib.Seq.{take-length}
-use Rattle.order.specs.declared.Order.{Order}
 use Rattle.order.specs.declared.Ver.{Ver}
 use Rattle.order.specs.Order.{cmp_bytes, is_equal}
 use Rattle.order.proofs.Laws.{case_order, cmp_same, cmp_eq, cmp_less}
@@ -20,7 +19,6 @@ use Rattle.pages.specs.Meaning.{Head, leaf, says, olds_from, meaning}
 use Rattle.build_sources.specs.Source.{Entry, heads}
 use Rattle.build_sources.specs.Marks.{Each, Marked, Wide}
 use Rattle.build_image.specs.Image.{Borders}
-use Rattle.sst.specs.declared.Found.{Found}
 use Rattle.sst.specs.Search.{lower_at, search_at}
 use Rattle.sst.specs.Says.{no_head, FoundSays, IsHead}
 use Rattle.sst.proofs.Answers.{lower_says, search_says, rows_sorted}
@@ -33,6 +31,10 @@ use Rattle.law_list.specs.Asked.{records_of, having, between, same, key_is, larg
 use Rattle.law_list.proofs.Having.{having_none, having-one, having_range}
 use Rattle.law_list.proofs.Flat.{flat_having, flat_grouped, grouped-having}
 use Rattle.law_list.proofs.Bounds.{heads-plain, Cuts, bound-cuts, heads_cut}
+use Rattle.std.proofs.Common.{Result, Ok, Err}
+use Rattle.frames.specs.declared.Refusal.{Refusal}
+use Rattle.sst.specs.declared.Found.{Found}
+use Rattle.std.specs.declared.cmp.Ordering.{Ordering}
 
 records_nil : (es : List Entry) → records_of es ≡ [] → es ≡ []
 unfolding records_of
@@ -42,10 +44,10 @@ records_nil (e ∷ es) h = absurd (let z : ◌≡◌ {A = ℕ} 0 1 = cc in omega
 unequal : (k probe : List ℕ) → (k ≡ probe → ⊥) → same probe k ≡ false
 unequal k probe n = go (cmp_bytes k probe) refl
   where
-    go : (o : Order) → cmp_bytes k probe ≡ o → is_equal o ≡ false
-    go Order.Less e = refl
-    go Order.Equal e = absurd (n (cmp_eq k probe e))
-    go Order.Greater e = refl
+    go : (o : Ordering) → cmp_bytes k probe ≡ o → is_equal o ≡ false
+    go Ordering.Less e = refl
+    go Ordering.Equal e = absurd (n (cmp_eq k probe e))
+    go Ordering.Greater e = refl
 
 module _ (s : List ℕ) (a : Addr) (b : Borders) (es : List Entry) (means : meaning s a ≡ says (leaf_page b es)) (marks : Marked es) where
   abbrev hs : List Head
@@ -117,7 +119,7 @@ module _ (s : List ℕ) (a : Addr) (b : Borders) (es : List Entry) (means : mean
   -- ---- a search
 
   module _ (probe : List ℕ) where
-    sorted : (m n : ℕ) → m < n → n < length hs → cmp_bytes (get_or hs m no_head).key (get_or hs n no_head).key ≡ Order.Less
+    sorted : (m n : ℕ) → m < n → n < length hs → cmp_bytes (get_or hs m no_head).key (get_or hs n no_head).key ≡ Ordering.Less
     unfolding leaf_page
     sorted m n l h = rows_sorted s a (leaf_page b es) means m n l h
 
@@ -147,7 +149,7 @@ module _ (s : List ℕ) (a : Addr) (b : Borders) (es : List Entry) (means : mean
     unfolding leaf_page
     search_list = go (search_at s a probe) (search_says s a (leaf_page b es) means probe hs refl)
       where
-        go : (r : Found) → FoundSays s hs probe r → SearchSays s es probe r
-        go (Found.Is i v h x n) f = found i v h x f
-        go (Found.Nothing n) f = missing f
-        go (Found.Refused r) f = f
+        go : (r : Result Found Refusal) → FoundSays s hs probe r → SearchSays s es probe r
+        go (Ok (Found.Is i v h x n)) f = found i v h x f
+        go (Ok (Found.Nothing n)) f = missing f
+        go (Err r) f = f

@@ -1,15 +1,16 @@
 -- What is asked of a page, said over the list that it was built from: its records, those of a range of keys, those of one key.
 -- Assumes nothing.
-use Rattle.std.specs.Prelude.{ℕ, ◌-◌, ◌^◌, ◌≡◌, Bool, not, ◌&&◌, cond, List, [], ◌∷◌}
+use Rattle.std.specs.Prelude.{ℕ, ◌-◌, ◌^◌, ◌≡◌, Bool, not, ◌&&◌, cond, List, [], ◌∷◌, Result, Ok, Err}
 use Rattle.order.specs.declared.Ver.{Ver}
 use Rattle.order.specs.Order.{cmp_bytes, is_equal, is_less}
 use Rattle.order.specs.Version.{ver_of}
 use Rattle.pages.specs.Boundaries.{part_in}
 use Rattle.pages.specs.Meaning.{olds_from}
 use Rattle.build_sources.specs.Source.{Entry}
+use Rattle.walks.specs.Listed.{Entry as Listed, older_entries}
+use Rattle.frames.specs.declared.Refusal.{Refusal}
 use Rattle.sst.specs.declared.Bound.{Bound}
 use Rattle.sst.specs.declared.Found.{Found}
-use Rattle.walks.specs.Listed.{Entry as Listed, older_entries}
 
 -- the records of a list, as a walk lists them: whole key, version, value
 unfoldable pub records_of : List Entry → List Listed
@@ -36,14 +37,14 @@ abbrev pub largest : Ver
 largest = ver_of (256 ^ 8 - 1) (256 ^ 4 - 1)
 
 -- the position that a lower bound gives
-abbrev pub pos_of : Bound → ℕ
-pos_of (Bound.At q n) = q
-pos_of (Bound.PastEnd q n) = q
-pos_of (Bound.Refused r) = 0
+abbrev pub pos_of : Result Bound Refusal → ℕ
+pos_of (Ok (Bound.At q n)) = q
+pos_of (Ok (Bound.PastEnd q n)) = q
+pos_of (Err r) = 0
 
 -- a search's answer over the list, never a refusal: the first record of the key with all its older versions behind it in order, or the list has none
-abbrev pub SearchSays : List ℕ → List Entry → List ℕ → Found → Type 0
-SearchSays s es probe (Found.Is i v h x n) =
+abbrev pub SearchSays : List ℕ → List Entry → List ℕ → Result Found Refusal → Type 0
+SearchSays s es probe (Ok (Found.Is i v h x n)) =
     records_of (having key_is (same probe) es) ≡ (record { key = probe; ver = v; value = part_in s x }) ∷ older_entries probe (olds_from s h.count h.page h.slot)
-SearchSays s es probe (Found.Nothing n) = having key_is (same probe) es ≡ []
-SearchSays s es probe (Found.Refused r) = ⊥
+SearchSays s es probe (Ok (Found.Nothing n)) = having key_is (same probe) es ≡ []
+SearchSays s es probe (Err r) = ⊥

@@ -8,7 +8,6 @@ use lib.IntN.{pos}
 use lib.ListN.{length, take}
 use Rattle.order.specs.declared.Ver.{Ver}
 use Rattle.frames.specs.declared.Addr.{Addr}
-use Rattle.pages.specs.declared.Checked.{Checked}
 use Rattle.pages.specs.Meaning.{says, meaning, check_of}
 use Rattle.pages.proofs.Says.{says_checked}
 use Rattle.build_sources.specs.Source.{Entry, heads}
@@ -27,6 +26,8 @@ use Rattle.law_list.proofs.Branches.{leads-all, leads_range, floor_list}
 use Rattle.law_merged.specs.Trees.{Tree, Made}
 use Rattle.law_merged.specs.Joined.{entries_in, bounds_of, leaf_of, index_of}
 use Rattle.law_merged.proofs.Trees.{leaf_made, leaf_marked, leaf_wide, index_made}
+use Rattle.std.proofs.Common.{Ok}
+use Rattle.frames.specs.declared.Refusal.{Refusal}
 
 -- ---- leaves
 
@@ -45,7 +46,7 @@ module _ (t : Tree) (s : List ℕ) (mark : ℕ) (p : Addr) (made : Made new_answ
   merged_says = leaf_made t s mark p made
 
   -- the check says sound
-  pub merged_sound : check_of (meaning s p) ≡ Checked.Sound
+  pub merged_sound : check_of (meaning s p) ≡ Ok tt
   merged_sound = says_checked (meaning s p) (leaf_of t) merged_says
 
   marks : Marked es
@@ -87,7 +88,7 @@ module _ (t : Tree) (s : List ℕ) (mark : ℕ) (p : Addr) (made : Made new_inde
   pub branches_says : meaning s p ≡ says (index_of t)
   branches_says = index_made t s mark p made
 
-  pub branches_sound : check_of (meaning s p) ≡ Checked.Sound
+  pub branches_sound : check_of (meaning s p) ≡ Ok tt
   branches_sound = says_checked (meaning s p) (index_of t) branches_says
 
   pub branches_lists : Leads s front (forward_at s p 0 (length (entries_in 1 t))) (children_of (entries_in 1 t))

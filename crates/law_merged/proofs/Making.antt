@@ -16,7 +16,6 @@ use Rattle.frames.specs.declared.Refusal.{Refusal}
 use Rattle.frames.specs.Layout.{addr}
 use Rattle.build_image.specs.declared.Call.{Call}
 use Rattle.build_image.specs.Image.{Borders, leaf_image, index_image}
-use Rattle.build_image.specs.declared.Built.{Built}
 use Rattle.build_image.specs.Table.{Row, judged}
 use Rattle.base.specs.Calls.{listed, new_rows, new_answer, new_arena, new_index_rows, new_index_answer, new_index_arena}
 use Rattle.merge.specs.Merge.{bounds_in, merged}
@@ -26,6 +25,7 @@ use Rattle.law_calls.proofs.Index.{index_long}
 use Rattle.law_calls.proofs.Accepted.{all_hold, end_is}
 use Rattle.law_merged.specs.Trees.{Input, Tree, built, joined, Typed, Answer, Arena, boundaries_of, Made}
 use Rattle.law_merged.proofs.Trees.{made_later}
+use Rattle.std.proofs.Common.{Ok, Err}
 
 -- ---- what every call keeps
 
@@ -62,26 +62,26 @@ stays_made answer arena t a after next mark p k l h x = made_later answer arena 
 -- ---- what a call makes that answers a page
 
 module _ (a : List ℕ) (next : ℕ) (m : Call) (i : Input) (typed : Typed a m) (bytes : Bytes i.list) (id : i.sibling < 256 ^ 8) (p : Addr) (end : ℕ) where
-  makes : (answer : Answer) (arena : Arena) → answer a next i.list m (boundaries_of i) ≡ Built.At p end → end ≤ length (arena a next i.list m (boundaries_of i))
+  makes : (answer : Answer) (arena : Arena) → answer a next i.list m (boundaries_of i) ≡ Ok (p, end) → end ≤ length (arena a next i.list m (boundaries_of i))
       → Made answer arena (built i) (arena a next i.list m (boundaries_of i)) end p
   unfolding Made
   makes answer arena h l =
       record { was = a; next = next; call = m; end = end; typed = typed; bytes = bytes; id = id; answers = h; later = record { above = omega arith; inside = l; same = refl } }
 
-  pub new_makes : new_answer a next i.list m (boundaries_of i) ≡ Built.At p end → Made new_answer new_arena (built i) (new_arena a next i.list m (boundaries_of i)) end p
+  pub new_makes : new_answer a next i.list m (boundaries_of i) ≡ Ok (p, end) → Made new_answer new_arena (built i) (new_arena a next i.list m (boundaries_of i)) end p
   new_makes h = makes new_answer new_arena h (new_long a next i.list m i.lo i.hi i.sibling bytes typed.word typed.numbers id p end h)
 
-  pub index_makes : new_index_answer a next i.list m (boundaries_of i) ≡ Built.At p end → Made new_index_answer new_index_arena (built i) (new_index_arena a next i.list m (boundaries_of i)) end p
+  pub index_makes : new_index_answer a next i.list m (boundaries_of i) ≡ Ok (p, end) → Made new_index_answer new_index_arena (built i) (new_index_arena a next i.list m (boundaries_of i)) end p
   index_makes h = makes new_index_answer new_index_arena h (index_long a next i.list m i.lo i.hi i.sibling bytes typed.word typed.numbers id p end h)
 
-module _ (a : List ℕ) (next : ℕ) (m : Call) (left right : Addr) (p : Addr) (end : ℕ) (h : merge_answer a next m left right ≡ Built.At p end) where
+module _ (a : List ℕ) (next : ℕ) (m : Call) (left right : Addr) (p : Addr) (end : ℕ) (h : merge_answer a next m left right ≡ Ok (p, end)) where
   abbrev to : ℕ
   to = end_by next m (bounds_in (take next a) left right) (merged (take next a) left right) (kinds_in (take next a) left right)
 
   abbrev at : ℕ
   at = place_by next m (merged (take next a) left right) (kinds_in (take next a) left right)
 
-  answers : judged (merge_rows a next m left right) Built.Refused (Built.At (addr at) to) ≡ Built.At p end
+  answers : judged (merge_rows a next m left right) Err (Ok (addr at, to)) ≡ Ok (p, end)
   unfolding merge_answer
   answers = h
 

@@ -22,7 +22,6 @@ use Rattle.build_sources.proofs.Marked.{list-wide, marked}
 use Rattle.walks.specs.Listed.{Entry as Listed}
 use Rattle.build_image.specs.declared.Call.{Call}
 use Rattle.build_image.specs.Image.{Borders}
-use Rattle.build_image.specs.declared.Built.{Built}
 use Rattle.build_image.specs.Call.{built_number}
 use Rattle.base.specs.Calls.{listed, new_answer, new_arena, new_index_answer, new_index_arena}
 use Rattle.base.proofs.Refusing.{new_accepted}
@@ -42,6 +41,7 @@ use Rattle.law_leaf.proofs.Hinted.{each_append}
 use Rattle.law_merged.proofs.Lists.{list_anywhere, bare-records, child_children, records-append, children_append, same_groups}
 use Rattle.law_rows.proofs.Neighbours.{enclosed-append, marked_append}
 use Rattle.law_merged.proofs.Pages.{leaves_are, leaves-merged, indexes_are, indexes-merged}
+use Rattle.std.proofs.Common.{Ok}
 
 -- ---- later still
 
@@ -97,7 +97,7 @@ module _ (answer : Answer) (arena : Arena) where
 
   -- what holds of a build's page, and goes from two pages to their merged one, holds of every tree's
   module _ (Holds : Tree → List ℕ → Addr → Type 0) (first : (i : Input) (s : List ℕ) (mark : ℕ) (p : Addr) → BuiltBy answer arena i s mark p → Holds (built i) s p)
-      (then : (t u : Tree) (a : List ℕ) (next : ℕ) (m : Call) (left right : Addr) → Typed a m → (p : Addr) (end : ℕ) → merge_answer a next m left right ≡ Built.At p end
+      (then : (t u : Tree) (a : List ℕ) (next : ℕ) (m : Call) (left right : Addr) → Typed a m → (p : Addr) (end : ℕ) → merge_answer a next m left right ≡ Ok (p, end)
       → Holds t (take next a) left → Holds u (take next a) right → (s : List ℕ) (mark : ℕ) → Later end (merge_arena a next m left right) s mark
       → Holds (joined t u) s p) where
     by_tree : (t : Tree) (s : List ℕ) (mark : ℕ) (p : Addr) → Made answer arena t s mark p → Holds t s p
@@ -110,7 +110,7 @@ module _ (answer : Answer) (arena : Arena) where
         s mark x.later
 
 -- a merge that answered had pages that meet
-met_by : (a : List ℕ) (next : ℕ) (m : Call) (left right p : Addr) (end : ℕ) → merge_answer a next m left right ≡ Built.At p end
+met_by : (a : List ℕ) (next : ℕ) (m : Call) (left right p : Addr) (end : ℕ) → merge_answer a next m left right ≡ Ok (p, end)
     → (x y : Page) → meaning (take next a) left ≡ says x → meaning (take next a) right ≡ says y → meet x.hi y.lo ≡ true
 met_by a next m left right p end answers x y f g =
     let w = take next a in
@@ -146,7 +146,7 @@ leaf_first i s mark p x =
       inside = ap (enclosed i.lo i.hi) (sym same) ∙ ((new_accepted x.was x.next l x.call (boundaries_of i)).0 (ap built_number x.answers)).1.1.1.1.1.0;
     }
 
-leaf_then : (t u : Tree) (a : List ℕ) (next : ℕ) (m : Call) (left right : Addr) → Typed a m → (p : Addr) (end : ℕ) → merge_answer a next m left right ≡ Built.At p end
+leaf_then : (t u : Tree) (a : List ℕ) (next : ℕ) (m : Call) (left right : Addr) → Typed a m → (p : Addr) (end : ℕ) → merge_answer a next m left right ≡ Ok (p, end)
     → Stands t (take next a) left → Stands u (take next a) right → (s : List ℕ) (mark : ℕ) → Later end (merge_arena a next m left right) s mark → Stands (joined t u) s p
 unfolding leaf_page bounds_between all_of leftmost rightmost
 leaf_then t u a next m left right typed p end answers f g s mark later =
@@ -200,7 +200,7 @@ index_first i s mark p x =
     index_says x.was x.next l x.call i.lo i.hi i.sibling x.bytes x.typed.word x.typed.numbers x.id p x.end x.answers s long x.later.same
     ∙ ap (λ (es : List Entry). says (index_page (bounds_of (built i)) es)) (list_anywhere l w [] (first_of 1) (λ k. omega arith))
 
-index_then : (t u : Tree) (a : List ℕ) (next : ℕ) (m : Call) (left right : Addr) → Typed a m → (p : Addr) (end : ℕ) → merge_answer a next m left right ≡ Built.At p end
+index_then : (t u : Tree) (a : List ℕ) (next : ℕ) (m : Call) (left right : Addr) → Typed a m → (p : Addr) (end : ℕ) → merge_answer a next m left right ≡ Ok (p, end)
     → meaning (take next a) left ≡ says (index_of t) → meaning (take next a) right ≡ says (index_of u) → (s : List ℕ) (mark : ℕ) → Later end (merge_arena a next m left right) s mark
     → meaning s p ≡ says (index_of (joined t u))
 unfolding index_page bounds_between all_of leftmost rightmost

@@ -1,14 +1,14 @@
 -- How a page comes to be: built from a list, or merged from two pages that came to be so, each call at any time after the calls before.
 -- Assumes nothing.
-use Rattle.std.specs.Prelude.{ℕ, ◌^◌, ◌≤◌, ◌<◌, ◌≡◌, List, length, take}
+use Rattle.std.specs.Prelude.{ℕ, ◌^◌, ◌≤◌, ◌<◌, ◌≡◌, List, length, take, Result, Ok}
 use Rattle.numbers.specs.Number.{Bytes}
 use Rattle.frames.specs.declared.Addr.{Addr}
 use Rattle.build_image.specs.declared.Call.{Call}
 use Rattle.build_image.specs.Image.{Borders}
-use Rattle.build_image.specs.declared.Built.{Built}
 use Rattle.base.specs.Calls.{bounds_from}
 use Rattle.merge.specs.Answer.{merge_answer, merge_arena}
 use Rattle.law_history.specs.Fit.{Numbers}
+use Rattle.frames.specs.declared.Refusal.{Refusal}
 
 -- what a build is handed: a list, boundaries, a sibling's page id
 pub record Input : Type 0 where
@@ -38,7 +38,7 @@ pub record Later (end : ℕ) (after s : List ℕ) (mark : ℕ) : Type 0 where
 
 -- a build's answer and arena, by arena, next free address, list, call and boundaries
 abbrev pub Answer : Type 0
-Answer = List ℕ → ℕ → List ℕ → Call → Borders → Built
+Answer = List ℕ → ℕ → List ℕ → Call → Borders → Result (Addr × ℕ) Refusal
 
 abbrev pub Arena : Type 0
 Arena = List ℕ → ℕ → List ℕ → Call → Borders → List ℕ
@@ -55,7 +55,7 @@ pub record BuiltBy (answer : Answer) (arena : Arena) (i : Input) (s : List ℕ) 
   pub typed : Typed was call
   pub bytes : Bytes i.list
   pub id : i.sibling < 256 ^ 8
-  pub answers : answer was next i.list call (boundaries_of i) ≡ Built.At p end
+  pub answers : answer was next i.list call (boundaries_of i) ≡ Ok (p, end)
   pub later : Later end (arena was next i.list call (boundaries_of i)) s mark
 
 -- p was answered by a merge of two pages that came to be in the arena that it was lent, and s, mark are later
@@ -69,7 +69,7 @@ pub record JoinedBy (Left Right : List ℕ → ℕ → Addr → Type 0) (s : Lis
   pub right : Addr
   pub lefts : Left was next left
   pub rights : Right was next right
-  pub answers : merge_answer was next call left right ≡ Built.At p end
+  pub answers : merge_answer was next call left right ≡ Ok (p, end)
   pub later : Later end (merge_arena was next call left right) s mark
 
 -- the page at p of the arena s, whose next free address is mark, came to be as the tree tells

@@ -15,11 +15,9 @@ use Rattle.frames.specs.Layout.{Inside, remote_at}
 use Rattle.frames.specs.Limits.{max_key, max_value}
 use Rattle.values.specs.Keys.{ver_in}
 use Rattle.records.specs.declared.Rec.{Rec}
-use Rattle.records.specs.declared.RecRead.{RecRead}
 use Rattle.records.specs.Records.{rec_at}
 use Rattle.records.proofs.Inside.{at-inside, ver-inside}
-use Rattle.pages.specs.declared.OldRead.{OldRead}
-use Rattle.pages.specs.Sound.{old_at}
+use Rattle.pages.specs.Sound.{old_at, old_version}
 use Rattle.pages.specs.Meaning.{prefix_of, key_of}
 use Rattle.pages.proofs.Olds.{old-inside}
 use Rattle.walks.proofs.Held.{rec-held}
@@ -29,6 +27,8 @@ use Rattle.build_sources.specs.Marks.{Each, Held, Short, Keeps}
 use Rattle.law_rows.specs.Rows as rows
 use Rattle.law_rows.specs.Rows.{old_entry, old_entries, head_entry, head_entries, child_entry, slot_of, slot_entries, leaf_entries, index_entries}
 use Rattle.law_rows.specs.Pairs.{Carried, NoPage, NoVersion}
+use Rattle.std.proofs.Common.{Option, Some, None}
+use Rattle.pages.specs.declared.OldVersion.{OldVersion}
 
 -- ---- each entry
 
@@ -45,24 +45,24 @@ each-one : (P : Entry → Type 0) (e : Entry) (es : List Entry) → P e → Each
 unfolding Each
 each-one P e es x y = (x, y)
 
-olds-each : (P : Entry → Type 0) (w key : List ℕ) → ((a : Addr) (i : ℕ) (p : Addr) (q : ℕ) (r : Rec) → old_at w a i ≡ OldRead.Old p q r → P (old_entry w key r))
+olds-each : (P : Entry → Type 0) (w key : List ℕ) → ((a : Addr) (i : ℕ) (p : Addr) (q : ℕ) (r : Rec) → old_at w a i ≡ Some (old_version p q r) → P (old_entry w key r))
     → (k : ℕ) (a : Addr) (i : ℕ) → Each P (old_entries w key k a i)
 unfolding old_entries
 olds-each P w key f zero a i = each_none P
 olds-each P w key f (suc k) a i = go (old_at w a i) refl (λ p q. olds-each P w key f k p (q + 1))
   where
-    go : (o : OldRead) → old_at w a i ≡ o → ((p : Addr) (q : ℕ) → Each P (old_entries w key k p (q + 1))) → Each P (rows.olds_of w key (old_entries w key k) o)
-    go (OldRead.Old p q r) e h = each-one P (old_entry w key r) (old_entries w key k p (q + 1)) (f a i p q r e) (h p q)
-    go OldRead.Bad e h = each_none P
+    go : (o : Option OldVersion) → old_at w a i ≡ o → ((p : Addr) (q : ℕ) → Each P (old_entries w key k p (q + 1))) → Each P (rows.olds_of w key (old_entries w key k) o)
+    go (Some o) e h = each-one P (old_entry w key o.rec) (old_entries w key k o.page (o.slot + 1)) (f a i o.page o.slot o.rec e) (h o.page o.slot)
+    go None e h = each_none P
 
-pub slots-each : (P : Entry → Type 0) (f : Rec → List Entry) (w : List ℕ) (b : Body) → ((i : ℕ) (r : Rec) → rec_at w b i ≡ RecRead.Is r → Each P (f r)) → (k i : ℕ) → Each P (slot_entries f w b k i)
+pub slots-each : (P : Entry → Type 0) (f : Rec → List Entry) (w : List ℕ) (b : Body) → ((i : ℕ) (r : Rec) → rec_at w b i ≡ Some r → Each P (f r)) → (k i : ℕ) → Each P (slot_entries f w b k i)
 unfolding slot_entries
 slots-each P f w b g zero i = each_none P
 slots-each P f w b g (suc k) i = go (rec_at w b i) refl (slots-each P f w b g k (i + 1))
   where
-    go : (o : RecRead) → rec_at w b i ≡ o → Each P (slot_entries f w b k (i + 1)) → Each P (slot_of f (slot_entries f w b k (i + 1)) o)
-    go (RecRead.Is r) e h = each_append P (f r) (slot_entries f w b k (i + 1)) (g i r e) h
-    go RecRead.Bad e h = h
+    go : (o : Option Rec) → rec_at w b i ≡ o → Each P (slot_entries f w b k (i + 1)) → Each P (slot_of f (slot_entries f w b k (i + 1)) o)
+    go (Some r) e h = each_append P (f r) (slot_entries f w b k (i + 1)) (g i r e) h
+    go None e h = h
 
 -- ---- one record
 
@@ -76,7 +76,7 @@ record Told (w : List ℕ) (r : Rec) : Type 0 where
   cmd : (ver_in w r.ver_at).cmd < 4294967296
 
 module _ (w : List ℕ) (y : Bytes w) where
-  told : (b : Body) (i : ℕ) (r : Rec) → Inside w b → (b.kind ≡ 1 → ⊥) → rec_at w b i ≡ RecRead.Is r → Told w r
+  told : (b : Body) (i : ℕ) (r : Rec) → Inside w b → (b.kind ≡ 1 → ⊥) → rec_at w b i ≡ Some r → Told w r
   unfolding ver_in
   told b i r n k e =
       let h = rec-held w y b i r e in
@@ -92,13 +92,13 @@ module _ (w : List ℕ) (y : Bytes w) where
         cmd = le_at_lt w (r.ver_at + 8) 4 (omega (arith, u)) y;
       }
 
-  old-told : (a : Addr) (i : ℕ) (p : Addr) (q : ℕ) (r : Rec) → old_at w a i ≡ OldRead.Old p q r → Told w r
+  old-told : (a : Addr) (i : ℕ) (p : Addr) (q : ℕ) (r : Rec) → old_at w a i ≡ Some (old_version p q r) → Told w r
   old-told a i p q r e =
       let o = old-inside w a i p q r e in
       told o.page q r o.history.inside (λ z. omega (arith, z, o.history.kind)) o.read
 
   -- a key of a page
-  key-long : (b : Body) (i : ℕ) (r : Rec) → Inside w b → rec_at w b i ≡ RecRead.Is r → length (key_of w b r) ≡ b.prefix_len + r.rest_len
+  key-long : (b : Body) (i : ℕ) (r : Rec) → Inside w b → rec_at w b i ≡ Some r → length (key_of w b r) ≡ b.prefix_len + r.rest_len
   unfolding prefix_of
   key-long b i r n e =
       let g = (at-inside w b i r n e).0 in
@@ -106,7 +106,7 @@ module _ (w : List ℕ) (y : Bytes w) where
       ∙ ap (λ (m : ℕ). m + length (part w r.rest_at r.rest_len)) (length_part w _ b.prefix_len (omega (arith, n.slots, n.records, n.payload, n.arena, n.prefix)))
       ∙ ap (λ (m : ℕ). b.prefix_len + m) (length_part w r.rest_at r.rest_len (omega (arith, g.rest, n.payload, n.arena)))
 
-  key-short : (b : Body) (i : ℕ) (r : Rec) → Inside w b → rec_at w b i ≡ RecRead.Is r → length (key_of w b r) ≤ max_key
+  key-short : (b : Body) (i : ℕ) (r : Rec) → Inside w b → rec_at w b i ≡ Some r → length (key_of w b r) ≤ max_key
   key-short b i r n e = let h = rec-held w y b i r e in omega (arith, key-long b i r n e, h.whole)
 
   -- ---- short, carried
@@ -131,7 +131,7 @@ module _ (w : List ℕ) (y : Bytes w) where
   unfolding child_entry
   child-short b r l = record { key = l; val = omega arith }
 
-  child-carried : (b : Body) (i : ℕ) (r : Rec) → Inside w b → b.kind ≡ 1 → rec_at w b i ≡ RecRead.Is r → Carried w (child_entry w b r)
+  child-carried : (b : Body) (i : ℕ) (r : Rec) → Inside w b → b.kind ≡ 1 → rec_at w b i ≡ Some r → Carried w (child_entry w b r)
   unfolding child_entry Keeps
   child-carried b i r n k e =
       let g = (at-inside w b i r n e).0 in
@@ -142,7 +142,7 @@ module _ (w : List ℕ) (y : Bytes w) where
 
   -- what a head and its old versions have, where each has it
   row-each : (P : Entry → Type 0) (b : Body) (r : Rec) → P (head_entry w b r)
-      → ((a : Addr) (i : ℕ) (p : Addr) (q : ℕ) (o : Rec) → old_at w a i ≡ OldRead.Old p q o → P (old_entry w (key_of w b r) o)) → Each P (head_entries w b r)
+      → ((a : Addr) (i : ℕ) (p : Addr) (q : ℕ) (o : Rec) → old_at w a i ≡ Some (old_version p q o) → P (old_entry w (key_of w b r) o)) → Each P (head_entries w b r)
   unfolding head_entries
   row-each P b r x f = each-one P (head_entry w b r) _ x (olds-each P w (key_of w b r) f r.hist.count r.hist.page r.hist.slot)
 

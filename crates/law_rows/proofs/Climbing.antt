@@ -5,7 +5,6 @@ use mathlib.Core.Path.{◌≡◌, refl, sym, ap, ◌∙◌, subst}
 use mathlib.Core.Bool.{Bool, true, false, cond}
 use mathlib.Core.List.{List, [], ◌∷◌, ◌++◌, map, append_assoc}
 use native.Mathlib.Omega.{arith}
-use Rattle.order.specs.declared.Order.{Order}
 use Rattle.order.specs.declared.Ver.{Ver}
 use Rattle.order.specs.Order.{cmp_bytes}
 use Rattle.order.specs.Bounds.{below_hi, in_bounds, all_in_bounds, bounded, meet}
@@ -16,7 +15,6 @@ use Rattle.frames.specs.declared.Addr.{Addr}
 use Rattle.frames.specs.declared.Body.{Body}
 use Rattle.values.specs.Keys.{ver_in}
 use Rattle.records.specs.declared.Rec.{Rec}
-use Rattle.records.specs.declared.RecRead.{RecRead}
 use Rattle.records.specs.Records.{rec_at}
 use Rattle.pages.specs.Sound.{slots_ok, chain_from, chains_ok}
 use Rattle.pages.specs.Meaning.{Older, Head, Child, Rows, leaf, index, Page, says, keys_of, key_of, olds_from, head_of, child_of, rows_from, heads_from, meaning}
@@ -31,6 +29,8 @@ use Rattle.law_rows.specs.Pairs.{bare, child}
 use Rattle.law_history.specs.Rows.{Up, UpAll}
 use Rattle.law_rows.proofs.Entries.{map_append}
 use Rattle.law_rows.proofs.Carried.{each_append}
+use Rattle.std.proofs.Common.{Some}
+use Rattle.std.specs.declared.cmp.Ordering.{Ordering}
 
 abbrev head_key : Head → List ℕ
 head_key h = h.key
@@ -56,7 +56,7 @@ olds_age s (suc n) a i t e =
     rw g.read (g.older, olds_age s n g.page (g.slot + 1) (ver_in s g.rec.ver_at) g.more)
 
 module _ (s : List ℕ) (b : Body) (e : slots_ok s b ≡ true) (n : b.kind ≡ 2 → ⊥) where
-  rows_up : {A : Type 0} (f : Rec → A) (key : A → List ℕ) → ((r : Rec) → key (f r) ≡ key_of s b r) → (k i : ℕ) (r : Rec) → rec_at s b i ≡ RecRead.Is r → i + k < b.elems → Up key (key_of s b r) (rows_from f s b k (i + 1))
+  rows_up : {A : Type 0} (f : Rec → A) (key : A → List ℕ) → ((r : Rec) → key (f r) ≡ key_of s b r) → (k i : ℕ) (r : Rec) → rec_at s b i ≡ Some r → i + k < b.elems → Up key (key_of s b r) (rows_from f s b k (i + 1))
   unfolding Up rows_from
   rows_up f key same zero i r q h = tt
   rows_up f key same (suc k) i r q h =
@@ -137,12 +137,12 @@ unfolding RiseFrom
 Rise [] = Unit {0}
 Rise (a ∷ bs) = RiseFrom a bs
 
-less-above : (a b : Listed) → cmp_bytes a.key b.key ≡ Order.Less → above_it a b
-less-above a b e = ap (λ (o : Order). above_by o a.ver b.ver) e
+less-above : (a b : Listed) → cmp_bytes a.key b.key ≡ Ordering.Less → above_it a b
+less-above a b e = ap (λ (o : Ordering). above_by o a.ver b.ver) e
 
 -- an old version behind one of its key
 older-above : (a : Listed) (v : Ver) (x : List ℕ) → newer_than a.ver v ≡ true → above_it a (record { key = a.key; ver = v; value = x })
-older-above a v x e = ap (λ (o : Order). above_by o a.ver v) (cmp_same a.key) ∙ e
+older-above a v x e = ap (λ (o : Ordering). above_by o a.ver v) (cmp_same a.key) ∙ e
 
 olds_rise : (k : List ℕ) (os : List Older) (rest : List Listed) (v : Ver) (x : List ℕ) → Ages v os → ((u : Ver) (y : List ℕ) → RiseFrom (record { key = k; ver = u; value = y }) rest)
     → RiseFrom (record { key = k; ver = v; value = x }) (older_entries k os ++ rest)
@@ -179,7 +179,7 @@ rise_rising (e ∷ es) r = rises-from e es r
 up_from : (e : Entry) (es : List Entry) → Up child_key e.key (map child es) → rising_from e es ≡ true
 unfolding Up child rising_from above
 up_from e [] r = refl
-up_from e (f ∷ es) r = ap (λ (t : Bool). cond t (rising_from f es) false) (ap (λ (o : Order). above_by o e.ver f.ver) r.0) ∙ up_from f es r.1
+up_from e (f ∷ es) r = ap (λ (t : Bool). cond t (rising_from f es) false) (ap (λ (o : Ordering). above_by o e.ver f.ver) r.0) ∙ up_from f es r.1
 
 up_rising : (es : List Entry) → UpAll child_key (map child es) → rising es ≡ true
 unfolding UpAll rising child

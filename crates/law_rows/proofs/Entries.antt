@@ -8,9 +8,7 @@ use Rattle.frames.specs.declared.Addr.{Addr}
 use Rattle.frames.specs.declared.Body.{Body}
 use Rattle.values.specs.Keys.{ver_in}
 use Rattle.records.specs.declared.Rec.{Rec}
-use Rattle.records.specs.declared.RecRead.{RecRead}
 use Rattle.records.specs.Records.{rec_at}
-use Rattle.pages.specs.declared.OldRead.{OldRead}
 use Rattle.pages.specs.Sound.{old_at}
 use Rattle.pages.specs.Meaning.{Older, Head, Child, olds_of, olds_from, key_of, head_of, child_of, rows_of, rows_from, heads_from, children_from}
 use Rattle.walks.specs.Listed as listed
@@ -19,6 +17,8 @@ use Rattle.build_sources.specs.Source.{Entry}
 use Rattle.law_rows.specs.Rows as rows
 use Rattle.law_rows.specs.Rows.{old_entry, old_entries, head_entry, head_entries, child_entry, slot_of, slot_entries, leaf_entries, index_entries}
 use Rattle.law_rows.specs.Pairs.{bare, child}
+use Rattle.std.proofs.Common.{Option, Some, None}
+use Rattle.pages.specs.declared.OldVersion.{OldVersion}
 
 pub map_append : {A B : Type 0} (f : A → B) (xs ys : List A) → map f (xs ++ ys) ≡ map f xs ++ map f ys
 map_append f [] ys = refl
@@ -40,10 +40,10 @@ unfolding old_entries olds_from
 olds-told w key zero a i = none_told key
 olds-told w key (suc k) a i = go (old_at w a i) (λ p q. olds-told w key k p (q + 1))
   where
-    go : (o : OldRead) → ((p : Addr) (q : ℕ) → map bare (old_entries w key k p (q + 1)) ≡ older_entries key (olds_from w k p (q + 1)))
+    go : (o : Option OldVersion) → ((p : Addr) (q : ℕ) → map bare (old_entries w key k p (q + 1)) ≡ older_entries key (olds_from w k p (q + 1)))
         → map bare (rows.olds_of w key (old_entries w key k) o) ≡ older_entries key (olds_of w (olds_from w k) o)
-    go (OldRead.Old p q r) h = one_told w key r (old_entries w key k p (q + 1)) (olds_from w k p (q + 1)) (h p q)
-    go OldRead.Bad h = none_told key
+    go (Some o) h = one_told w key o.rec (old_entries w key k o.page (o.slot + 1)) (olds_from w k o.page (o.slot + 1)) (h o.page o.slot)
+    go None h = none_told key
 
 -- ---- a leaf
 
@@ -64,10 +64,10 @@ unfolding slot_entries rows_from
 leaf_told w b zero i = heads_none
 leaf_told w b (suc k) i = go (rec_at w b i) (leaf_told w b k (i + 1))
   where
-    go : (o : RecRead) → map bare (leaf_entries w b k (i + 1)) ≡ entries_of (heads_from w b k (i + 1))
+    go : (o : Option Rec) → map bare (leaf_entries w b k (i + 1)) ≡ entries_of (heads_from w b k (i + 1))
         → map bare (slot_of (head_entries w b) (leaf_entries w b k (i + 1)) o) ≡ entries_of (rows_of (head_of w b) (heads_from w b k (i + 1)) o)
-    go (RecRead.Is r) h = head_told_lem w b r (leaf_entries w b k (i + 1)) (heads_from w b k (i + 1)) h
-    go RecRead.Bad h = h
+    go (Some r) h = head_told_lem w b r (leaf_entries w b k (i + 1)) (heads_from w b k (i + 1)) h
+    go None h = h
 
 -- ---- an index page
 
@@ -80,7 +80,7 @@ unfolding slot_entries rows_from
 index_told w b zero i = refl
 index_told w b (suc k) i = go (rec_at w b i) (index_told w b k (i + 1))
   where
-    go : (o : RecRead) → map child (index_entries w b k (i + 1)) ≡ children_from w b k (i + 1)
+    go : (o : Option Rec) → map child (index_entries w b k (i + 1)) ≡ children_from w b k (i + 1)
         → map child (slot_of (λ r. child_entry w b r ∷ []) (index_entries w b k (i + 1)) o) ≡ rows_of (child_of w b) (children_from w b k (i + 1)) o
-    go (RecRead.Is r) h = ap₂ (λ (x : Child) (l : List Child). x ∷ l) (child-told w b r) h
-    go RecRead.Bad h = h
+    go (Some r) h = ap₂ (λ (x : Child) (l : List Child). x ∷ l) (child-told w b r) h
+    go None h = h

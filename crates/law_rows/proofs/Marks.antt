@@ -5,15 +5,12 @@ use mathlib.Core.Path.{◌≡◌, refl, sym, subst, ap, ◌∙◌}
 use mathlib.Core.Bool.{true, false}
 use mathlib.Core.List.{List, [], ◌∷◌, ◌++◌}
 use native.Mathlib.Omega.{arith}
-use Rattle.order.specs.declared.Order.{Order}
 use Rattle.order.specs.Order.{cmp_bytes, is_equal}
 use Rattle.order.proofs.Laws.{cmp_same}
 use Rattle.frames.specs.declared.Addr.{Addr}
 use Rattle.frames.specs.declared.Body.{Body}
 use Rattle.records.specs.declared.Rec.{Rec}
-use Rattle.records.specs.declared.RecRead.{RecRead}
 use Rattle.records.specs.Records.{rec_at}
-use Rattle.pages.specs.declared.OldRead.{OldRead}
 use Rattle.pages.specs.Sound.{slots_ok, old_at}
 use Rattle.pages.specs.Meaning.{key_of}
 use Rattle.pages.proofs.Given.{every_slot, keys_rise}
@@ -21,6 +18,9 @@ use Rattle.build_sources.specs.Source.{Entry}
 use Rattle.build_sources.specs.Marks.{MarkedFrom, Marked}
 use Rattle.law_rows.specs.Rows as rows
 use Rattle.law_rows.specs.Rows.{old_entry, old_entries, head_entry, head_entries, child_entry, slot_entries, leaf_entries, index_entries}
+use Rattle.std.proofs.Common.{Option, Some, None}
+use Rattle.pages.specs.declared.OldVersion.{OldVersion}
+use Rattle.std.specs.declared.cmp.Ordering.{Ordering}
 
 -- entries that may follow any entry with this key
 abbrev Follows : List ℕ → List Entry → Type 0
@@ -35,9 +35,9 @@ unfolding old_entries
 olds_follow w key rest f zero a i = f
 olds_follow w key rest f (suc k) a i = go (old_at w a i) (λ p q. olds_follow w key rest f k p (q + 1))
   where
-    go : (o : OldRead) → ((p : Addr) (q : ℕ) → Follows key (old_entries w key k p (q + 1) ++ rest)) → Follows key (rows.olds_of w key (old_entries w key k) o ++ rest)
-    go (OldRead.Old p q r) h = one_follows w key r (old_entries w key k p (q + 1) ++ rest) (h p q)
-    go OldRead.Bad h = f
+    go : (o : Option OldVersion) → ((p : Addr) (q : ℕ) → Follows key (old_entries w key k p (q + 1) ++ rest)) → Follows key (rows.olds_of w key (old_entries w key k) o ++ rest)
+    go (Some o) h = one_follows w key o.rec (old_entries w key k o.page (o.slot + 1) ++ rest) (h o.page o.slot)
+    go None h = f
 
 -- what stands first: a head with this key
 unfoldable Leads : List ℕ → List Entry → Type 0
@@ -56,7 +56,7 @@ index_rowed : (w : List ℕ) (b : Body) → Rowed w b (λ r. child_entry w b r �
 unfolding Leads child_entry
 index_rowed w b r rest f = (refl, (refl, f (child_entry w b r) refl))
 
-leads_follow : (key next : List ℕ) (es : List Entry) → cmp_bytes key next ≡ Order.Less → Leads next es → Follows key es
+leads_follow : (key next : List ℕ) (es : List Entry) → cmp_bytes key next ≡ Ordering.Less → Leads next es → Follows key es
 unfolding Leads MarkedFrom
 leads_follow key next [] c l x e = absurd l
 leads_follow key next (h ∷ es) c l x e =
@@ -72,7 +72,7 @@ leads_marked key [] l = absurd l
 leads_marked key (e ∷ es) l = (l.0, l.1.1)
 
 module _ (w : List ℕ) (b : Body) (e : slots_ok w b ≡ true) (n : b.kind ≡ 2 → ⊥) (f : Rec → List Entry) (g : Rowed w b f) where
-  slots_more : (k i : ℕ) (r : Rec) → rec_at w b i ≡ RecRead.Is r → slot_entries f w b (suc k) i ≡ f r ++ slot_entries f w b k (i + 1)
+  slots_more : (k i : ℕ) (r : Rec) → rec_at w b i ≡ Some r → slot_entries f w b (suc k) i ≡ f r ++ slot_entries f w b k (i + 1)
   unfolding slot_entries
   slots_more k i r q = rw q refl
 
@@ -80,7 +80,7 @@ module _ (w : List ℕ) (b : Body) (e : slots_ok w b ≡ true) (n : b.kind ≡ 2
   unfolding slot_entries
   slots_none i = refl
 
-  slots_follow : (k i : ℕ) (r : Rec) → rec_at w b i ≡ RecRead.Is r → i + k < b.elems → Follows (key_of w b r) (slot_entries f w b k (i + 1))
+  slots_follow : (k i : ℕ) (r : Rec) → rec_at w b i ≡ Some r → i + k < b.elems → Follows (key_of w b r) (slot_entries f w b k (i + 1))
   slots_follow zero i r q h = subst (Follows (key_of w b r)) (sym (slots_none (i + 1))) (none_follows (key_of w b r))
   slots_follow (suc k) i r q h =
       let o = every_slot w b e (i + 1) (omega arith) in

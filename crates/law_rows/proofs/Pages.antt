@@ -8,7 +8,6 @@ use borrow.Author.Tests.{eq-eqb, ne_eqb}
 use Rattle.numbers.specs.Number.{Bytes}
 use Rattle.frames.specs.declared.Addr.{Addr}
 use Rattle.frames.specs.declared.Body.{Body}
-use Rattle.frames.specs.declared.Opened.{Opened}
 use Rattle.frames.specs.Layout.{open_at}
 use Rattle.frames.proofs.Frames.{open_inside}
 use Rattle.pages.specs.Meaning.{Head, Child, leaf, index, Page, says, meaning}
@@ -20,8 +19,9 @@ use Rattle.law_rows.specs.Pairs.{bare, child, NoPage, NoVersion, Reads}
 use Rattle.law_rows.proofs.Entries.{leaf_told, index_told}
 use Rattle.law_rows.proofs.Carried.{leaf_short, leaf_carried, leaf_kind, index_short, index_carried, index_kind}
 use Rattle.law_rows.proofs.Marks.{leaf_marked, index_marked}
+use Rattle.std.proofs.Common.{Some}
 
-module _ (w : List ℕ) (a : Addr) (b : Body) (o : open_at w a ≡ Opened.Is b) where
+module _ (w : List ℕ) (a : Addr) (b : Body) (o : open_at w a ≡ Some b) where
   pub leaf_page_lem : (b.kind ≡ 1 → ⊥) → page_entries w a ≡ leaf_entries w b b.elems 0
   unfolding page_entries
   leaf_page_lem k = rw (o, ne_eqb b.kind 1 k) refl

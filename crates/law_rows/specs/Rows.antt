@@ -1,21 +1,19 @@
 -- What a page holds, as entries: each head, then its old versions, with the addresses of the remotes that they keep; an index page's children.
 -- Assumes nothing.
-use Rattle.std.specs.Prelude.{ℕ, zero, suc, ◌+◌, List, [], ◌∷◌, ◌++◌, true, false, cond, eqb}
+use Rattle.std.specs.Prelude.{ℕ, zero, suc, ◌+◌, List, [], ◌∷◌, ◌++◌, true, false, cond, eqb, Option, Some, None}
 use Rattle.spans.specs.Span.{part}
 use Rattle.numbers.specs.Number.{le_at}
 use Rattle.order.specs.Version.{ver_of}
 use Rattle.frames.specs.declared.Addr.{Addr}
 use Rattle.frames.specs.declared.Body.{Body}
-use Rattle.frames.specs.declared.Opened.{Opened}
 use Rattle.frames.specs.Layout.{open_at}
 use Rattle.values.specs.Keys.{ver_in}
 use Rattle.records.specs.declared.Rec.{Rec}
-use Rattle.records.specs.declared.RecRead.{RecRead}
 use Rattle.records.specs.Records.{rec_at}
-use Rattle.pages.specs.declared.OldRead.{OldRead}
 use Rattle.pages.specs.Sound.{old_at}
 use Rattle.pages.specs.Meaning.{key_of}
 use Rattle.build_sources.specs.Source.{Entry}
+use Rattle.pages.specs.declared.OldVersion.{OldVersion}
 
 -- an old version of a key
 unfoldable pub old_entry : List ℕ → List ℕ → Rec → Entry
@@ -23,9 +21,9 @@ old_entry w key r =
     record { old = true; key = key; ver = ver_in w r.ver_at; val = part w r.val_at r.val_len; kept = r.remote.0; page = 0 }
 
 -- n of them, from a slot of a history page on
-abbrev pub olds_of : List ℕ → List ℕ → (Addr → ℕ → List Entry) → OldRead → List Entry
-olds_of w key go (OldRead.Old p q r) = old_entry w key r ∷ go p (q + 1)
-olds_of w key go OldRead.Bad = []
+abbrev pub olds_of : List ℕ → List ℕ → (Addr → ℕ → List Entry) → Option OldVersion → List Entry
+olds_of w key go (Some o) = old_entry w key o.rec ∷ go o.page (o.slot + 1)
+olds_of w key go None = []
 
 unfoldable pub old_entries : List ℕ → List ℕ → ℕ → Addr → ℕ → List Entry
 old_entries w key zero a i = []
@@ -45,9 +43,9 @@ unfoldable pub child_entry : List ℕ → Body → Rec → Entry
 child_entry w b r = record { old = false; key = key_of w b r; ver = ver_of 0 0; val = []; kept = 0; page = le_at 8 w r.val_at }
 
 -- what k slots from i on hold
-abbrev pub slot_of : (Rec → List Entry) → List Entry → RecRead → List Entry
-slot_of f rest (RecRead.Is r) = f r ++ rest
-slot_of f rest RecRead.Bad = rest
+abbrev pub slot_of : (Rec → List Entry) → List Entry → Option Rec → List Entry
+slot_of f rest (Some r) = f r ++ rest
+slot_of f rest None = rest
 
 unfoldable pub slot_entries : (Rec → List Entry) → List ℕ → Body → ℕ → ℕ → List Entry
 slot_entries f w b zero i = []
@@ -63,9 +61,9 @@ index_entries w b k i = slot_entries (λ r. child_entry w b r ∷ []) w b k i
 abbrev pub body_entries : List ℕ → Body → List Entry
 body_entries w b = cond (eqb b.kind 1) (index_entries w b b.elems 0) (leaf_entries w b b.elems 0)
 
-abbrev pub open_entries : List ℕ → Opened → List Entry
-open_entries w (Opened.Is b) = body_entries w b
-open_entries w Opened.Bad = []
+abbrev pub open_entries : List ℕ → Option Body → List Entry
+open_entries w (Some b) = body_entries w b
+open_entries w None = []
 
 unfoldable pub page_entries : List ℕ → Addr → List Entry
 page_entries w a = open_entries w (open_at w a)

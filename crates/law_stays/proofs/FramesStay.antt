@@ -13,15 +13,12 @@ use Rattle.numbers.specs.Number.{le_at}
 use Rattle.frames.specs.declared.Addr.{Addr}
 use Rattle.frames.specs.declared.BoxHeader.{BoxHeader}
 use Rattle.frames.specs.declared.BaseHeader.{BaseHeader}
-use Rattle.frames.specs.declared.FrameRead.{FrameRead}
-use Rattle.frames.specs.declared.PageRead.{PageRead}
 use Rattle.frames.specs.declared.Body.{Body}
-use Rattle.frames.specs.declared.Opened.{Opened}
-use Rattle.frames.specs.declared.RemoteRead.{RemoteRead}
 use Rattle.frames.specs.Layout.{box_len, base_len, box_base, box_remote, frame_len, box_fields, address_ok, box_kind_ok, flag_ok, link_ok, remote_ok, box_ok, box_at, base_fields, base_ok, page_of, page_at, open_of, open_at, remote_of, remote_at}
 use Rattle.frames.proofs.Frames.{and_l, and_r, framed}
 use Rattle.frames.proofs.Stores.{base_same}
 use Rattle.law_stays.proofs.Grown.{Grown, stay_part, stay_byte, stay_number}
+use Rattle.std.proofs.Common.{Option, Some, None}
 
 and_both : (a b : Bool) → a ≡ true → b ≡ true → (a && b) ≡ true
 and_both true b p q = q
@@ -54,52 +51,52 @@ module _ (t s : List ℕ) (g : Grown t s) where
   base_fields_lem : (at : ℕ) → at + base_len ≤ length t → base_fields s at ≡ base_fields t at
   base_fields_lem at h = base_same s t at (stay_part t s g at base_len h)
 
-  pub box_stays : (a : Addr) (h : BoxHeader) → box_at t a ≡ FrameRead.Frame h → box_at s a ≡ FrameRead.Frame h
+  pub box_stays : (a : Addr) (h : BoxHeader) → box_at t a ≡ Some h → box_at s a ≡ Some h
   unfolding box_at
   box_stays a h e =
       let at = a.0 in
-      let no : FrameRead.Bad ≡ FrameRead.Frame h → ⊥ = λ z. let y : ◌≡◌ {A = ℕ} 0 1 = cc in omega arith in
-      let a1 = ask (leb (at + box_len) (length t)) _ FrameRead.Bad (FrameRead.Frame h) no e in
-      let a2 = ask (box_ok (box_fields t at) at (length t)) _ FrameRead.Bad (FrameRead.Frame h) no a1.1 in
+      let no : None ≡ Some h → ⊥ = λ z. let y : ◌≡◌ {A = ℕ} 0 1 = cc in omega arith in
+      let a1 = ask (leb (at + box_len) (length t)) _ None (Some h) no e in
+      let a2 = ask (box_ok (box_fields t at) at (length t)) _ None (Some h) no a1.1 in
       let l : at + box_len ≤ length t = leb-true (at + box_len) (length t) a1.0 in
       let m : length t ≤ length s = g.long in
       let ok = box_longer (box_fields t at) at (length t) (length s) m a2.0 in
       rw (le-leb (at + box_len) (length s) (omega arith), box_fields_lem at l, ok) a2.1
 
-  pub page_stays : (a : Addr) (x : BoxHeader) (h : BaseHeader) → page_at t a ≡ PageRead.Page x h → page_at s a ≡ PageRead.Page x h
+  pub page_stays : (a : Addr) (x : BoxHeader) (h : BaseHeader) → page_at t a ≡ Some (x, h) → page_at s a ≡ Some (x, h)
   unfolding page_at
   page_stays a x h e = go (box_at t a) refl e
     where
-      no : PageRead.Bad ≡ PageRead.Page x h → ⊥
+      no : ◌≡◌ {A = Option (BoxHeader × BaseHeader)} None (Some (x, h)) → ⊥
       no z = let y : ◌≡◌ {A = ℕ} 0 1 = cc in omega arith
 
-      go : (f : FrameRead) → box_at t a ≡ f → page_of t a.0 f ≡ PageRead.Page x h → page_of s a.0 (box_at s a) ≡ PageRead.Page x h
-      go (FrameRead.Frame y) q e' =
-          let a1 = ask (eqb y.box_kind box_base) _ PageRead.Bad (PageRead.Page x h) no e' in
-          let a2 = ask (leb base_len y.payload_size) _ PageRead.Bad (PageRead.Page x h) no a1.1 in
+      go : (f : Option BoxHeader) → box_at t a ≡ f → page_of t a.0 f ≡ Some (x, h) → page_of s a.0 (box_at s a) ≡ Some (x, h)
+      go (Some y) q e' =
+          let a1 = ask (eqb y.box_kind box_base) _ None (Some (x, h)) no e' in
+          let a2 = ask (leb base_len y.payload_size) _ None (Some (x, h)) no a1.1 in
           let l : a.0 + box_len + base_len ≤ length t = omega (arith, (framed t a y q).room, leb-true base_len y.payload_size a2.0) in
           rw (box_stays a y q, base_fields_lem (a.0 + box_len) l) e'
-      go FrameRead.Bad q e' = absurd (no e')
+      go None q e' = absurd (no e')
 
-  pub open_stays : (a : Addr) (b : Body) → open_at t a ≡ Opened.Is b → open_at s a ≡ Opened.Is b
+  pub open_stays : (a : Addr) (b : Body) → open_at t a ≡ Some b → open_at s a ≡ Some b
   unfolding open_at
   open_stays a b e = go (page_at t a) refl e
     where
-      go : (p : PageRead) → page_at t a ≡ p → open_of a p ≡ Opened.Is b → open_of a (page_at s a) ≡ Opened.Is b
-      go (PageRead.Page x h) q e' = rw (page_stays a x h q) e'
-      go PageRead.Bad q e' = absurd (let z : ◌≡◌ {A = ℕ} 0 1 = cc in omega arith)
+      go : (p : Option (BoxHeader × BaseHeader)) → page_at t a ≡ p → open_of a p ≡ Some b → open_of a (page_at s a) ≡ Some b
+      go (Some (x, h)) q e' = rw (page_stays a x h q) e'
+      go None q e' = absurd (let z : ◌≡◌ {A = ℕ} 0 1 = cc in omega arith)
 
-  pub remote_stays : (a : Addr) (n p : ℕ) → remote_at t a n ≡ RemoteRead.At p → remote_at s a n ≡ RemoteRead.At p
+  pub remote_stays : (a : Addr) (n p : ℕ) → remote_at t a n ≡ Some p → remote_at s a n ≡ Some p
   unfolding remote_at
   remote_stays a n p e = go (box_at t a) refl e
     where
-      no : RemoteRead.Bad ≡ RemoteRead.At p → ⊥
+      no : None ≡ Some p → ⊥
       no z = let y : ◌≡◌ {A = ℕ} 0 1 = cc in omega arith
 
-      go : (f : FrameRead) → box_at t a ≡ f → remote_of t a.0 n f ≡ RemoteRead.At p → remote_of s a.0 n (box_at s a) ≡ RemoteRead.At p
-      go (FrameRead.Frame h) q e' =
-          let a1 = ask (eqb h.box_kind box_remote) _ RemoteRead.Bad (RemoteRead.At p) no e' in
-          let a2 = ask (eqb h.payload_size (8 + n)) _ RemoteRead.Bad (RemoteRead.At p) no a1.1 in
+      go : (f : Option BoxHeader) → box_at t a ≡ f → remote_of t a.0 n f ≡ Some p → remote_of s a.0 n (box_at s a) ≡ Some p
+      go (Some h) q e' =
+          let a1 = ask (eqb h.box_kind box_remote) _ None (Some p) no e' in
+          let a2 = ask (eqb h.payload_size (8 + n)) _ None (Some p) no a1.1 in
           let l : a.0 + box_len + 8 ≤ length t = omega (arith, (framed t a h q).room, eqb-true h.payload_size (8 + n) a2.0) in
           rw (box_stays a h q, stay_number t s g 8 (a.0 + box_len) l) e'
-      go FrameRead.Bad q e' = absurd (no e')
+      go None q e' = absurd (no e')

@@ -16,20 +16,15 @@ use Rattle.order.specs.Order.{cmp_bytes, is_less}
 use Rattle.frames.specs.declared.Addr.{Addr}
 use Rattle.frames.specs.declared.PageId.{PageId}
 use Rattle.frames.specs.declared.Body.{Body}
-use Rattle.frames.specs.declared.Opened.{Opened}
 use Rattle.frames.specs.Layout.{base_len, addr, page_id, Inside, open_at}
 use Rattle.frames.proofs.Frames.{open_inside}
 use Rattle.values.specs.declared.HistRef.{HistRef}
-use Rattle.values.specs.declared.KeyRead.{KeyRead}
 use Rattle.values.specs.Vals.{no_hist}
-use Rattle.records.specs.declared.SlotRead.{SlotRead}
 use Rattle.records.specs.declared.Rec.{Rec}
-use Rattle.records.specs.declared.RecRead.{RecRead}
 use Rattle.values.specs.Keys.{ver_in}
 use Rattle.records.specs.Records.{slot_at, key_in, rec_of, rec_key, rec_in, rec_slot, rec_at}
 use Rattle.records.proofs.Inside.{at-inside, ver-inside}
-use Rattle.pages.specs.declared.OldRead.{OldRead}
-use Rattle.pages.specs.Sound.{in_order, slots_from, slots_ok, history_of, history_at, hist_of, hist_ok, old_rec, old_in, old_link, old_of, old_at, chain_from, entered_of, entered, head_ok, multi_of, chains_of, chains_from, chains_ok, remotes_at, hints_ok}
+use Rattle.pages.specs.Sound.{in_order, slots_from, slots_ok, history_of, history_at, hist_of, hist_ok, old_rec, old_in, old_link, old_of, old_at, chain_from, entered_of, entered, head_ok, multi_of, chains_of, chains_from, chains_ok, remotes_at, hints_ok, old_version}
 use Rattle.pages.specs.Meaning.{Older, Head, Child, Rows, leaf, index, Page, Said, nothing, says, olds_from, prefix_of, head_of, child_of, rows_from, page_says, page_bounded, sound_body, meaning}
 use Rattle.pages.proofs.Turns.{head_none, head_chain, body-bounds}
 use Rattle.pages.proofs.Olds.{History, history-inside, OldInside, old-inside}
@@ -37,11 +32,13 @@ use Rattle.pages.proofs.Given.{yes, Sound, sound_given, HintsFit, hints_given, S
 use Rattle.law_stays.proofs.Grown.{Grown, grown_take, stay_part, stay_number}
 use Rattle.law_stays.proofs.FramesStay.{open_stays}
 use Rattle.law_stays.proofs.RecordsStay.{ver_stays, rec_stays}
+use Rattle.std.proofs.Common.{Option, Some, None}
+use Rattle.values.specs.declared.KeyParts.{KeyParts}
 
 -- one head of a sound page
 record Headed (t : List ℕ) (b : Body) (k i m : ℕ) : Type 0 where
   rec : Rec
-  read : rec_at t b i ≡ RecRead.Is rec
+  read : rec_at t b i ≡ Some rec
   ok : head_ok t rec ≡ true
   more : chains_from t b k (i + 1) (multi_of m rec.hist.count) ≡ true
 
@@ -49,29 +46,29 @@ headed : (t : List ℕ) (b : Body) (k i m : ℕ) → chains_from t b (suc k) i m
 unfolding chains_from
 headed t b k i m e = go (rec_at t b i) refl e
   where
-    go : (r : RecRead) → rec_at t b i ≡ r → chains_of t (chains_from t b k (i + 1)) m r ≡ true → Headed t b k i m
-    go (RecRead.Is r) q e' = let a1 = yes (head_ok t r) _ e' in record { rec = r; read = q; ok = a1.0; more = a1.1 }
-    go RecRead.Bad q e' = absurd (let z : ◌≡◌ {A = ℕ} 0 1 = cc in omega arith)
+    go : (r : Option Rec) → rec_at t b i ≡ r → chains_of t (chains_from t b k (i + 1)) m r ≡ true → Headed t b k i m
+    go (Some r) q e' = let a1 = yes (head_ok t r) _ e' in record { rec = r; read = q; ok = a1.0; more = a1.1 }
+    go None q e' = absurd (let z : ◌≡◌ {A = ℕ} 0 1 = cc in omega arith)
 
 -- a record of an index page leads to a page id of 8 bytes
-index_eight : (t : List ℕ) (b : Body) (i : ℕ) (r : Rec) → b.kind ≡ 1 → rec_at t b i ≡ RecRead.Is r → r.val_len ≡ 8
+index_eight : (t : List ℕ) (b : Body) (i : ℕ) (r : Rec) → b.kind ≡ 1 → rec_at t b i ≡ Some r → r.val_len ≡ 8
 unfolding rec_at rec_in
 index_eight t b i r k e = go (slot_at t b i) e
   where
-    bad : RecRead.Bad ≡ RecRead.Is r → ⊥
+    bad : None ≡ Some r → ⊥
     bad z = let y : ◌≡◌ {A = ℕ} 0 1 = cc in omega arith
 
-    key : (p : ℕ) (x : KeyRead) → rec_key t b p x ≡ RecRead.Is r → r.val_len ≡ 8
-    key p (KeyRead.Key v ra rn) q =
-        let q' : cond (leb (ra + rn + 8) b.end) (RecRead.Is (rec_of p v ra rn no_hist (ra + rn) 8 (addr 0) (ra + rn + 8))) RecRead.Bad ≡ RecRead.Is r = rw (eq-eqb b.kind 1 k) at q in
-        let a1 = ask (leb (ra + rn + 8) b.end) _ RecRead.Bad (RecRead.Is r) bad q' in
-        let x : rec_of p v ra rn no_hist (ra + rn) 8 (addr 0) (ra + rn + 8) ≡ r = cc in
+    key : (p : ℕ) (x : Option KeyParts) → rec_key t b p x ≡ Some r → r.val_len ≡ 8
+    key p (Some k') q =
+        let q' : cond (leb (k'.rest_at + k'.rest_len + 8) b.end) (Some (rec_of p k'.ver_at k'.rest_at k'.rest_len no_hist (k'.rest_at + k'.rest_len) 8 (addr 0) (k'.rest_at + k'.rest_len + 8))) None ≡ Some r = rw (eq-eqb b.kind 1 k) at q in
+        let a1 = ask (leb (k'.rest_at + k'.rest_len + 8) b.end) _ None (Some r) bad q' in
+        let x : rec_of p k'.ver_at k'.rest_at k'.rest_len no_hist (k'.rest_at + k'.rest_len) 8 (addr 0) (k'.rest_at + k'.rest_len + 8) ≡ r = cc in
         rw (← x)
-    key p KeyRead.Bad q = absurd (bad q)
+    key p None q = absurd (bad q)
 
-    go : (w : SlotRead) → rec_slot t b w ≡ RecRead.Is r → r.val_len ≡ 8
-    go (SlotRead.At p) q = key p (key_in t b p) q
-    go SlotRead.Bad q = absurd (bad q)
+    go : (w : Option ℕ) → rec_slot t b w ≡ Some r → r.val_len ≡ 8
+    go (Some p) q = key p (key_in t b p) q
+    go None q = absurd (bad q)
 
 module _ (t s : List ℕ) (g : Grown t s) where
   -- ---- slots
@@ -99,44 +96,44 @@ module _ (t s : List ℕ) (g : Grown t s) where
 
   -- ---- history pages and old versions
 
-  pub history_stays : (a : Addr) (b : Body) → history_at t a ≡ Opened.Is b → history_at s a ≡ Opened.Is b
+  pub history_stays : (a : Addr) (b : Body) → history_at t a ≡ Some b → history_at s a ≡ Some b
   unfolding history_at
   history_stays a b e = go (open_at t a) refl e
     where
-      go : (o : Opened) → open_at t a ≡ o → history_of o ≡ Opened.Is b → history_of (open_at s a) ≡ Opened.Is b
-      go (Opened.Is d) q e' = rw (open_stays t s g a d q) e'
-      go Opened.Bad q e' = absurd (let z : ◌≡◌ {A = ℕ} 0 1 = cc in omega arith)
+      go : (o : Option Body) → open_at t a ≡ o → history_of o ≡ Some b → history_of (open_at s a) ≡ Some b
+      go (Some d) q e' = rw (open_stays t s g a d q) e'
+      go None q e' = absurd (let z : ◌≡◌ {A = ℕ} 0 1 = cc in omega arith)
 
   whole_stays : (a : Addr) → hist_ok t a ≡ true → hist_ok s a ≡ true
   unfolding hist_ok
   whole_stays a e = go (history_at t a) refl e
     where
-      go : (o : Opened) → history_at t a ≡ o → hist_of t o ≡ true → hist_of s (history_at s a) ≡ true
-      go (Opened.Is b) q e' = rw (history_stays a b q) (slots_stay b (history-inside t a b q).inside e')
-      go Opened.Bad q e' = absurd (let z : ◌≡◌ {A = ℕ} 0 1 = cc in omega arith)
+      go : (o : Option Body) → history_at t a ≡ o → hist_of t o ≡ true → hist_of s (history_at s a) ≡ true
+      go (Some b) q e' = rw (history_stays a b q) (slots_stay b (history-inside t a b q).inside e')
+      go None q e' = absurd (let z : ◌≡◌ {A = ℕ} 0 1 = cc in omega arith)
 
-  pub old_stays : (a : Addr) (i : ℕ) (p : Addr) (q : ℕ) (r : Rec) → old_at t a i ≡ OldRead.Old p q r → old_at s a i ≡ OldRead.Old p q r
+  pub old_stays : (a : Addr) (i : ℕ) (p : Addr) (q : ℕ) (r : Rec) → old_at t a i ≡ Some (old_version p q r) → old_at s a i ≡ Some (old_version p q r)
   unfolding old_at old_in
   old_stays a i p q r e = go (history_at t a) refl e
     where
-      bad : OldRead.Bad ≡ OldRead.Old p q r → ⊥
+      bad : None ≡ Some (old_version p q r) → ⊥
       bad z = let y : ◌≡◌ {A = ℕ} 0 1 = cc in omega arith
 
-      here : (b : Body) (d : Addr) (j : ℕ) → Inside t b → (w : RecRead) → rec_at t b j ≡ w → old_rec d j w ≡ OldRead.Old p q r → old_rec d j (rec_at s b j) ≡ OldRead.Old p q r
-      here b d j i' (RecRead.Is x) u e' = rw (rec_stays t s g b i' j x u) e'
-      here b d j i' RecRead.Bad u e' = absurd (bad e')
+      here : (b : Body) (d : Addr) (j : ℕ) → Inside t b → (w : Option Rec) → rec_at t b j ≡ w → old_rec d j w ≡ Some (old_version p q r) → old_rec d j (rec_at s b j) ≡ Some (old_version p q r)
+      here b d j i' (Some x) u e' = rw (rec_stays t s g b i' j x u) e'
+      here b d j i' None u e' = absurd (bad e')
 
-      link : (l : Addr) (o : Opened) → history_at t l ≡ o → old_link t l o ≡ OldRead.Old p q r → old_link s l (history_at s l) ≡ OldRead.Old p q r
-      link l (Opened.Is d) u e' = rw (history_stays l d u) (here d l 0 (history-inside t l d u).inside (rec_at t d 0) refl e')
-      link l Opened.Bad u e' = absurd (bad e')
+      link : (l : Addr) (o : Option Body) → history_at t l ≡ o → old_link t l o ≡ Some (old_version p q r) → old_link s l (history_at s l) ≡ Some (old_version p q r)
+      link l (Some d) u e' = rw (history_stays l d u) (here d l 0 (history-inside t l d u).inside (rec_at t d 0) refl e')
+      link l None u e' = absurd (bad e')
 
-      by : (b : Body) → history_at t a ≡ Opened.Is b → (c : Bool) → cond c (old_link t b.link (history_at t b.link)) (old_in t b a i) ≡ OldRead.Old p q r → cond c (old_link s b.link (history_at s b.link)) (old_in s b a i) ≡ OldRead.Old p q r
+      by : (b : Body) → history_at t a ≡ Some b → (c : Bool) → cond c (old_link t b.link (history_at t b.link)) (old_in t b a i) ≡ Some (old_version p q r) → cond c (old_link s b.link (history_at s b.link)) (old_in s b a i) ≡ Some (old_version p q r)
       by b u true w = link b.link (history_at t b.link) refl w
       by b u false w = here b a i (history-inside t a b u).inside (rec_at t b i) refl w
 
-      go : (o : Opened) → history_at t a ≡ o → old_of t a i o ≡ OldRead.Old p q r → old_of s a i (history_at s a) ≡ OldRead.Old p q r
-      go (Opened.Is b) u e' = rw (history_stays a b u) (by b u (eqb i b.elems) e')
-      go Opened.Bad u e' = absurd (bad e')
+      go : (o : Option Body) → history_at t a ≡ o → old_of t a i o ≡ Some (old_version p q r) → old_of s a i (history_at s a) ≡ Some (old_version p q r)
+      go (Some b) u e' = rw (history_stays a b u) (by b u (eqb i b.elems) e')
+      go None u e' = absurd (bad e')
 
   chain_stays : (k : ℕ) (a : Addr) (i : ℕ) (v : Ver) → chain_from t k a i v ≡ true → chain_from s k a i v ≡ true
   unfolding chain_from
@@ -151,9 +148,9 @@ module _ (t s : List ℕ) (g : Grown t s) where
   unfolding entered
   entered_stays a i e = go (history_at t a) refl e
     where
-      go : (o : Opened) → history_at t a ≡ o → entered_of i o ≡ true → entered_of i (history_at s a) ≡ true
-      go (Opened.Is b) q e' = rw (history_stays a b q) e'
-      go Opened.Bad q e' = absurd (let z : ◌≡◌ {A = ℕ} 0 1 = cc in omega arith)
+      go : (o : Option Body) → history_at t a ≡ o → entered_of i o ≡ true → entered_of i (history_at s a) ≡ true
+      go (Some b) q e' = rw (history_stays a b q) e'
+      go None q e' = absurd (let z : ◌≡◌ {A = ℕ} 0 1 = cc in omega arith)
 
   head_stays : (r : Rec) → r.ver_at + 12 ≤ length t → head_ok t r ≡ true → head_ok s r ≡ true
   head_stays r h e = by (eqb r.hist.count 0) refl (head_given t r e).0
@@ -213,7 +210,7 @@ module _ (t s : List ℕ) (g : Grown t s) where
     unfolding prefix_of
     prefix_stays = stay_part t s g (b.at + base_len + 4 * b.elems) b.prefix_len (omega (arith, i.slots, i.records, i.payload, i.arena, i.prefix))
 
-    module _ (j : ℕ) (r : Rec) (e : rec_at t b j ≡ RecRead.Is r) where
+    module _ (j : ℕ) (r : Rec) (e : rec_at t b j ≡ Some r) where
       key_says : prefix_of s b ++ part s r.rest_at r.rest_len ≡ prefix_of t b ++ part t r.rest_at r.rest_len
       key_says =
           let k = (at-inside t b j r i e).0 in
@@ -238,7 +235,7 @@ module _ (t s : List ℕ) (g : Grown t s) where
           λ z. record { key = key z; page = record { 0 = id z } }
 
     -- the rows of k slots, where each row stays
-    rows_stay : {A : Type 0} (f f' : Rec → A) → ((j : ℕ) → j < b.elems → (r : Rec) × (rec_at t b j ≡ RecRead.Is r) × (f' r ≡ f r)) → (k j : ℕ) → j + k ≤ b.elems → rows_from f' s b k j ≡ rows_from f t b k j
+    rows_stay : {A : Type 0} (f f' : Rec → A) → ((j : ℕ) → j < b.elems → (r : Rec) × (rec_at t b j ≡ Some r) × (f' r ≡ f r)) → (k j : ℕ) → j + k ≤ b.elems → rows_from f' s b k j ≡ rows_from f t b k j
     unfolding rows_from
     rows_stay f f' every zero j l = refl
     rows_stay f f' every (suc k) j l =

@@ -14,7 +14,6 @@ use Rattle.numbers.specs.Number.{Bytes}
 use Rattle.order.specs.Version.{ver_of}
 use Rattle.frames.specs.declared.Addr.{Addr}
 use Rattle.frames.specs.declared.Body.{Body}
-use Rattle.frames.specs.declared.Opened.{Opened}
 use Rattle.frames.specs.Layout.{addr, page_id, open_at}
 use Rattle.frames.proofs.Frames.{open_inside}
 use Rattle.pages.specs.Boundaries.{place, part_in, bounds_of, bounds_at, prefix_at}
@@ -25,8 +24,6 @@ use Rattle.pages.proofs.Says.{prefix_says}
 use Rattle.walks.specs.declared.Walk.{Walk}
 use Rattle.walks.specs.declared.Item.{Item}
 use Rattle.walks.specs.declared.Branch.{Branch}
-use Rattle.walks.specs.declared.Begun.{Begun}
-use Rattle.walks.specs.declared.Step.{Step}
 use Rattle.walks.specs.Walk.{forward_at, step_at}
 use Rattle.walks.specs.Listed as listed
 use Rattle.walks.specs.Listed.{entries_of, lead_of, WalksTo, LeadsTo}
@@ -34,7 +31,6 @@ use Rattle.walks.proofs.Says.{forward_lists, forward_leads}
 use Rattle.walks.proofs.Hands.{found_handed}
 use Rattle.build_sources.specs.declared.Cursor.{Cursor}
 use Rattle.build_sources.specs.declared.EntryAt.{EntryAt}
-use Rattle.build_sources.specs.declared.Started.{Started}
 use Rattle.build_sources.specs.declared.EntryRead.{EntryRead}
 use Rattle.build_sources.specs.declared.EntryRead.TheVariants.{Got, End, Bad}
 use Rattle.build_sources.specs.Keys.{key_bytes}
@@ -47,6 +43,8 @@ use Rattle.build_sources.proofs.Marked.{marked, short}
 use Rattle.law_rows.specs.Pairs.{bare, child, NoPage, NoVersion}
 use Rattle.law_two_pages.specs.Pairs.{Reads}
 use Rattle.law_two_pages.proofs.On.{On, whole_walk, whole-walk, front_of, first-is, front-on, found-is, leads-is, end_is, found-on, leads-on, carried}
+use Rattle.std.proofs.Common.{Some, Ok}
+use Rattle.walks.specs.declared.Step.{Step}
 
 -- ---- the end of a page
 
@@ -78,7 +76,7 @@ module _ (l w : List ℕ) where
     unfolding next_of pages_next turned
     next-end e z = rw (eq-eqb c.source 2 k, e, eq-eqb c.then.0 0 z)
 
-    next_turn : walked w c ≡ End → (c.then.0 ≡ 0 → ⊥) → (d : Cursor) → page_first w c c.then (addr 0) ≡ Started.From d → next_of l w c ≡ walked w d
+    next_turn : walked w c ≡ End → (c.then.0 ≡ 0 → ⊥) → (d : Cursor) → page_first w c c.then (addr 0) ≡ Some d → next_of l w c ≡ walked w d
     unfolding next_of pages_next turned
     next_turn e n d f = rw (eq-eqb c.source 2 k, e, ne_eqb c.then.0 0 n, f)
 
@@ -112,14 +110,14 @@ pub record Gone {A : Type 0} (tell : Entry → A) (P : Entry → Type 0) (Goes :
 -- a page whose walk lists xs
 pub record Walkable {A : Type 0} (Goes : List ℕ → Walk → List A → Type 0) (w : List ℕ) (a : Addr) (xs : List A) : Type 0 where
   pub body : Body
-  pub opened : open_at w a ≡ Opened.Is body
+  pub opened : open_at w a ≡ Some body
   pub kind : body.kind ≡ 2 → ⊥
   pub pre : List ℕ
   pub prefix : part_in w (bounds_of body).prefix ≡ pre
   pub goes : Goes pre (whole_walk body) xs
 
 module _ {A : Type 0} (tell : Entry → A) (P : Entry → Type 0) (Goes : List ℕ → Walk → List A → Type 0) (l w : List ℕ) (y : Bytes w)
-    (ends : (p : List ℕ) (v : Walk) → Goes p v [] → step_at w v ≡ Step.End)
+    (ends : (p : List ℕ) (v : Walk) → Goes p v [] → step_at w v ≡ Ok Step.End)
     (goes : (p : List ℕ) (c : Cursor) (x : A) (xs : List A) → On w c → part_in w c.pre ≡ p → Goes p c.walk (x ∷ xs) → Gone tell P Goes l w p c x xs) where
   record Lists (c : Cursor) (xs : List A) : Type 0 where
     list : map tell (entries l w c) ≡ xs
@@ -191,9 +189,9 @@ module _ (w : List ℕ) (a : Addr) (p : Page) (m : meaning w a ≡ says p) where
   unfolding prefix_at bounds_at
   pre_says g = rw (g.opened, ne_eqb g.body.kind 2 g.kind) at (prefix_says w a p m)
 
-  whole-begins : (g : Sound w a p) (v : Walk) → forward_at w a 0 g.body.elems ≡ Begun.Is v → whole_walk g.body ≡ v
+  whole-begins : (g : Sound w a p) (v : Walk) → forward_at w a 0 g.body.elems ≡ Ok v → whole_walk g.body ≡ v
   whole-begins g v e =
-      let q : Begun.Is (whole_walk g.body) ≡ Begun.Is v = sym (whole-walk w a g.body g.opened g.kind) ∙ e in
+      let q : Ok (whole_walk g.body) ≡ Ok v = sym (whole-walk w a g.body g.opened g.kind) ∙ e in
       cc
 
   module _ (hs : List Head) (e : p.rows ≡ leaf hs) where
@@ -237,7 +235,7 @@ module _ (w : List ℕ) (a : Addr) (p : Page) (m : meaning w a ≡ says p) where
 -- ---- what a record says
 
 module _ (l w : List ℕ) (y : Bytes w) (p : List ℕ) (c : Cursor) (h : On w c) (e : part_in w c.pre ≡ p) where
-  found-bare : (x : Item) (v : Walk) → step_at w c.walk ≡ Step.Found x v → bare (entry_of l w (page_item w c x.key x.ver x.value x.remote (page_id 0))) ≡ listed.entry_of w p x
+  found-bare : (x : Item) (v : Walk) → step_at w c.walk ≡ Ok (Step.Found x v) → bare (entry_of l w (page_item w c x.key x.ver x.value x.remote (page_id 0))) ≡ listed.entry_of w p x
   unfolding bare entry_of key_bytes listed.entry_of
   found-bare x v s =
       let k = (found_handed w y c.walk h.holds x v s).1 in
@@ -285,11 +283,11 @@ module _ (l w : List ℕ) (y : Bytes w) (p : List ℕ) (c : Cursor) (h : On w c)
         more = g.4;
       }
 
-walks_end : (w p : List ℕ) (v : Walk) → WalksTo w p v [] → step_at w v ≡ Step.End
+walks_end : (w p : List ℕ) (v : Walk) → WalksTo w p v [] → step_at w v ≡ Ok Step.End
 unfolding WalksTo
 walks_end w p v g = g
 
-leads-end : (w p : List ℕ) (v : Walk) → LeadsTo w p v [] → step_at w v ≡ Step.End
+leads-end : (w p : List ℕ) (v : Walk) → LeadsTo w p v [] → step_at w v ≡ Ok Step.End
 unfolding LeadsTo
 leads-end w p v g = g
 

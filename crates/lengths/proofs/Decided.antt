@@ -11,7 +11,6 @@ use denote.Ref.{Bor}
 use denote.Triple.Clauses.{AtExit}
 use Rattle.spans.specs.Only.{Decides, decides}
 use Rattle.spans.proofs.Put.{stored_decided}
-use Rattle.lengths.specs.declared.Length.{Length}
 use Rattle.lengths.specs.Leb128.{uleb, read_len}
 use Rattle.lengths.specs.contracts.read as read_fn
 use Rattle.lengths.proofs.read.Reads as read
@@ -19,9 +18,10 @@ use Rattle.lengths.specs.contracts.size as size_fn
 use Rattle.lengths.proofs.size.Reads as size
 use Rattle.lengths.specs.contracts.write as write_fn
 use Rattle.lengths.proofs.write.Reads as write
+use Rattle.std.proofs.Common.{Option}
 
-pub read_decided : (κs : Lfts 1) (s : Bor (List ℕ)) (at : ℕ) (e : AtExit read_fn.ended κs) → Decides (λ (r : Length). read.Post κs (s, (at, tt)) r e) (λ (r : Length). r)
-read_decided κs s at e = decides (λ (r : Length). r) (read_len s.now at)
+pub read_decided : (κs : Lfts 1) (s : Bor (List ℕ)) (at : ℕ) (e : AtExit read_fn.ended κs) → Decides (λ (r : Option (ℕ × ℕ)). read.Post κs (s, (at, tt)) r e) (λ (r : Option (ℕ × ℕ)). r)
+read_decided κs s at e = decides (λ (r : Option (ℕ × ℕ)). r) (read_len s.now at)
 
 pub size_decided : (x : ℕ) (e : AtExit size_fn.ended tt) → Decides (λ (r : ℕ). size.Post tt (x, tt) r e) (λ (r : ℕ). r)
 size_decided x e = decides (λ (r : ℕ). r) (length (uleb x))

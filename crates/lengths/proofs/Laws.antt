@@ -16,12 +16,11 @@ use Rattle.numbers.specs.Number.{Bytes}
 use Rattle.spans.specs.Span.{put, Lies}
 use Rattle.spans.proofs.Put.{put_cons, put_one}
 use Rattle.spans.proofs.Lying.{lies_drop, drop_lies}
-use Rattle.lengths.specs.declared.Length.{Length}
-use Rattle.lengths.specs.declared.Length.TheVariants.{Is, Bad}
 use Rattle.lengths.specs.Leb128.{enc, uleb, carry, dec, within, read_len}
+use Rattle.std.proofs.Common.{Option, Some, None}
 
 -- P1, P2
-pub rows : (uleb 127 ≡ 0x7F ∷ []) × (uleb 128 ≡ 0x80 ∷ 0x01 ∷ []) × (uleb 12857 ≡ 0xB9 ∷ 0x64 ∷ []) × (read_len (0x80 ∷ 0x00 ∷ []) 0 ≡ Bad)
+pub rows : (uleb 127 ≡ 0x7F ∷ []) × (uleb 128 ≡ 0x80 ∷ 0x01 ∷ []) × (uleb 12857 ≡ 0xB9 ∷ 0x64 ∷ []) × (read_len (0x80 ∷ 0x00 ∷ []) 0 ≡ None)
 unfolding uleb read_len
 rows = (refl, refl, refl, refl)
 
@@ -38,7 +37,7 @@ unfolding enc
 enc_more k n h = simp (le-ltb n 128 h)
 
 -- and of `dec`
-pub dec-last : (k b : ℕ) (l : List ℕ) (here : ℕ) → b < 128 → dec (suc k) (b ∷ l) here ≡ Is b (here + 1)
+pub dec-last : (k b : ℕ) (l : List ℕ) (here : ℕ) → b < 128 → dec (suc k) (b ∷ l) here ≡ Some (b, here + 1)
 unfolding dec
 dec-last k b l here h = simp (lt-ltb b 128 h)
 
@@ -46,28 +45,28 @@ pub dec_more : (k b : ℕ) (l : List ℕ) (here : ℕ) → 128 ≤ b → dec (su
 unfolding dec
 dec_more k b l here h = simp (le-ltb b 128 h)
 
-pub dec_nil : (k here : ℕ) → dec k [] here ≡ Bad
+pub dec_nil : (k here : ℕ) → dec k [] here ≡ None
 unfolding dec
 dec_nil zero here = refl
 dec_nil (suc k) here = refl
 
-pub carry_zero : (a p n : ℕ) → carry a p (Is 0 n) ≡ Bad
+pub carry_zero : (a p n : ℕ) → carry a p (Some (0, n)) ≡ None
 unfolding carry
 carry_zero a p n = refl
 
-pub carry-is : (a p v n : ℕ) → 0 < v → carry a p (Is v n) ≡ Is (a + p * v) n
+pub carry-is : (a p v n : ℕ) → 0 < v → carry a p (Some (v, n)) ≡ Some (a + p * v, n)
 unfolding carry
 carry-is a p v n h = simp (ne_eqb v 0 (λ e. omega arith))
 
 -- two bytes carried are one
-pub carry-carry : (a p c : ℕ) (r : Length) → carry a p (carry c 128 r) ≡ carry (a + p * c) (p * 128) r
+pub carry-carry : (a p c : ℕ) (r : Option (ℕ × ℕ)) → carry a p (carry c 128 r) ≡ carry (a + p * c) (p * 128) r
 unfolding carry
-carry-carry a p c Bad = refl
-carry-carry a p c (Is zero n) = refl
-carry-carry a p c (Is (suc v) n) =
+carry-carry a p c None = refl
+carry-carry a p c (Some (zero, n)) = refl
+carry-carry a p c (Some (suc v, n)) =
     ap (carry a p) (carry-is c 128 (suc v) n (omega arith))
     ∙ carry-is a p (c + 128 * suc v) n (omega arith)
-    ∙ ap (λ (x : ℕ). Is x n) (omega arith)
+    ∙ ap (λ (x : ℕ). Some (x, n)) (omega arith)
     ∙ sym (carry-is (a + p * c) (p * 128) (suc v) n (omega arith))
 
 pub by_order {ℓ} : {X : Type ℓ} (a b : ℕ) → (a < b → X) → (b ≤ a → X) → X
@@ -75,7 +74,7 @@ by_order a b f g = elim (dec_le b a) [ no p ↦ f (lt_of_not-le p) | yes p ↦ g
 
 -- ---- write, then read
 
-dec-enc : (k n : ℕ) (rest : List ℕ) (here : ℕ) → n < 128 ^ suc k → dec (suc k) (enc (suc k) n ++ rest) here ≡ Is n (here + length (enc (suc k) n))
+dec-enc : (k n : ℕ) (rest : List ℕ) (here : ℕ) → n < 128 ^ suc k → dec (suc k) (enc (suc k) n ++ rest) here ≡ Some (n, here + length (enc (suc k) n))
 dec-enc zero n rest here h = rw (enc-last 0 n h) (dec-last 0 n rest here h)
 dec-enc (suc k) n rest here h =
     by_order n 128 (λ l. rw (enc-last (suc k) n l) (dec-last (suc k) n rest here l))
@@ -84,7 +83,7 @@ dec-enc (suc k) n rest here h =
     (dec_more (suc k) (n % 128 + 128) (enc (suc k) (n / 128) ++ rest) here (omega arith)
     ∙ ap (carry (n % 128 + 128 - 128) 128) (dec-enc k (n / 128) rest (here + 1) (omega (arith, pow_128 (suc k))))
     ∙ carry-is (n % 128 + 128 - 128) 128 (n / 128) (here + 1 + length (enc (suc k) (n / 128))) (omega arith)
-    ∙ ap₂ Is (omega arith) (omega arith)))
+    ∙ ap₂ (λ x0 x1. Some (x0, x1)) (omega arith) (omega arith)))
 
 -- any count of bytes that is large enough gives the same
 enc-same : (j k n : ℕ) → n < 128 ^ suc j → n < 128 ^ suc k → enc (suc j) n ≡ enc (suc k) n
@@ -106,15 +105,15 @@ pub uleb_more : (n : ℕ) → 128 ≤ n → n < 4294967296 → uleb n ≡ (n % 1
 unfolding uleb
 uleb_more n h l = enc_more 4 n h ∙ ap (λ (r : List ℕ). (n % 128 + 128) ∷ r) (enc-same 3 4 (n / 128) (omega arith) (omega arith))
 
-pub within-is : (v n : ℕ) → v < 4294967296 → within (Is v n) ≡ Is v n
+pub within-is : (v n : ℕ) → v < 4294967296 → within (Some (v, n)) ≡ Some (v, n)
 unfolding within
 within-is v n h = simp (lt-ltb v 4294967296 h)
 
-pub within-above : (v n : ℕ) → 4294967296 ≤ v → within (Is v n) ≡ Bad
+pub within-above : (v n : ℕ) → 4294967296 ≤ v → within (Some (v, n)) ≡ None
 unfolding within
 within-above v n h = simp (le-ltb v 4294967296 h)
 
-pub read-uleb : (s : List ℕ) (at v : ℕ) (rest : List ℕ) → v < 4294967296 → drop at s ≡ uleb v ++ rest → read_len s at ≡ Is v (at + length (uleb v))
+pub read-uleb : (s : List ℕ) (at v : ℕ) (rest : List ℕ) → v < 4294967296 → drop at s ≡ uleb v ++ rest → read_len s at ≡ Some (v, at + length (uleb v))
 unfolding read_len uleb
 read-uleb s at v rest h e =
     ap (λ (l : List ℕ). within (dec 5 l at)) e ∙ ap within (dec-enc 4 v rest at (omega arith)) ∙ within-is v (at + length (uleb v)) h
@@ -129,17 +128,17 @@ pow_128_pos : (k : ℕ) → 0 < 128 ^ k
 pow_128_pos zero = lit< tt
 pow_128_pos (suc k) = omega (arith, pow_128 k, pow_128_pos k)
 
-never : {X : Type 0} (v n : ℕ) → Bad ≡ Is v n → X
+never : {X : Type 0} (v n : ℕ) → ◌≡◌ {A = Option (ℕ × ℕ)} None (Some (v, n)) → X
 never v n e = let z : ◌≡◌ {A = ℕ} 0 1 = cc in absurd (omega arith)
 
-enc_step : (k b : ℕ) (l : List ℕ) (here v n : ℕ) → 128 ≤ b → b < 256 → (r : Length) → dec k l (here + 1) ≡ r → carry (b - 128) 128 r ≡ Is v n
-    → ((w m : ℕ) → dec k l (here + 1) ≡ Is w m → Found k l (here + 1) w m) → Found (suc k) (b ∷ l) here v n
+enc_step : (k b : ℕ) (l : List ℕ) (here v n : ℕ) → 128 ≤ b → b < 256 → (r : Option (ℕ × ℕ)) → dec k l (here + 1) ≡ r → carry (b - 128) 128 r ≡ Some (v, n)
+    → ((w m : ℕ) → dec k l (here + 1) ≡ Some (w, m) → Found k l (here + 1) w m) → Found (suc k) (b ∷ l) here v n
 unfolding carry
-enc_step k b l here v n hb hc Bad q e ih = never v n e
-enc_step k b l here v n hb hc (Is zero m) q e ih = never v n e
-enc_step k b l here v n hb hc (Is (suc w) m) q e ih =
+enc_step k b l here v n hb hc None q e ih = never v n e
+enc_step k b l here v n hb hc (Some (zero, m)) q e ih = never v n e
+enc_step k b l here v n hb hc (Some (suc w, m)) q e ih =
     let f = ih (suc w) m q in
-    let d : Is (b - 128 + 128 * suc w) m ≡ Is v n = sym (carry-is (b - 128) 128 (suc w) m (omega arith)) ∙ e in
+    let d : ◌≡◌ {A = Option (ℕ × ℕ)} (Some (b - 128 + 128 * suc w, m)) (Some (v, n)) = sym (carry-is (b - 128) 128 (suc w) m (omega arith)) ∙ e in
     let ve : b - 128 + 128 * suc w ≡ v = cc in
     let ne : m ≡ n = cc in
     let lo : v % 128 + 128 ≡ b = omega arith in
@@ -147,33 +146,33 @@ enc_step k b l here v n hb hc (Is (suc w) m) q e ih =
     let E : enc (suc k) v ≡ b ∷ enc k (suc w) = enc_more k v (omega arith) ∙ ap₂ (λ (x y : ℕ). x ∷ enc k y) lo hi in
     (f.0, ap (λ (r : List ℕ). b ∷ r) f.1 ∙ ap (λ (r : List ℕ). r ++ f.0) (sym E), omega (arith, ap length E, f.2), omega (arith, f.3, pow_128 k))
 
-enc-dec : (k : ℕ) (l : List ℕ) (here v n : ℕ) → Bytes l → dec k l here ≡ Is v n → Found k l here v n
+enc-dec : (k : ℕ) (l : List ℕ) (here v n : ℕ) → Bytes l → dec k l here ≡ Some (v, n) → Found k l here v n
 unfolding dec
 enc-dec zero l here v n hb e = never v n e
 enc-dec (suc k) [] here v n hb e = never v n e
 enc-dec (suc k) (b ∷ l) here v n hb e =
     by_order b 128
     (λ h.
-    let d : Is b (here + 1) ≡ Is v n = sym (dec-last k b l here h) ∙ e in
+    let d : ◌≡◌ {A = Option (ℕ × ℕ)} (Some (b, here + 1)) (Some (v, n)) = sym (dec-last k b l here h) ∙ e in
     let ve : b ≡ v = cc in
     let ne : here + 1 ≡ n = cc in
     let E : enc (suc k) v ≡ v ∷ [] = enc-last k v (omega arith) in
     (l, ap (λ (x : ℕ). x ∷ l) ve ∙ ap (λ (r : List ℕ). r ++ l) (sym E), omega (arith, ap length E), omega (arith, pow_128 k, pow_128_pos k)))
     (λ h. enc_step k b l here v n h (hb 0) (dec k l (here + 1)) refl (sym (dec_more k b l here h) ∙ e) (λ w m q. enc-dec k l (here + 1) w m (λ i. hb (suc i)) q))
 
-within_inv : (r : Length) (v n : ℕ) → within r ≡ Is v n → (r ≡ Is v n) × (v < 4294967296)
+within_inv : (r : Option (ℕ × ℕ)) (v n : ℕ) → within r ≡ Some (v, n) → (r ≡ Some (v, n)) × (v < 4294967296)
 unfolding within
-within_inv Bad v n e = never v n e
-within_inv (Is w m) v n e =
+within_inv None v n e = never v n e
+within_inv (Some (w, m)) v n e =
     by_order w 4294967296
     (λ h.
-    let d : Is w m ≡ Is v n = sym (within-is w m h) ∙ e in
+    let d : ◌≡◌ {A = Option (ℕ × ℕ)} (Some (w, m)) (Some (v, n)) = sym (within-is w m h) ∙ e in
     let ve : w ≡ v = cc in
     (d, omega arith))
     (λ h. never v n (sym (within-above w m h) ∙ e))
 
 -- what the reader takes is the shortest form of its value, and nothing else
-pub uleb-read : (s : List ℕ) (at v n : ℕ) → Bytes s → read_len s at ≡ Is v n
+pub uleb-read : (s : List ℕ) (at v n : ℕ) → Bytes s → read_len s at ≡ Some (v, n)
     → (rest : List ℕ) × (drop at s ≡ uleb v ++ rest) × (n ≡ at + length (uleb v)) × (v < 4294967296)
 unfolding read_len uleb
 uleb-read s at v n hb e =
@@ -190,10 +189,10 @@ uleb_unique v w r q hv hw e =
 
 -- ---- the reader's steps: what stands at index here of s
 
-pub dec-end : (s : List ℕ) (here k : ℕ) → length s ≤ here → dec k (drop here s) here ≡ Bad
+pub dec-end : (s : List ℕ) (here k : ℕ) → length s ≤ here → dec k (drop here s) here ≡ None
 dec-end s here k h = ap (λ (l : List ℕ). dec k l here) (drop_of_length-le s h) ∙ dec_nil k here
 
-pub dec-at-last : (s : List ℕ) (here k : ℕ) → here < length s → 0 < k → get_or s here 0 < 128 → dec k (drop here s) here ≡ Is (get_or s here 0) (here + 1)
+pub dec-at-last : (s : List ℕ) (here k : ℕ) → here < length s → 0 < k → get_or s here 0 < 128 → dec k (drop here s) here ≡ Some (get_or s here 0, here + 1)
 dec-at-last s here zero h z l = absurd (omega arith)
 dec-at-last s here (suc k) h z l = ap (λ (r : List ℕ). dec (suc k) r here) (drop-cons s here 0 h) ∙ dec-last k (get_or s here 0) (drop (suc here) s) here l
 
@@ -206,11 +205,11 @@ dec-at_more s here (suc k) h z l =
     ∙ dec_more k (get_or s here 0) (drop (suc here) s) here l
     ∙ ap₂ (λ (i j : ℕ). carry (get_or s here 0 - 128) 128 (dec i (drop j s) (here + 1))) e (sym (add-one here))
 
-pub read-end : (s : List ℕ) (at : ℕ) → length s ≤ at → read_len s at ≡ Bad
+pub read-end : (s : List ℕ) (at : ℕ) → length s ≤ at → read_len s at ≡ None
 unfolding read_len within
 read-end s at h = ap within (dec-end s at 5 h)
 
-pub read_one : (s : List ℕ) (at : ℕ) → at < length s → get_or s at 0 < 128 → read_len s at ≡ Is (get_or s at 0) (at + 1)
+pub read_one : (s : List ℕ) (at : ℕ) → at < length s → get_or s at 0 < 128 → read_len s at ≡ Some (get_or s at 0, at + 1)
 unfolding read_len
 read_one s at h l = ap within (dec-at-last s at 5 h (lit< tt) l) ∙ within-is (get_or s at 0) (at + 1) (omega arith)
 
@@ -221,37 +220,37 @@ read_first s at h l = ap within (dec-at_more s at 5 h (lit< tt) l)
 
 -- so far v was read, p is the weight of the next byte, which is at index here, and k bytes are left
 module _ (s : List ℕ) (at v p k here : ℕ) (e : read_len s at ≡ within (carry v p (dec k (drop here s) here))) where
-  pub step_end : length s ≤ here → read_len s at ≡ Bad
+  pub step_end : length s ≤ here → read_len s at ≡ None
   unfolding within carry
-  step_end h = e ∙ ap (λ (r : Length). within (carry v p r)) (dec-end s here k h)
+  step_end h = e ∙ ap (λ (r : Option (ℕ × ℕ)). within (carry v p r)) (dec-end s here k h)
 
-  pub step_none : k ≤ 0 → read_len s at ≡ Bad
+  pub step_none : k ≤ 0 → read_len s at ≡ None
   unfolding within carry dec
   step_none h =
       let z : k ≡ 0 = omega arith in
       e ∙ ap (λ (i : ℕ). within (carry v p (dec i (drop here s) here))) z
 
-  last : here < length s → 0 < k → get_or s here 0 < 128 → read_len s at ≡ within (carry v p (Is (get_or s here 0) (here + 1)))
-  last h z l = e ∙ ap (λ (r : Length). within (carry v p r)) (dec-at-last s here k h z l)
+  last : here < length s → 0 < k → get_or s here 0 < 128 → read_len s at ≡ within (carry v p (Some (get_or s here 0, here + 1)))
+  last h z l = e ∙ ap (λ (r : Option (ℕ × ℕ)). within (carry v p r)) (dec-at-last s here k h z l)
 
-  pub step_zero : here < length s → 0 < k → get_or s here 0 ≡ 0 → read_len s at ≡ Bad
+  pub step_zero : here < length s → 0 < k → get_or s here 0 ≡ 0 → read_len s at ≡ None
   unfolding within carry
-  step_zero h z l = last h z (omega arith) ∙ ap (λ (b : ℕ). within (carry v p (Is b (here + 1)))) l
+  step_zero h z l = last h z (omega arith) ∙ ap (λ (b : ℕ). within (carry v p (Some (b, here + 1)))) l
 
-  whole : here < length s → 0 < k → get_or s here 0 < 128 → 0 < get_or s here 0 → read_len s at ≡ within (Is (v + p * get_or s here 0) (here + 1))
+  whole : here < length s → 0 < k → get_or s here 0 < 128 → 0 < get_or s here 0 → read_len s at ≡ within (Some (v + p * get_or s here 0, here + 1))
   whole h z l m = last h z l ∙ ap within (carry-is v p (get_or s here 0) (here + 1) m)
 
-  pub step_last : here < length s → 0 < k → get_or s here 0 < 128 → 0 < get_or s here 0 → v + p * get_or s here 0 < 4294967296 → read_len s at ≡ Is (v + p * get_or s here 0) (here + 1)
+  pub step_last : here < length s → 0 < k → get_or s here 0 < 128 → 0 < get_or s here 0 → v + p * get_or s here 0 < 4294967296 → read_len s at ≡ Some (v + p * get_or s here 0, here + 1)
   step_last h z l m w = whole h z l m ∙ within-is (v + p * get_or s here 0) (here + 1) w
 
-  pub step_above : here < length s → 0 < k → get_or s here 0 < 128 → 0 < get_or s here 0 → 4294967296 ≤ v + p * get_or s here 0 → read_len s at ≡ Bad
+  pub step_above : here < length s → 0 < k → get_or s here 0 < 128 → 0 < get_or s here 0 → 4294967296 ≤ v + p * get_or s here 0 → read_len s at ≡ None
   step_above h z l m w = whole h z l m ∙ within-above (v + p * get_or s here 0) (here + 1) w
 
   pub step_more : here < length s → 0 < k → 128 ≤ get_or s here 0
       → read_len s at ≡ within (carry (v + p * (get_or s here 0 - 128)) (p * 128) (dec (k - 1) (drop (here + 1) s) (here + 1)))
   step_more h z l =
       e
-      ∙ ap (λ (r : Length). within (carry v p r)) (dec-at_more s here k h z l)
+      ∙ ap (λ (r : Option (ℕ × ℕ)). within (carry v p r)) (dec-at_more s here k h z l)
       ∙ ap within (carry-carry v p (get_or s here 0 - 128) (dec (k - 1) (drop (here + 1) s) (here + 1)))
 
 -- the weight of the next byte, where k bytes are left
@@ -313,10 +312,10 @@ uleb-few n = enc-few 5 n
 
 -- ---- a length that lies at an index, both directions
 
-pub read_lies : (s : List ℕ) (at v : ℕ) → v < 4294967296 → Lies s at (uleb v) → read_len s at ≡ Is v (at + length (uleb v))
+pub read_lies : (s : List ℕ) (at v : ℕ) → v < 4294967296 → Lies s at (uleb v) → read_len s at ≡ Some (v, at + length (uleb v))
 read_lies s at v h e = read-uleb s at v (drop (at + length (uleb v)) s) h (lies_drop s at (uleb v) e)
 
-pub lies_read : (s : List ℕ) (at v n : ℕ) → Bytes s → read_len s at ≡ Is v n → Lies s at (uleb v) × (n ≡ at + length (uleb v)) × (v < 4294967296)
+pub lies_read : (s : List ℕ) (at v n : ℕ) → Bytes s → read_len s at ≡ Some (v, n) → Lies s at (uleb v) × (n ≡ at + length (uleb v)) × (v < 4294967296)
 lies_read s at v n hb e =
     let f = uleb-read s at v n hb e in
     (drop_lies s at (uleb v) f.0 f.1, f.2, f.3)

@@ -5,22 +5,15 @@ ghost use Rattle.std.specs.Prelude.{◌≡◌, ◌+◌, ◌≤◌, true, length}
 ghost use Rattle.spans.specs.Span.{put, Stored};
 ghost use Rattle.lengths.specs.Leb128.{uleb, read_len};
 
-// What reading a length finds: its value and the index behind it.
-#[derive(Clone, Copy)]
-pub enum Length {
-    Is(u32, usize),
-    Bad,
-}
-
-pub fn read(s: &[u8], at: usize) -> Length
+pub fn read(s: &[u8], at: usize) -> Option<(u32, usize)>
     ensures { result ≡ read_len s.now at }
 {
     if s.len() <= at {
-        return Length::Bad;
+        return None;
     }
     let first = s[at];
     if first < 128 {
-        return Length::Is(first as u32, at + 1);
+        return Some((first as u32, at + 1));
     }
     let mut here = at + 1;
     let mut v = (first - 128) as u64;
@@ -28,25 +21,25 @@ pub fn read(s: &[u8], at: usize) -> Length
     let mut left: u32 = 4;
     while 0 < left {
         if s.len() <= here {
-            return Length::Bad;
+            return None;
         }
         let b = s[here] as u64;
         here += 1;
         if b < 128 {
             if b == 0 {
-                return Length::Bad;
+                return None;
             }
             let whole = v + p * b;
             if whole < 4294967296 {
-                return Length::Is(whole as u32, here);
+                return Some((whole as u32, here));
             }
-            return Length::Bad;
+            return None;
         }
         v = v + p * (b - 128);
         p = p * 128;
         left -= 1;
     }
-    Length::Bad
+    None
 }
 
 // How many bytes the length x takes.

@@ -4,7 +4,6 @@
 
 ghost use Rattle.std.specs.Prelude.{◌≤◌};
 
-use lengths::Length;
 use replay_text::Number;
 use std::io;
 use std::io::{BufWriter, Write};
@@ -14,21 +13,21 @@ fn refused(s: &[u8]) -> u64
     ensures { result ≤ 1 }
 {
     match lengths::read(s, 0) {
-        Length::Is(_, _) => 0,
-        Length::Bad => 1,
+        Some((_, _)) => 0,
+        None => 1,
     }
 }
 
 // Whether the length at place 1 reads back as x and ends where n bytes end.
 fn reads_back(s: &[u8], x: u32, n: usize) -> bool {
     match lengths::read(s, 1) {
-        Length::Is(v, next) => {
+        Some((v, next)) => {
             if next == 0 {
                 return false;
             }
             (v == x) & (next - 1 == n) & (lengths::size(x) == n)
         }
-        Length::Bad => false,
+        None => false,
     }
 }
 

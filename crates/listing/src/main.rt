@@ -4,11 +4,10 @@
 
 ghost use Rattle.std.specs.Prelude.{◌≡◌, length};
 
-use build_image::Built;
-use frames::{Addr, NULL_PID, Opened, Refusal};
+use frames::{Addr, NULL_PID, Refusal};
 use std::io;
 use std::io::{BufWriter, Write};
-use walks::{Begun, Item, Step, Walk};
+use walks::{Item, Step, Walk};
 
 fn refused<W: Write>(out: &mut W, r: Refusal) -> io::Result<()> {
     let n = frames::number(r);
@@ -21,16 +20,16 @@ fn count(s: &[u8], from: Walk) -> usize {
     let mut k: usize = 0;
     while k < 16384 {
         match w.step(s) {
-            Step::Found(_, next) => {
+            Ok(Step::Found(_, next)) => {
                 w = next;
             }
-            Step::Leads(_, next) => {
+            Ok(Step::Leads(_, next)) => {
                 w = next;
             }
-            Step::End => {
+            Ok(Step::End) => {
                 return k;
             }
-            Step::Refused(_) => {
+            Err(_) => {
                 return k;
             }
         }
@@ -55,17 +54,17 @@ fn lines<W: Write>(out: &mut W, s: &[u8], from: Walk) -> io::Result<()> {
     let mut k: usize = 0;
     while k < 16384 {
         match w.step(s) {
-            Step::Found(x, next) => {
+            Ok(Step::Found(x, next)) => {
                 line(out, s, x)?;
                 w = next;
             }
-            Step::Leads(_, next) => {
+            Ok(Step::Leads(_, next)) => {
                 w = next;
             }
-            Step::End => {
+            Ok(Step::End) => {
                 return Ok(());
             }
-            Step::Refused(r) => {
+            Err(r) => {
                 return refused(out, r);
             }
         }
@@ -76,18 +75,18 @@ fn lines<W: Write>(out: &mut W, s: &[u8], from: Walk) -> io::Result<()> {
 
 // What the page at an address says.
 fn listed<W: Write>(out: &mut W, s: &[u8], a: Addr) -> io::Result<()> {
-    let Opened::Is(b) = frames::open_at(s, a) else {
+    let Some(b) = frames::open_at(s, a) else {
         return refused(out, Refusal::BadFrame);
     };
     let keys = b.elems;
     let begun = walks::forward(s, a, 0, keys);
     match begun {
-        Begun::Is(w) => {
+        Ok(w) => {
             let records = count(s, w);
             writeln!(out, "keys {keys} records {records}")?;
             lines(out, s, w)
         }
-        Begun::Refused(r) => refused(out, r),
+        Err(r) => refused(out, r),
     }
 }
 
@@ -95,8 +94,8 @@ fn listed<W: Write>(out: &mut W, s: &[u8], a: Addr) -> io::Result<()> {
 fn built<W: Write>(out: &mut W, arena: &mut [u8], list: &[u8]) -> io::Result<()> {
     let r = base::new_leaf(arena, 8, list, b"", b"", NULL_PID, 64, 256, 0, 0, 0, 0);
     match r {
-        Built::At(a, _) => listed(out, &arena[..], a),
-        Built::Refused(n) => refused(out, n),
+        Ok((a, _)) => listed(out, &arena[..], a),
+        Err(n) => refused(out, n),
     }
 }
 

@@ -7,7 +7,6 @@ use mathlib.Core.List.{List, [], ◌++◌}
 use native.Mathlib.Omega.{arith}
 use Rattle.frames.specs.declared.Addr.{Addr}
 use Rattle.frames.specs.declared.Body.{Body}
-use Rattle.frames.specs.declared.Opened.{Opened}
 use Rattle.frames.specs.Layout.{open_at}
 use Rattle.pages.specs.Meaning.{Rows, leaf, index, meaning}
 use Rattle.pages.proofs.Given as goal
@@ -24,24 +23,24 @@ use Rattle.build_rows.specs.Judged.{Judged}
 use Rattle.build_rows.proofs.Rows.{sound_judged, sound_entries, leaf_all, index_all}
 use Rattle.build_table.specs.Index.{Held}
 use Rattle.build_table.specs.Pages.{in_leaves, Leaves}
-use Rattle.merge.specs.declared.Kind.{Kind}
-use Rattle.merge.specs.declared.Gathered.{Gathered}
 use Rattle.merge.specs.Merge.{kind_by, said_kind, Sound, bounds_in, meet_in, merged, gathered}
 use Rattle.merge.proofs.Said.{meet_said, meeting_6, meeting_inside}
 use Rattle.merge.proofs.Gathering.{Ready}
 use Rattle.merge.proofs.Merging.{ready}
+use Rattle.std.proofs.Common.{Some, None}
+use Rattle.merge.specs.declared.Kind.{Kind}
 
 -- a sound page of a kind that was opened is judged, and its entries are those of its body
 record Opens (w : List ℕ) (a : Addr) (b : Body) (kind : ℕ) : Type 0 where
   judged : Judged w b kind
   holds : page_entries w a ≡ body_entries w b
 
-module _ (w : List ℕ) (a : Addr) (b : Body) (o : open_at w a ≡ Opened.Is b) (p : Sound w a) where
+module _ (w : List ℕ) (a : Addr) (b : Body) (o : open_at w a ≡ Some b) (p : Sound w a) where
   g : goal.Sound w a p.0
   g = sound_given w a p.0 p.1
 
-  same_body : (x : Body) → open_at w a ≡ Opened.Is x → x ≡ b
-  same_body x e = let z : Opened.Is x ≡ Opened.Is b = sym e ∙ o in cc
+  same_body : (x : Body) → open_at w a ≡ Some x → x ≡ b
+  same_body x e = let z : Some x ≡ Some b = sym e ∙ o in cc
 
   opens : (k : ℕ) → (x : goal.Sound w a p.0) → x.body.kind ≡ k → Opens w a b k
   opens k x e =
@@ -51,32 +50,32 @@ module _ (w : List ℕ) (a : Addr) (b : Body) (o : open_at w a ≡ Opened.Is b) 
         holds = sound_entries w a p.0 x ∙ ap (body_entries w) s;
       }
 
-  leaf_opens : said_kind (meaning w a) ≡ Kind.Leaf → Opens w a b 0
+  leaf_opens : said_kind (meaning w a) ≡ Some Kind.Leaf → Opens w a b 0
   leaf_opens k = by p.0.rows refl (sym (ap said_kind p.1) ∙ k)
     where
-      by : (r : Rows) → p.0.rows ≡ r → kind_by p.0.rows ≡ Kind.Leaf → Opens w a b 0
+      by : (r : Rows) → p.0.rows ≡ r → kind_by p.0.rows ≡ Some Kind.Leaf → Opens w a b 0
       by (leaf hs) e z = let l = is_leaf w a p.0 p.1 hs e in opens 0 l.sound l.kind
       by (index cs) e z = absurd (let y = sym (ap kind_by e) ∙ z in let x : ◌≡◌ {A = ℕ} 0 1 = cc in omega arith)
 
-  index_opens : said_kind (meaning w a) ≡ Kind.Index → Opens w a b 1
+  index_opens : said_kind (meaning w a) ≡ Some Kind.Index → Opens w a b 1
   index_opens k = by p.0.rows refl (sym (ap said_kind p.1) ∙ k)
     where
-      by : (r : Rows) → p.0.rows ≡ r → kind_by p.0.rows ≡ Kind.Index → Opens w a b 1
+      by : (r : Rows) → p.0.rows ≡ r → kind_by p.0.rows ≡ Some Kind.Index → Opens w a b 1
       by (leaf hs) e z = absurd (let y = sym (ap kind_by e) ∙ z in let x : ◌≡◌ {A = ℕ} 0 1 = cc in omega arith)
       by (index cs) e z = let l = is_index_lem w a p.0 p.1 cs e in opens 1 l.sound l.kind
 
-  pub never_shut : open_at w a ≡ Opened.Bad → ⊥
-  never_shut e = let z : Opened.Bad ≡ Opened.Is b = sym e ∙ o in let y : ◌≡◌ {A = ℕ} 0 1 = cc in omega arith
+  pub never_shut : open_at w a ≡ None → ⊥
+  never_shut e = let z : None ≡ Some b = sym e ∙ o in let y : ◌≡◌ {A = ℕ} 0 1 = cc in omega arith
 
-pub opens_always : (w : List ℕ) (a : Addr) → Sound w a → open_at w a ≡ Opened.Bad → ⊥
+pub opens_always : (w : List ℕ) (a : Addr) → Sound w a → open_at w a ≡ None → ⊥
 opens_always w a p e =
     let g = sound_given w a p.0 p.1 in
-    let z : Opened.Bad ≡ Opened.Is g.body = sym e ∙ g.opened in
+    let z : None ≡ Some g.body = sym e ∙ g.opened in
     let y : ◌≡◌ {A = ℕ} 0 1 = cc in
     omega arith
 
-module _ (w : List ℕ) (left right : Addr) (p : Sound w left) (q : Sound w right) (c : Cursor) (e : Boundaries) (f : gathered w left right ≡ Gathered.Is c e) (l : List ℕ) (z : l ≡ [])
-    (met : meet_in w left right ≡ true) (b : Body) (ob : open_at w left ≡ Opened.Is b) (d : Body) (od : open_at w right ≡ Opened.Is d) where
+module _ (w : List ℕ) (left right : Addr) (p : Sound w left) (q : Sound w right) (c : Cursor) (e : Boundaries) (f : gathered w left right ≡ Some (c, e)) (l : List ℕ) (z : l ≡ [])
+    (met : meet_in w left right ≡ true) (b : Body) (ob : open_at w left ≡ Some b) (d : Body) (od : open_at w right ≡ Some d) where
   r : Ready w left right c e
   r = ready w left right p q c e f l z
 
@@ -100,7 +99,7 @@ module _ (w : List ℕ) (left right : Addr) (p : Sound w left) (q : Sound w righ
 
   -- ---- leaves
 
-  module _ (kl : said_kind (meaning w left) ≡ Kind.Leaf) (kr : said_kind (meaning w right) ≡ Kind.Leaf) where
+  module _ (kl : said_kind (meaning w left) ≡ Some Kind.Leaf) (kr : said_kind (meaning w right) ≡ Some Kind.Leaf) where
     leaves-same : kind_by p.0.rows ≡ kind_by q.0.rows
     leaves-same = sym (ap said_kind p.1) ∙ kl ∙ sym kr ∙ ap said_kind q.1
 
@@ -129,7 +128,7 @@ module _ (w : List ℕ) (left right : Addr) (p : Sound w left) (q : Sound w righ
 
   -- ---- index pages
 
-  module _ (kl : said_kind (meaning w left) ≡ Kind.Index) (kr : said_kind (meaning w right) ≡ Kind.Index) where
+  module _ (kl : said_kind (meaning w left) ≡ Some Kind.Index) (kr : said_kind (meaning w right) ≡ Some Kind.Index) where
     abbrev children : List Entry
     children = index_entries w b (b.elems - 0) 0 ++ index_entries w d d.elems 0
 

@@ -14,19 +14,14 @@ use Rattle.spans.proofs.Part.{length_part, part_or_in}
 use Rattle.frames.specs.declared.Addr.{Addr}
 use Rattle.frames.specs.declared.BoxHeader.{BoxHeader}
 use Rattle.frames.specs.declared.BaseHeader.{BaseHeader}
-use Rattle.frames.specs.declared.FrameRead.{FrameRead}
-use Rattle.frames.specs.declared.PageRead.{PageRead}
 use Rattle.frames.specs.declared.Body.{Body}
-use Rattle.frames.specs.declared.Opened.{Opened}
 use Rattle.frames.specs.Layout.{box_len, base_len, box_at, base_fields, zeros_ok, leaf_ok, index_ok, many_ok, history_ok, payload_ok, lengths_ok, base_ok, page_of, page_at, body_of, open_of, open_at, box_base}
 use Rattle.frames.specs.Limits.{max_key}
 use Rattle.frames.proofs.Frames.{and_l, and_r, open_inside}
-use Rattle.pages.specs.declared.BoundsRead.{BoundsRead}
 use Rattle.pages.specs.Boundaries.{part_in, bounds_of, bounds_at, lo_at, hi_at}
 use Rattle.pages.specs.Meaning.{Page, says, meaning}
 use Rattle.pages.proofs.Given.{Sound, sound_given}
 use Rattle.build_sources.specs.declared.Cursor.{Cursor}
-use Rattle.build_sources.specs.declared.Started.{Started}
 use Rattle.build_sources.specs.Lists.{first_of}
 use Rattle.build_sources.specs.Pages.{page_first}
 use Rattle.build_image.specs.Prefix.{common}
@@ -36,8 +31,8 @@ use Rattle.build_bounds.specs.Boundaries as boundaries_specs
 use Rattle.build_bounds.specs.Boundaries.{Within, boundary_bytes}
 use Rattle.build_table.specs.Index.{Held}
 use Rattle.law_two_pages.proofs.On.{front_of, first-is, bounds_are}
-use Rattle.merge.specs.declared.Gathered.{Gathered}
 use Rattle.merge.specs.Merge.{bounds_in, boundaries_in, gathered}
+use Rattle.std.proofs.Common.{Option, Some, None, Ok}
 
 -- ---- a page's boundaries are short (it belongs to `frames`)
 
@@ -53,22 +48,22 @@ base_short x h o =
     let o3 = and_r front (lengths_ok h) (and_l (front && lengths_ok h) p o2) in
     (leb-true h.lo_len max_key (and_l (leb h.lo_len max_key) (leb h.hi_len max_key) o3), leb-true h.hi_len max_key (and_r (leb h.lo_len max_key) (leb h.hi_len max_key) o3))
 
-open_short : (s : List ℕ) (a : Addr) (b : Body) → open_at s a ≡ Opened.Is b → (b.lo_len ≤ max_key) × (b.hi_len ≤ max_key)
+open_short : (s : List ℕ) (a : Addr) (b : Body) → open_at s a ≡ Some b → (b.lo_len ≤ max_key) × (b.hi_len ≤ max_key)
 unfolding open_at page_at body_of
 open_short s a b e = go (box_at s a) e
   where
-    no : Opened.Bad ≡ Opened.Is b → ⊥
+    no : None ≡ Some b → ⊥
     no z = let x : ◌≡◌ {A = ℕ} 0 1 = cc in omega arith
 
-    by : (h : BoxHeader) (t u v : Bool) → base_ok h (base_fields s (a.0 + box_len)) ≡ v → open_of a (cond t (cond u (cond v (PageRead.Page h (base_fields s (a.0 + box_len))) PageRead.Bad) PageRead.Bad) PageRead.Bad) ≡ Opened.Is b → (b.lo_len ≤ max_key) × (b.hi_len ≤ max_key)
+    by : (h : BoxHeader) (t u v : Bool) → base_ok h (base_fields s (a.0 + box_len)) ≡ v → open_of a (cond t (cond u (cond v (Some (h, base_fields s (a.0 + box_len))) None) None) None) ≡ Some b → (b.lo_len ≤ max_key) × (b.hi_len ≤ max_key)
     by h true true true k q = let x : body_of a h (base_fields s (a.0 + box_len)) ≡ b = cc in rw (← x) (base_short h (base_fields s (a.0 + box_len)) k)
     by h true true false k q = absurd (no q)
     by h true false v k q = absurd (no q)
     by h false u v k q = absurd (no q)
 
-    go : (f : FrameRead) → open_of a (page_of s a.0 f) ≡ Opened.Is b → (b.lo_len ≤ max_key) × (b.hi_len ≤ max_key)
-    go (FrameRead.Frame h) q = by h (eqb h.box_kind box_base) (leb base_len h.payload_size) (base_ok h (base_fields s (a.0 + box_len))) refl q
-    go FrameRead.Bad q = absurd (no q)
+    go : (f : Option BoxHeader) → open_of a (page_of s a.0 f) ≡ Some b → (b.lo_len ≤ max_key) × (b.hi_len ≤ max_key)
+    go (Some h) q = by h (eqb h.box_kind box_base) (leb base_len h.payload_size) (base_ok h (base_fields s (a.0 + box_len))) refl q
+    go None q = absurd (no q)
 
 -- ---- what is gathered
 
@@ -76,7 +71,7 @@ open_short s a b e = go (box_at s a) e
 pub record Ready (w : List ℕ) (left right : Addr) (c : Cursor) (e : Boundaries) : Type 0 where
   pub held : Held [] [] w e
   pub bounds : boundaries_specs.bounds_of [] [] w e ≡ bounds_in w left right
-  pub cursor : page_first w (first_of 2) left right ≡ Started.From c
+  pub cursor : page_first w (first_of 2) left right ≡ Some c
 
 module _ (w : List ℕ) (left right : Addr) (p q : Page) (m : meaning w left ≡ says p) (n : meaning w right ≡ says q) where
   g : Sound w left p
@@ -97,16 +92,16 @@ module _ (w : List ℕ) (left right : Addr) (p q : Page) (m : meaning w left ≡
   abbrev held_boundaries : Boundaries
   held_boundaries = boundaries_in w (bounds_of b) (bounds_of d)
 
-  begun : page_first w (first_of 2) left right ≡ Started.From front
+  begun : page_first w (first_of 2) left right ≡ Some front
   begun = first-is w (first_of 2) left right b g.opened g.kind
 
-  left-bounds : bounds_at w left ≡ BoundsRead.Is (bounds_of b)
+  left-bounds : bounds_at w left ≡ Ok (bounds_of b)
   left-bounds = bounds_are w (first_of 2) left right b g.opened g.kind
 
-  right-bounds : bounds_at w right ≡ BoundsRead.Is (bounds_of d)
+  right-bounds : bounds_at w right ≡ Ok (bounds_of d)
   right-bounds = bounds_are w (first_of 2) right left d h.opened h.kind
 
-  gathered-is : gathered w left right ≡ Gathered.Is front held_boundaries
+  gathered-is : gathered w left right ≡ Some (front, held_boundaries)
   unfolding gathered
   gathered-is = rw (begun, left-bounds, right-bounds)
 
@@ -173,12 +168,12 @@ module _ (w : List ℕ) (left right : Addr) (p q : Page) (m : meaning w left ≡
       }
 
   -- THE LAWS
-  pub gathers : gathered w left right ≡ Gathered.Bad → ⊥
-  gathers e = let z : Gathered.Is front held_boundaries ≡ Gathered.Bad = sym gathered-is ∙ e in let y : ◌≡◌ {A = ℕ} 0 1 = cc in omega arith
+  pub gathers : gathered w left right ≡ None → ⊥
+  gathers e = let z : ◌≡◌ {A = Option (Cursor × Boundaries)} (Some (front, held_boundaries)) None = sym gathered-is ∙ e in let y : ◌≡◌ {A = ℕ} 0 1 = cc in omega arith
 
-  pub gathered_ready : (c : Cursor) (e : Boundaries) → gathered w left right ≡ Gathered.Is c e → Ready w left right c e
+  pub gathered_ready : (c : Cursor) (e : Boundaries) → gathered w left right ≡ Some (c, e) → Ready w left right c e
   gathered_ready c e f =
-      let z : Gathered.Is front held_boundaries ≡ Gathered.Is c e = sym gathered-is ∙ f in
+      let z : ◌≡◌ {A = Option (Cursor × Boundaries)} (Some (front, held_boundaries)) (Some (c, e)) = sym gathered-is ∙ f in
       let x : front ≡ c = cc in
       let y : held_boundaries ≡ e = cc in
       rw (← x, ← y) ready

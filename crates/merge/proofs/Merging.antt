@@ -11,18 +11,14 @@ use lib.ListN.{take}
 use Rattle.numbers.specs.Number.{Bytes}
 use Rattle.frames.specs.declared.Addr.{Addr}
 use Rattle.frames.specs.declared.Body.{Body}
-use Rattle.frames.specs.declared.Opened.{Opened}
 use Rattle.frames.specs.declared.Refusal.{Refusal}
 use Rattle.frames.specs.Layout.{open_at}
-use Rattle.pages.specs.declared.Checked.{Checked}
 use Rattle.pages.specs.Meaning.{Rows, leaf, index, Page, Said, nothing, says, heads_from, children_from, page_says, meaning, check_of}
 use Rattle.pages.proofs.Given as goal
 use Rattle.pages.proofs.Given.{sound_given}
-use Rattle.pages.specs.declared.BoundsRead.{BoundsRead}
 use Rattle.pages.specs.declared.Bounds.{Bounds}
 use Rattle.pages.specs.Boundaries.{part_in, bounds_at}
 use Rattle.build_sources.specs.declared.Cursor.{Cursor}
-use Rattle.build_sources.specs.declared.Started.{Started}
 use Rattle.build_sources.specs.Lists.{first_of}
 use Rattle.build_sources.specs.Pages.{page_first}
 use Rattle.build_sources.specs.Source.{Entry, entries}
@@ -38,67 +34,67 @@ use Rattle.law_two_pages.specs.Pairs.{Reads}
 use Rattle.law_two_pages.proofs.Pages.{two_leaves, two_indexes}
 use Rattle.law_rows.specs.Pairs.{bare, child, NoPage, NoVersion}
 use Rattle.law_rows.proofs.Alike.{Alike, rising-alike, prefixed-alike, leaves_alike, indexes-alike}
-use Rattle.merge.specs.declared.Kind.{Kind}
-use Rattle.merge.specs.declared.Gathered.{Gathered}
 use Rattle.merge.specs.Merge.{kind_by, said_kind, Sound, bounds_in, merged, boundary_in, gathered}
 use Rattle.merge.specs.Answer.{apart_in}
 use Rattle.merge.proofs.Said.{leaves-list, indexes-list, indexes_said}
 use Rattle.merge.proofs.Gathering.{Ready, gathers, gathered_ready}
+use Rattle.std.proofs.Common.{Some, None, Ok, Err}
+use Rattle.merge.specs.declared.Kind.{Kind}
 
 -- ---- kinds
 
 module _ (s : List ℕ) (a : Addr) where
-  pub kind_bad : (r : Refusal) → check_of (meaning s a) ≡ Checked.Refused r → Kind.Bad ≡ said_kind (meaning s a)
+  pub kind_bad : (r : Refusal) → check_of (meaning s a) ≡ Err r → None ≡ said_kind (meaning s a)
   kind_bad r e = go (meaning s a) e
     where
-      go : (m : Said) → check_of m ≡ Checked.Refused r → Kind.Bad ≡ said_kind m
+      go : (m : Said) → check_of m ≡ Err r → None ≡ said_kind m
       go nothing e = refl
       go (says p) e = absurd (let z : ◌≡◌ {A = ℕ} 0 1 = cc in omega arith)
 
-  rows-kind : (b : Body) (t : Bool) → kind_by (cond t (index (children_from s b b.elems 0)) (leaf (heads_from s b b.elems 0))) ≡ cond t Kind.Index Kind.Leaf
+  rows-kind : (b : Body) (t : Bool) → kind_by (cond t (index (children_from s b b.elems 0)) (leaf (heads_from s b b.elems 0))) ≡ cond t (Some Kind.Index) (Some Kind.Leaf)
   rows-kind b true = refl
   rows-kind b false = refl
 
-  says_kind : (p : Page) (g : goal.Sound s a p) → kind_by p.rows ≡ cond (eqb g.body.kind 1) Kind.Index Kind.Leaf
+  says_kind : (p : Page) (g : goal.Sound s a p) → kind_by p.rows ≡ cond (eqb g.body.kind 1) (Some Kind.Index) (Some Kind.Leaf)
   unfolding page_says
   says_kind p g = ap (λ (q : Page). kind_by q.rows) (sym g.said) ∙ rows-kind g.body (eqb g.body.kind 1)
 
-  module _ (e : check_of (meaning s a) ≡ Checked.Sound) where
+  module _ (e : check_of (meaning s a) ≡ Ok tt) where
     said : (p : Page) × (meaning s a ≡ says p)
     said = go (meaning s a) refl e
       where
-        go : (m : Said) → meaning s a ≡ m → check_of m ≡ Checked.Sound → (p : Page) × (meaning s a ≡ says p)
+        go : (m : Said) → meaning s a ≡ m → check_of m ≡ Ok tt → (p : Page) × (meaning s a ≡ says p)
         go nothing q e = absurd (let z : ◌≡◌ {A = ℕ} 0 1 = cc in omega arith)
         go (says p) q e = (p, q)
 
-    kind_by_lem : (b : Body) → open_at s a ≡ Opened.Is b → said_kind (meaning s a) ≡ cond (eqb b.kind 1) Kind.Index Kind.Leaf
+    kind_by_lem : (b : Body) → open_at s a ≡ Some b → said_kind (meaning s a) ≡ cond (eqb b.kind 1) (Some Kind.Index) (Some Kind.Leaf)
     kind_by_lem b o =
         let g = sound_given s a said.0 said.1 in
-        let x : Opened.Is g.body ≡ Opened.Is b = sym g.opened ∙ o in
+        let x : Some g.body ≡ Some b = sym g.opened ∙ o in
         let y : g.body ≡ b = cc in
-        ap said_kind said.1 ∙ says_kind said.0 g ∙ ap (λ (z : Body). cond (eqb z.kind 1) Kind.Index Kind.Leaf) y
+        ap said_kind said.1 ∙ says_kind said.0 g ∙ ap (λ (z : Body). cond (eqb z.kind 1) (Some Kind.Index) (Some Kind.Leaf)) y
 
-    pub kind_index : (b : Body) → open_at s a ≡ Opened.Is b → b.kind ≡ 1 → Kind.Index ≡ said_kind (meaning s a)
+    pub kind_index : (b : Body) → open_at s a ≡ Some b → b.kind ≡ 1 → (Some Kind.Index) ≡ said_kind (meaning s a)
     kind_index b o k = sym (kind_by_lem b o ∙ rw (eq-eqb b.kind 1 k))
 
-    pub kind_leaf : (b : Body) → open_at s a ≡ Opened.Is b → (b.kind ≡ 1 → ⊥) → Kind.Leaf ≡ said_kind (meaning s a)
+    pub kind_leaf : (b : Body) → open_at s a ≡ Some b → (b.kind ≡ 1 → ⊥) → (Some Kind.Leaf) ≡ said_kind (meaning s a)
     kind_leaf b o k = sym (kind_by_lem b o ∙ rw (ne_eqb b.kind 1 k))
 
-    pub kind-opens : open_at s a ≡ Opened.Bad → ⊥
+    pub kind-opens : open_at s a ≡ None → ⊥
     kind-opens o =
         let g = sound_given s a said.0 said.1 in
-        let x : Opened.Bad ≡ Opened.Is g.body = sym o ∙ g.opened in
+        let x : None ≡ Some g.body = sym o ∙ g.opened in
         let z : ◌≡◌ {A = ℕ} 0 1 = cc in
         omega arith
 
 -- ---- what is gathered
 
-pub gathers_by : (w : List ℕ) (left right : Addr) (c : Cursor) (p q : Bounds) → page_first w (first_of 2) left right ≡ Started.From c → bounds_at w left ≡ BoundsRead.Is p → bounds_at w right ≡ BoundsRead.Is q
-    → (x y : List ℕ) (n : ℕ) → x ≡ part_in w p.lo → y ≡ part_in w q.hi → n ≡ common x y → Gathered.Is c (record { lo = boundary_in p.lo; hi = boundary_in q.hi; prefix = n; sibling = q.sibling }) ≡ gathered w left right
+pub gathers_by : (w : List ℕ) (left right : Addr) (c : Cursor) (p q : Bounds) → page_first w (first_of 2) left right ≡ Some c → bounds_at w left ≡ Ok p → bounds_at w right ≡ Ok q
+    → (x y : List ℕ) (n : ℕ) → x ≡ part_in w p.lo → y ≡ part_in w q.hi → n ≡ common x y → Some (c, record { lo = boundary_in p.lo; hi = boundary_in q.hi; prefix = n; sibling = q.sibling }) ≡ gathered w left right
 unfolding gathered
 gathers_by w left right c p q e f g x y n i j k =
     let z : n ≡ common (part_in w p.lo) (part_in w q.hi) = k ∙ ap (λ (v : List ℕ). common v y) i ∙ ap (λ (v : List ℕ). common (part_in w p.lo) v) j in
-    rw (e, f, g) (ap (λ (m : ℕ). Gathered.Is c (record { lo = boundary_in p.lo; hi = boundary_in q.hi; prefix = m; sibling = q.sibling })) z)
+    rw (e, f, g) (ap (λ (m : ℕ). Some (c, record { lo = boundary_in p.lo; hi = boundary_in q.hi; prefix = m; sibling = q.sibling })) z)
 
 -- ---- why pages that do not meet are refused
 
@@ -106,9 +102,9 @@ apart_alike : (pre : List ℕ) (es fs : List Entry) → Alike es fs → apart_of
 apart_alike pre es fs h = rw (rising-alike es fs h.keys h.vers, prefixed-alike pre es fs h.keys) refl
 
 -- a cursor over the two pages has the keys and the versions of what is merged
-module _ (w : List ℕ) (y : Bytes w) (left right : Addr) (p q : Page) (m : meaning w left ≡ says p) (n : meaning w right ≡ says q) (c : Cursor) (e : page_first w (first_of 2) left right ≡ Started.From c) where
+module _ (w : List ℕ) (y : Bytes w) (left right : Addr) (p q : Page) (m : meaning w left ≡ says p) (n : meaning w right ≡ says q) (c : Cursor) (e : page_first w (first_of 2) left right ≡ Some c) where
   same-cursor : {A : Type 0} (tell : Entry → A) (P : Entry → Type 0) (xs : List A) (r : Reads tell P [] w (page_first w (first_of 2) left right) xs) → r.cursor ≡ c
-  same-cursor tell P xs r = let z : Started.From r.cursor ≡ Started.From c = sym r.begun ∙ e in cc
+  same-cursor tell P xs r = let z : Some r.cursor ≡ Some c = sym r.begun ∙ e in cc
 
   cursor-alike : (x z : Rows) → p.rows ≡ x → q.rows ≡ z → kind_by x ≡ kind_by z → Alike (entries [] w c) (merged w left right)
   cursor-alike (leaf hs) (leaf ks) f g k =
@@ -125,10 +121,10 @@ module _ (w : List ℕ) (y : Bytes w) (left right : Addr) (p q : Page) (m : mean
   cursor-alike (index cs) (leaf ks) f g k = absurd (let z : ◌≡◌ {A = ℕ} 0 1 = cc in omega arith)
 
 module _ (w : List ℕ) (left right : Addr) (p : Sound w left) (q : Sound w right) where
-  pub never_bad : gathered w left right ≡ Gathered.Bad → ⊥
+  pub never_bad : gathered w left right ≡ None → ⊥
   never_bad e = gathers w left right p.0 q.0 p.1 q.1 e
 
-  module _ (c : Cursor) (e : Boundaries) (f : gathered w left right ≡ Gathered.Is c e) (l : List ℕ) (z : l ≡ []) where
+  module _ (c : Cursor) (e : Boundaries) (f : gathered w left right ≡ Some (c, e)) (l : List ℕ) (z : l ≡ []) where
     pub ready : Ready w left right c e
     ready = gathered_ready w left right p.0 q.0 p.1 q.1 c e f
 

@@ -1,15 +1,13 @@
 -- What a merge takes from its two pages, and what it judges of them. w is the arena below the next free address: "a frame that a merge reads
 -- ends above the next free address" is 4.
 -- Assumes nothing.
-use Rattle.std.specs.Prelude.{ℕ, ◌≡◌, List, ◌++◌, map, Bool, true}
+use Rattle.std.specs.Prelude.{ℕ, ◌≡◌, List, ◌++◌, map, Bool, true, Option, Some, None, Result, Ok, Err}
 use Rattle.order.specs.Bounds.{meet}
 use Rattle.frames.specs.declared.Addr.{Addr}
 use Rattle.pages.specs.declared.Place.{Place}
-use Rattle.pages.specs.declared.BoundsRead.{BoundsRead}
 use Rattle.pages.specs.declared.Bounds.{Bounds}
 use Rattle.pages.specs.Boundaries.{part_in, bounds_at, lo_at, hi_at}
 use Rattle.pages.specs.Meaning.{Rows, leaf, index, Page, Said, nothing, says, meaning}
-use Rattle.build_sources.specs.declared.Started.{Started}
 use Rattle.build_sources.specs.Lists.{first_of}
 use Rattle.build_sources.specs.Pages.{page_first}
 use Rattle.build_sources.specs.Source.{Entry}
@@ -20,32 +18,32 @@ use Rattle.build_image.specs.Prefix.{common}
 use Rattle.build_image.specs.Image.{Borders}
 use Rattle.build_bounds.specs.declared.Boundary.{Boundary}
 use Rattle.build_bounds.specs.declared.Boundaries.{Boundaries}
+use Rattle.build_sources.specs.declared.Cursor.{Cursor}
+use Rattle.frames.specs.declared.Refusal.{Refusal}
 use Rattle.merge.specs.declared.Kind.{Kind}
-use Rattle.merge.specs.declared.Kinds.{Kinds}
-use Rattle.merge.specs.declared.Gathered.{Gathered}
 
 -- ---- 4 and 5
 
-abbrev pub kind_by : Rows → Kind
-kind_by (leaf hs) = Kind.Leaf
-kind_by (index cs) = Kind.Index
+abbrev pub kind_by : Rows → Option Kind
+kind_by (leaf hs) = Some Kind.Leaf
+kind_by (index cs) = Some Kind.Index
 
 -- "Merge checks both pages first": a page that says nothing is 4
-abbrev pub said_kind : Said → Kind
-said_kind nothing = Kind.Bad
+abbrev pub said_kind : Said → Option Kind
+said_kind nothing = None
 said_kind (says p) = kind_by p.rows
 
 -- "merging leaf with index" is 5
-abbrev pub kinds_by : Kind → Kind → Kinds
-kinds_by Kind.Bad y = Kinds.Bad
-kinds_by Kind.Leaf Kind.Bad = Kinds.Bad
-kinds_by Kind.Leaf Kind.Leaf = Kinds.Leaves
-kinds_by Kind.Leaf Kind.Index = Kinds.Mixed
-kinds_by Kind.Index Kind.Bad = Kinds.Bad
-kinds_by Kind.Index Kind.Leaf = Kinds.Mixed
-kinds_by Kind.Index Kind.Index = Kinds.Indexes
+abbrev pub kinds_by : Option Kind → Option Kind → Result Kind Refusal
+kinds_by None y = Err Refusal.BadFrame
+kinds_by (Some Kind.Leaf) None = Err Refusal.BadFrame
+kinds_by (Some Kind.Leaf) (Some Kind.Leaf) = Ok Kind.Leaf
+kinds_by (Some Kind.Leaf) (Some Kind.Index) = Err Refusal.MixedKinds
+kinds_by (Some Kind.Index) None = Err Refusal.BadFrame
+kinds_by (Some Kind.Index) (Some Kind.Leaf) = Err Refusal.MixedKinds
+kinds_by (Some Kind.Index) (Some Kind.Index) = Ok Kind.Index
 
-abbrev pub kinds_of : Said → Said → Kinds
+abbrev pub kinds_of : Said → Said → Result Kind Refusal
 kinds_of p q = kinds_by (said_kind p) (said_kind q)
 
 -- a page that says something
@@ -60,9 +58,9 @@ unfolding page_entries
 merged w left right = page_entries w left ++ page_entries w right
 
 -- "hi and right_sibling of the right"
-abbrev pub sibling_of : BoundsRead → ℕ
-sibling_of (BoundsRead.Is b) = b.sibling.0
-sibling_of (BoundsRead.Refused r) = 0
+abbrev pub sibling_of : Result Bounds Refusal → ℕ
+sibling_of (Ok b) = b.sibling.0
+sibling_of (Err r) = 0
 
 -- the new prefix comes from the new boundaries
 unfoldable pub bounds_in : List ℕ → Addr → Addr → Borders
@@ -93,11 +91,11 @@ boundary_in p = record { footing = true; at = p.at; len = p.len }
 abbrev pub boundaries_in : List ℕ → Bounds → Bounds → Boundaries
 boundaries_in w p q = record { lo = boundary_in p.lo; hi = boundary_in q.hi; prefix = common (part_in w p.lo) (part_in w q.hi); sibling = q.sibling }
 
-abbrev pub gathered_by : List ℕ → Started → BoundsRead → BoundsRead → Gathered
-gathered_by w (Started.From c) (BoundsRead.Is p) (BoundsRead.Is q) = Gathered.Is c (boundaries_in w p q)
-gathered_by w (Started.From c) (BoundsRead.Is p) (BoundsRead.Refused r) = Gathered.Bad
-gathered_by w (Started.From c) (BoundsRead.Refused r) q = Gathered.Bad
-gathered_by w Started.Bad p q = Gathered.Bad
+abbrev pub gathered_by : List ℕ → Option Cursor → Result Bounds Refusal → Result Bounds Refusal → Option (Cursor × Boundaries)
+gathered_by w (Some c) (Ok p) (Ok q) = Some (c, boundaries_in w p q)
+gathered_by w (Some c) (Ok p) (Err r) = None
+gathered_by w (Some c) (Err r) q = None
+gathered_by w None p q = None
 
-unfoldable pub gathered : List ℕ → Addr → Addr → Gathered
+unfoldable pub gathered : List ℕ → Addr → Addr → Option (Cursor × Boundaries)
 gathered w left right = gathered_by w (page_first w (first_of 2) left right) (bounds_at w left) (bounds_at w right)

@@ -2,7 +2,7 @@
 // checked first; then the builder judges and writes.
 #![tactic(auto)]
 
-ghost use Rattle.std.specs.Prelude.{◌≡◌, true, [], ◌≤◌, length, take};
+ghost use Rattle.std.specs.Prelude.{◌≡◌, true, [], ◌≤◌, length, take, Some};
 ghost use Rattle.pages.specs.Meaning.{meaning};
 ghost use Rattle.build_history.specs.Runs.{Sane};
 ghost use Rattle.build_table.specs.Index.{index_answer, index_arena};
@@ -13,75 +13,57 @@ ghost use Rattle.merge.specs.Merge.{said_kind, kinds_by, kinds_of, gathered, Sou
 ghost use Rattle.merge.specs.Answer.{apart_in, kinds_answer, kinds_arena, merge_answer, merge_arena};
 
 use build_bounds::{Boundaries, Boundary};
-use build_image::{Built, Call};
-use build_sources::{Cursor, Started};
-use frames::{Addr, Opened, Refusal};
-use pages::{BoundsRead, Checked};
+use build_image::Call;
+use build_sources::Cursor;
+use frames::{Addr, Refusal};
 
 // The kind of a sound page.
 #[derive(Clone, Copy)]
 pub enum Kind {
     Leaf,
     Index,
-    Bad,
-}
-
-// The kinds of two.
-#[derive(Clone, Copy)]
-pub enum Kinds {
-    Leaves,
-    Indexes,
-    Mixed,
-    Bad,
-}
-
-// What a merge takes from its pages: their records, lo of the left, hi and sibling of the right.
-#[derive(Clone, Copy)]
-pub enum Gathered {
-    Is(Cursor, Boundaries),
-    Bad,
 }
 
 // The kind of the page at an address, where it is sound.
-fn said_kind(footing: &[u8], a: Addr) -> Kind
+fn said_kind(footing: &[u8], a: Addr) -> Option<Kind>
     ensures { result ≡ said_kind (meaning footing.now a) }
 {
     let x = pages::check(footing, a);
     match x {
-        Checked::Refused(_) => Kind::Bad,
-        Checked::Sound => {
-            let Opened::Is(b) = frames::open_at(footing, a) else {
-                return Kind::Bad;
+        Err(_) => None,
+        Ok(()) => {
+            let Some(b) = frames::open_at(footing, a) else {
+                return None;
             };
             if b.kind == 1 {
-                return Kind::Index;
+                return Some(Kind::Index);
             }
-            Kind::Leaf
+            Some(Kind::Leaf)
         }
     }
 }
 
 // Two kinds.
-fn kinds_by(x: Kind, y: Kind) -> Kinds
+fn kinds_by(x: Option<Kind>, y: Option<Kind>) -> Result<Kind, Refusal>
     ensures { result ≡ kinds_by x y }
 {
     match x {
-        Kind::Bad => Kinds::Bad,
-        Kind::Leaf => match y {
-            Kind::Bad => Kinds::Bad,
-            Kind::Leaf => Kinds::Leaves,
-            Kind::Index => Kinds::Mixed,
+        None => Err(Refusal::BadFrame),
+        Some(Kind::Leaf) => match y {
+            None => Err(Refusal::BadFrame),
+            Some(Kind::Leaf) => Ok(Kind::Leaf),
+            Some(Kind::Index) => Err(Refusal::MixedKinds),
         },
-        Kind::Index => match y {
-            Kind::Bad => Kinds::Bad,
-            Kind::Leaf => Kinds::Mixed,
-            Kind::Index => Kinds::Indexes,
+        Some(Kind::Index) => match y {
+            None => Err(Refusal::BadFrame),
+            Some(Kind::Leaf) => Err(Refusal::MixedKinds),
+            Some(Kind::Index) => Ok(Kind::Index),
         },
     }
 }
 
 // 4, then 5.
-fn kinds_of(footing: &[u8], left: Addr, right: Addr) -> Kinds
+fn kinds_of(footing: &[u8], left: Addr, right: Addr) -> Result<Kind, Refusal>
     ensures { result ≡ kinds_of (meaning footing.now left) (meaning footing.now right) }
 {
     let x = said_kind(footing, left);
@@ -90,17 +72,17 @@ fn kinds_of(footing: &[u8], left: Addr, right: Addr) -> Kinds
 }
 
 // The places of what is merged.
-fn gather(footing: &[u8], left: Addr, right: Addr) -> Gathered
+fn gather(footing: &[u8], left: Addr, right: Addr) -> Option<(Cursor, Boundaries)>
     ensures { result ≡ gathered footing.now left right }
 {
-    let Started::From(c) = build_sources::open_pages(footing, left, right) else {
-        return Gathered::Bad;
+    let Some(c) = build_sources::open_pages(footing, left, right) else {
+        return None;
     };
-    let BoundsRead::Is(p) = pages::bounds_at(footing, left) else {
-        return Gathered::Bad;
+    let Ok(p) = pages::bounds_at(footing, left) else {
+        return None;
     };
-    let BoundsRead::Is(q) = pages::bounds_at(footing, right) else {
-        return Gathered::Bad;
+    let Ok(q) = pages::bounds_at(footing, right) else {
+        return None;
     };
     let x = p.lo;
     let y = q.hi;
@@ -109,7 +91,7 @@ fn gather(footing: &[u8], left: Addr, right: Addr) -> Gathered
         spans::part_of(footing, y.at, y.len),
     );
     let g = q.sibling;
-    Gathered::Is(
+    Some((
         c,
         Boundaries {
             lo: Boundary {
@@ -125,7 +107,7 @@ fn gather(footing: &[u8], left: Addr, right: Addr) -> Gathered
             prefix: n,
             sibling: g,
         },
-    )
+    ))
 }
 
 // Whether the left page ends where the right one begins; a left page without hi ends nowhere.
@@ -143,59 +125,80 @@ fn apart(footing: &[u8], left: Addr, right: Addr, none: &[u8]) -> Refusal
     requires left_value { said_kind (meaning footing.now left) ≡ said_kind (meaning footing.now right) }
     ensures { result ≡ apart_in (bounds_in footing.now left right) (merged footing.now left right) }
 {
-    let Gathered::Is(c, e) = gather(footing, left, right) else {
+    let Some((c, e)) = gather(footing, left, right) else {
         return Refusal::BadFrame;
     };
     build_table::apart(none, footing, c, none, none, e)
 }
 
 // Two index pages that were judged and meet.
-fn merge_indexes(a: &mut [u8], next: usize, left: Addr, right: Addr, m: Call, none: &[u8]) -> Built
+fn merge_indexes(
+    a: &mut [u8],
+    next: usize,
+    left: Addr,
+    right: Addr,
+    m: Call,
+    none: &[u8],
+) -> Result<(Addr, usize), Refusal>
     requires next_in_bounds { next ≤ length a.old }
     requires none_value { none.now ≡ [] }
     requires sound { Sound (take next a.old) left × Sound (take next a.old) right }
-    requires left_value { (said_kind (meaning (take next a.old) left) ≡ Kind.Index) × (said_kind (meaning (take next a.old) right) ≡ Kind.Index) }
+    requires left_value { (said_kind (meaning (take next a.old) left) ≡ (Some Kind.Index)) × (said_kind (meaning (take next a.old) right) ≡ (Some Kind.Index)) }
     requires right_value { meet_in (take next a.old) left right ≡ true }
     ensures value { result ≡ index_answer a.old next m (bounds_in (take next a.old) left right) (merged (take next a.old) left right) }
     ensures a_after { a.new ≡ index_arena a.old next m (bounds_in (take next a.old) left right) (merged (take next a.old) left right) }
 {
-    let Gathered::Is(_, e) = gather(&a[..next], left, right) else {
-        return Built::Refused(Refusal::BadFrame);
+    let Some((_, e)) = gather(&a[..next], left, right) else {
+        return Err(Refusal::BadFrame);
     };
-    let Opened::Is(b) = frames::open_at(&a[..next], left) else {
-        return Built::Refused(Refusal::BadFrame);
+    let Some(b) = frames::open_at(&a[..next], left) else {
+        return Err(Refusal::BadFrame);
     };
-    let Opened::Is(d) = frames::open_at(&a[..next], right) else {
-        return Built::Refused(Refusal::BadFrame);
+    let Some(d) = frames::open_at(&a[..next], right) else {
+        return Err(Refusal::BadFrame);
     };
     build_table::build_indexes(a, next, b, 0, b.elems, d, d.elems, m, none, e)
 }
 
 // Two leaves that were judged and meet.
-fn merge_leaves(a: &mut [u8], next: usize, left: Addr, right: Addr, m: Call, none: &[u8]) -> Built
+fn merge_leaves(
+    a: &mut [u8],
+    next: usize,
+    left: Addr,
+    right: Addr,
+    m: Call,
+    none: &[u8],
+) -> Result<(Addr, usize), Refusal>
     requires next_in_bounds { next ≤ length a.old }
     requires none_value { none.now ≡ [] }
     requires sane { Sane m }
     requires sound { Sound (take next a.old) left × Sound (take next a.old) right }
-    requires left_value { (said_kind (meaning (take next a.old) left) ≡ Kind.Leaf) × (said_kind (meaning (take next a.old) right) ≡ Kind.Leaf) }
+    requires left_value { (said_kind (meaning (take next a.old) left) ≡ (Some Kind.Leaf)) × (said_kind (meaning (take next a.old) right) ≡ (Some Kind.Leaf)) }
     requires right_value { meet_in (take next a.old) left right ≡ true }
     ensures value { result ≡ leaf_answer a.old next m (bounds_in (take next a.old) left right) (merged (take next a.old) left right) }
     ensures a_after { a.new ≡ leaf_arena a.old next m (bounds_in (take next a.old) left right) (merged (take next a.old) left right) }
 {
-    let Gathered::Is(_, e) = gather(&a[..next], left, right) else {
-        return Built::Refused(Refusal::BadFrame);
+    let Some((_, e)) = gather(&a[..next], left, right) else {
+        return Err(Refusal::BadFrame);
     };
-    let Opened::Is(b) = frames::open_at(&a[..next], left) else {
-        return Built::Refused(Refusal::BadFrame);
+    let Some(b) = frames::open_at(&a[..next], left) else {
+        return Err(Refusal::BadFrame);
     };
-    let Opened::Is(d) = frames::open_at(&a[..next], right) else {
-        return Built::Refused(Refusal::BadFrame);
+    let Some(d) = frames::open_at(&a[..next], right) else {
+        return Err(Refusal::BadFrame);
     };
     build_table::build_leaves(a, next, b, 0, b.elems, d, d.elems, m, none, e)
 }
 
 // Pages that were judged, by their kinds.
-fn merge_kinds(a: &mut [u8], next: usize, left: Addr, right: Addr, m: Call, none: &[u8]) -> Built
+fn merge_kinds(
+    a: &mut [u8],
+    next: usize,
+    left: Addr,
+    right: Addr,
+    m: Call,
+    none: &[u8],
+) -> Result<(Addr, usize), Refusal>
     requires next_in_bounds { next ≤ length a.old }
     requires none_value { none.now ≡ [] }
     requires sane { Sane m }
@@ -205,20 +208,19 @@ fn merge_kinds(a: &mut [u8], next: usize, left: Addr, right: Addr, m: Call, none
     let k = kinds_of(&a[..next], left, right);
     let met = meets(&a[..next], left, right);
     match k {
-        Kinds::Leaves => {
+        Ok(Kind::Leaf) => {
             if met {
                 return merge_leaves(a, next, left, right, m, none);
             }
-            Built::Refused(apart(&a[..next], left, right, none))
+            Err(apart(&a[..next], left, right, none))
         }
-        Kinds::Indexes => {
+        Ok(Kind::Index) => {
             if met {
                 return merge_indexes(a, next, left, right, m, none);
             }
-            Built::Refused(apart(&a[..next], left, right, none))
+            Err(apart(&a[..next], left, right, none))
         }
-        Kinds::Mixed => Built::Refused(Refusal::MixedKinds),
-        Kinds::Bad => Built::Refused(Refusal::BadFrame),
+        Err(r) => Err(r),
     }
 }
 
@@ -234,16 +236,16 @@ pub fn merge(
     txid: u64,
     lsn: u64,
     checkpoint: u64,
-) -> Built
+) -> Result<(Addr, usize), Refusal>
     ensures value { result ≡ merge_answer a.old next (call_of limit budget group txid lsn checkpoint) left right }
     ensures a_after { a.new ≡ merge_arena a.old next (call_of limit budget group txid lsn checkpoint) left right }
 {
     if !build_image::limits_ok(limit, budget) {
-        return Built::Refused(Refusal::BadLimit);
+        return Err(Refusal::BadLimit);
     }
     let len = a.len();
     if !build_image::next_ok(len, next) {
-        return Built::Refused(Refusal::BadArena);
+        return Err(Refusal::BadArena);
     }
     let m = build_image::call_of(limit, budget, group, txid, lsn, checkpoint);
     merge_kinds(a, next, left, right, m, b"")

@@ -8,7 +8,6 @@ use contract.Lifetimes.{Lfts}
 use denote.Ref.{Bor}
 use denote.Triple.Clauses.{AtExit}
 use Rattle.spans.specs.Only.{Decides, decides}
-use Rattle.order.specs.declared.Order.{Order}
 use Rattle.order.specs.declared.Ver.{Ver}
 use Rattle.order.specs.Order.{cmp_bytes, starts_with}
 use Rattle.order.specs.Bounds.{below_by, meet}
@@ -27,17 +26,18 @@ use Rattle.order.specs.contracts.Ver.new as new_fn
 use Rattle.order.proofs.Ver.new.Reads as new
 use Rattle.order.specs.contracts.Ver.newer as newer_fn
 use Rattle.order.proofs.Ver.newer.Reads as newer
+use Rattle.std.specs.declared.cmp.Ordering.{Ordering}
 
-pub compare_decided : (κs : Lfts 2) (a b : Bor (List ℕ)) (e : AtExit compare_fn.ended κs) → Decides (λ (r : Order). compare.Post κs (a, (b, tt)) r e) (λ (r : Order). r)
-compare_decided κs a b e = decides (λ (r : Order). r) (cmp_bytes a.now b.now)
+pub compare_decided : (κs : Lfts 2) (a b : Bor (List ℕ)) (e : AtExit compare_fn.ended κs) → Decides (λ (r : Ordering). compare.Post κs (a, (b, tt)) r e) (λ (r : Ordering). r)
+compare_decided κs a b e = decides (λ (r : Ordering). r) (cmp_bytes a.now b.now)
 
 pub starts_decided : (κs : Lfts 2) (p s : Bor (List ℕ)) (e : AtExit starts_fn.ended κs) → Decides (λ (r : Bool). starts.Post κs (p, (s, tt)) r e) (λ (r : Bool). r)
 starts_decided κs p s e = decides (λ (r : Bool). r) (starts_with p.now s.now)
 
-pub joined_decided : (κs : Lfts 3) (p r x : Bor (List ℕ)) (e : AtExit joined_fn.ended κs) → Decides (λ (o : Order). joined.Post κs (p, (r, (x, tt))) o e) (λ (o : Order). o)
-joined_decided κs p r x e = decides (λ (o : Order). o) (cmp_bytes (p.now ++ r.now) x.now)
+pub joined_decided : (κs : Lfts 3) (p r x : Bor (List ℕ)) (e : AtExit joined_fn.ended κs) → Decides (λ (o : Ordering). joined.Post κs (p, (r, (x, tt))) o e) (λ (o : Ordering). o)
+joined_decided κs p r x e = decides (λ (o : Ordering). o) (cmp_bytes (p.now ++ r.now) x.now)
 
-pub below_decided : (κs : Lfts 1) (c : Order) (hi : Bor (List ℕ)) (e : AtExit below_fn.ended κs) → Decides (λ (r : Bool). below.Post κs (c, (hi, tt)) r e) (λ (r : Bool). r)
+pub below_decided : (κs : Lfts 1) (c : Ordering) (hi : Bor (List ℕ)) (e : AtExit below_fn.ended κs) → Decides (λ (r : Bool). below.Post κs (c, (hi, tt)) r e) (λ (r : Bool). r)
 below_decided κs c hi e = decides (λ (r : Bool). r) (below_by c hi.now)
 
 pub meets_decided : (κs : Lfts 2) (hi lo : Bor (List ℕ)) (e : AtExit meets_fn.ended κs) → Decides (λ (r : Bool). meets.Post κs (hi, (lo, tt)) r e) (λ (r : Bool). r)

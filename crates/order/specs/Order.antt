@@ -1,34 +1,33 @@
 -- The order of byte strings: by the first byte in which they differ, a proper prefix first.
 -- Assumes nothing.
 use Rattle.std.specs.Prelude.{ℕ, ◌≤◌, List, [], ◌∷◌, Bool, true, false, cond, ◌⊎◌, ltb, eqb}
-use Rattle.order.specs.declared.Order.{Order}
-use Rattle.order.specs.declared.Order.TheVariants.{Less, Equal, Greater}
+use Rattle.std.specs.declared.cmp.Ordering.{Ordering}
 
 -- by two numbers, and by k where they are equal
-abbrev pub by_number : ℕ → ℕ → Order → Order
-by_number x y k = cond (ltb x y) Less (cond (ltb y x) Greater k)
+abbrev pub by_number : ℕ → ℕ → Ordering → Ordering
+by_number x y k = cond (ltb x y) Ordering.Less (cond (ltb y x) Ordering.Greater k)
 
-unfoldable pub cmp_bytes : List ℕ → List ℕ → Order
-cmp_bytes [] [] = Equal
-cmp_bytes [] (y ∷ ys) = Less
-cmp_bytes (x ∷ xs) [] = Greater
+unfoldable pub cmp_bytes : List ℕ → List ℕ → Ordering
+cmp_bytes [] [] = Ordering.Equal
+cmp_bytes [] (y ∷ ys) = Ordering.Less
+cmp_bytes (x ∷ xs) [] = Ordering.Greater
 cmp_bytes (x ∷ xs) (y ∷ ys) = by_number x y (cmp_bytes xs ys)
 
-abbrev pub is_equal : Order → Bool
-is_equal Less = false
-is_equal Equal = true
-is_equal Greater = false
+abbrev pub is_equal : Ordering → Bool
+is_equal Ordering.Less = false
+is_equal Ordering.Equal = true
+is_equal Ordering.Greater = false
 
-abbrev pub is_less : Order → Bool
-is_less Less = true
-is_less Equal = false
-is_less Greater = false
+abbrev pub is_less : Ordering → Bool
+is_less Ordering.Less = true
+is_less Ordering.Equal = false
+is_less Ordering.Greater = false
 
 -- seen from the other side
-abbrev pub flip : Order → Order
-flip Less = Greater
-flip Equal = Equal
-flip Greater = Less
+abbrev pub flip : Ordering → Ordering
+flip Ordering.Less = Ordering.Greater
+flip Ordering.Equal = Ordering.Equal
+flip Ordering.Greater = Ordering.Less
 
 -- whether the first bytes begin the second
 unfoldable pub starts_with : List ℕ → List ℕ → Bool

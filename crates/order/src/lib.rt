@@ -5,13 +5,9 @@ ghost use Rattle.std.specs.Prelude.{◌≡◌, ◌++◌, ◌≤◌, length, drop
 ghost use Rattle.order.specs.Order.{by_number, cmp_bytes, is_equal, is_less, starts_with, Lesser};
 ghost use Rattle.order.specs.Bounds.{below_by, meet};
 ghost use Rattle.order.specs.Version.{ver_of, newer_than};
+ghost use Rattle.std.specs.declared.cmp.Ordering.{Ordering};
 
-#[derive(Clone, Copy)]
-pub enum Order {
-    Less,
-    Equal,
-    Greater,
-}
+use std::cmp::Ordering;
 
 fn lesser(a: usize, b: usize) -> usize
     ensures { Lesser a b result }
@@ -19,20 +15,20 @@ fn lesser(a: usize, b: usize) -> usize
     if a < b { a } else { b }
 }
 
-fn by_number(a: usize, b: usize) -> Order
-    ensures { result ≡ by_number a b Order.Equal }
+fn by_number(a: usize, b: usize) -> Ordering
+    ensures { result ≡ by_number a b Ordering.Equal }
 {
     if a < b {
-        return Order::Less;
+        return Ordering::Less;
     }
     if b < a {
-        return Order::Greater;
+        return Ordering::Greater;
     }
-    Order::Equal
+    Ordering::Equal
 }
 
 // What is left behind index from, byte by byte.
-fn by_ones(a: &[u8], b: &[u8], from: usize) -> Order
+fn by_ones(a: &[u8], b: &[u8], from: usize) -> Ordering
     requires { (from ≤ length a.now) × (from ≤ length b.now) }
     ensures { result ≡ cmp_bytes (drop from a.now) (drop from b.now) }
 {
@@ -42,10 +38,10 @@ fn by_ones(a: &[u8], b: &[u8], from: usize) -> Order
         let x = a[i];
         let y = b[i];
         if x < y {
-            return Order::Less;
+            return Ordering::Less;
         }
         if y < x {
-            return Order::Greater;
+            return Ordering::Greater;
         }
         i += 1;
     }
@@ -53,7 +49,7 @@ fn by_ones(a: &[u8], b: &[u8], from: usize) -> Order
 }
 
 // The same, two bytes first.
-fn by_twos(a: &[u8], b: &[u8], from: usize) -> Order
+fn by_twos(a: &[u8], b: &[u8], from: usize) -> Ordering
     requires { (from ≤ length a.now) × (from ≤ length b.now) }
     ensures { result ≡ cmp_bytes (drop from a.now) (drop from b.now) }
 {
@@ -64,16 +60,16 @@ fn by_twos(a: &[u8], b: &[u8], from: usize) -> Order
     let x = numbers::read_u16_be(a, from);
     let y = numbers::read_u16_be(b, from);
     if x < y {
-        return Order::Less;
+        return Ordering::Less;
     }
     if y < x {
-        return Order::Greater;
+        return Ordering::Greater;
     }
     by_ones(a, b, from + 2)
 }
 
 // The same, four bytes first.
-fn by_fours(a: &[u8], b: &[u8], from: usize) -> Order
+fn by_fours(a: &[u8], b: &[u8], from: usize) -> Ordering
     requires { (from ≤ length a.now) × (from ≤ length b.now) }
     ensures { result ≡ cmp_bytes (drop from a.now) (drop from b.now) }
 {
@@ -84,16 +80,16 @@ fn by_fours(a: &[u8], b: &[u8], from: usize) -> Order
     let x = numbers::read_u32_be(a, from);
     let y = numbers::read_u32_be(b, from);
     if x < y {
-        return Order::Less;
+        return Ordering::Less;
     }
     if y < x {
-        return Order::Greater;
+        return Ordering::Greater;
     }
     by_twos(a, b, from + 4)
 }
 
 // Two byte strings, a proper prefix first. Strings of one length are also told apart by `order_pair::pair_of`, for speed. Eight equal bytes are passed at a time, a plain load each; then four, two and one decide.
-pub fn compare(a: &[u8], b: &[u8]) -> Order
+pub fn compare(a: &[u8], b: &[u8]) -> Ordering
     ensures { result ≡ cmp_bytes a.now b.now }
 {
     let n = lesser(a.len(), b.len());
@@ -107,23 +103,23 @@ pub fn compare(a: &[u8], b: &[u8]) -> Order
     by_fours(a, b, i)
 }
 
-pub fn is_equal(c: Order) -> bool
+pub fn is_equal(c: Ordering) -> bool
     ensures { result ≡ is_equal c }
 {
     match c {
-        Order::Less => false,
-        Order::Equal => true,
-        Order::Greater => false,
+        Ordering::Less => false,
+        Ordering::Equal => true,
+        Ordering::Greater => false,
     }
 }
 
-pub fn is_less(c: Order) -> bool
+pub fn is_less(c: Ordering) -> bool
     ensures { result ≡ is_less c }
 {
     match c {
-        Order::Less => true,
-        Order::Equal => false,
-        Order::Greater => false,
+        Ordering::Less => true,
+        Ordering::Equal => false,
+        Ordering::Greater => false,
     }
 }
 
@@ -139,7 +135,7 @@ pub fn starts_with(p: &[u8], s: &[u8]) -> bool
 }
 
 // A string in two parts, p and r behind it, against x: x's first bytes against p, and r where they are p.
-pub fn compare_joined(p: &[u8], r: &[u8], x: &[u8]) -> Order
+pub fn compare_joined(p: &[u8], r: &[u8], x: &[u8]) -> Ordering
     ensures { result ≡ cmp_bytes (p.now ++ r.now) x.now }
 {
     let n = p.len();
@@ -152,7 +148,7 @@ pub fn compare_joined(p: &[u8], r: &[u8], x: &[u8]) -> Order
 // ---- boundaries
 
 // Whether what compares so with hi is below it; an empty hi is none.
-pub fn below_by(c: Order, hi: &[u8]) -> bool
+pub fn below_by(c: Ordering, hi: &[u8]) -> bool
     ensures { result ≡ below_by c hi.now }
 {
     if hi.len() == 0 {
@@ -184,10 +180,7 @@ impl Ver {
     pub fn new(txid: u64, cmd: u32) -> Ver
         ensures { result ≡ ver_of txid cmd }
     {
-        Ver {
-            txid: txid,
-            cmd: cmd,
-        }
+        Ver { txid, cmd }
     }
 
     // Larger txid, then larger cmd, is newer.

@@ -8,12 +8,12 @@ ghost use Rattle.search_head.specs.Head.{head_at};
 ghost use Rattle.overlay.specs.Overlay.{is_probe, page_value, delta_value, laid_by, laid_at};
 ghost use Rattle.overlay.specs.Lent.{PartIs, LentIs};
 
-use delta::{LeafKey, Value};
+use delta::LeafKey;
 use frames::{Addr, Body, Refusal};
-use order::{Order, Ver};
+use order::Ver;
 use pages::Place;
-use records::RecRead;
 use search_head::Head;
+use std::cmp::Ordering;
 
 // Which buffer holds the value and where, none, or why it is refused.
 #[derive(Clone, Copy)]
@@ -21,23 +21,22 @@ pub enum Laid {
     Delta(Place),
     Page(Place),
     Nothing,
-    Refused(Refusal),
 }
 
 // ---- the page's side
 
 // The page's value.
-fn page_value(s: &[u8], b: Body, i: usize) -> Laid
+fn page_value(s: &[u8], b: Body, i: usize) -> Result<Laid, Refusal>
     requires { Inside s.now b }
     ensures { result ≡ page_value s.now b i }
 {
-    let RecRead::Is(r) = records::rec_at(s, b, i) else {
-        return Laid::Refused(Refusal::BadFrame);
+    let Some(r) = records::rec_at(s, b, i) else {
+        return Err(Refusal::BadFrame);
     };
-    Laid::Page(Place {
+    Ok(Laid::Page(Place {
         at: r.val_at,
         len: r.val_len,
-    })
+    }))
 }
 
 // ---- the delta's side
@@ -46,42 +45,52 @@ fn is_probe(t: &[u8], key: Place, probe: &[u8]) -> bool
     ensures { result ≡ is_probe t.now key probe.now }
 {
     match order::compare(pages::part_at(t, key), probe) {
-        Order::Less => false,
-        Order::Equal => true,
-        Order::Greater => false,
+        Ordering::Less => false,
+        Ordering::Equal => true,
+        Ordering::Greater => false,
     }
 }
 
-fn delta_value(t: &[u8], d: Addr) -> Laid
+fn delta_value(t: &[u8], d: Addr) -> Result<Laid, Refusal>
     ensures { result ≡ delta_value t.now d }
 {
     match delta::val(t, d) {
-        Value::Is(p) => Laid::Delta(p),
-        Value::Refused(r) => Laid::Refused(r),
+        Ok(p) => Ok(Laid::Delta(p)),
+        Err(r) => Err(r),
     }
 }
 
 // ---- both
 
 // The delta's key is or is not the probe (mine), and ver is its version: against the page's head.
-fn laid_by(s: &[u8], a: Addr, t: &[u8], d: Addr, probe: &[u8], mine: bool, ver: Ver) -> Laid
+fn laid_by(
+    s: &[u8],
+    a: Addr,
+    t: &[u8],
+    d: Addr,
+    probe: &[u8],
+    mine: bool,
+    ver: Ver,
+) -> Result<Laid, Refusal>
     ensures { result ≡ laid_by s.now t.now d mine ver (head_at s.now a probe.now) }
 {
     match search_head::head_at(s, a, probe) {
-        Head::Refused(r) => Laid::Refused(r),
-        Head::Nothing { reads: _ } => {
+        Err(r) => Err(r),
+        Ok(Head::Nothing { reads: _ }) => {
             if mine {
                 return delta_value(t, d);
             }
-            Laid::Nothing
+            Ok(Laid::Nothing)
         }
-        Head::Is {
-            page,
-            slot,
-            ver: v,
-            value: _,
-            reads: _,
-        } => {
+        Ok(
+            Head::Is {
+                page,
+                slot,
+                ver: v,
+                value: _,
+                reads: _,
+            },
+        ) => {
             if mine & !v.newer(ver) {
                 return delta_value(t, d);
             }
@@ -91,12 +100,12 @@ fn laid_by(s: &[u8], a: Addr, t: &[u8], d: Addr, probe: &[u8], mine: bool, ver: 
 }
 
 // Which of the two answers the probe: the leaf page at a of the arena s, or the leaf delta at d of the buffer t.
-pub fn answer(s: &[u8], a: Addr, t: &[u8], d: Addr, probe: &[u8]) -> Laid
+pub fn answer(s: &[u8], a: Addr, t: &[u8], d: Addr, probe: &[u8]) -> Result<Laid, Refusal>
     ensures { result ≡ laid_at s.now a t.now d probe.now }
 {
     match delta::key(t, d) {
-        LeafKey::Refused(r) => Laid::Refused(r),
-        LeafKey::Is { ver, key } => {
+        Err(r) => Err(r),
+        Ok(LeafKey { ver, key }) => {
             let mine = is_probe(t, key, probe);
             laid_by(s, a, t, d, probe, mine, ver)
         }
@@ -120,14 +129,14 @@ fn part_in(s: &[u8], p: Place) -> &[u8]
 }
 
 // What an answer names: a part of the arena or of the delta's buffer, empty where it names none.
-pub fn lent<'r>(s: &'r [u8], t: &'r [u8], l: Laid) -> &'r [u8]
+pub fn lent<'r>(s: &'r [u8], t: &'r [u8], l: Result<Laid, Refusal>) -> &'r [u8]
     ensures { LentIs s.entry t.entry l result }
 {
     match l {
-        Laid::Delta(p) => part_in(t, p),
-        Laid::Page(p) => part_in(s, p),
-        Laid::Nothing => part_in(s, Place { at: 0, len: 0 }),
-        Laid::Refused(_) => part_in(s, Place { at: 0, len: 0 }),
+        Ok(Laid::Delta(p)) => part_in(t, p),
+        Ok(Laid::Page(p)) => part_in(s, p),
+        Ok(Laid::Nothing) => part_in(s, Place { at: 0, len: 0 }),
+        Err(_) => part_in(s, Place { at: 0, len: 0 }),
     }
 }
 

@@ -9,14 +9,8 @@ use denote.Ref.{Bor}
 use denote.Triple.Clauses.{AtExit}
 use Rattle.spans.specs.Only.{Decides, decides}
 use Rattle.frames.specs.declared.Addr.{Addr}
-use Rattle.frames.specs.declared.Opened.{Opened}
-use Rattle.pages.specs.declared.Checked.{Checked}
-use Rattle.pages.specs.declared.OldRead.{OldRead}
 use Rattle.pages.specs.declared.Place.{Place}
-use Rattle.pages.specs.declared.BoundsRead.{BoundsRead}
 use Rattle.pages.specs.declared.Hints.{Hints}
-use Rattle.pages.specs.declared.HintsRead.{HintsRead}
-use Rattle.pages.specs.declared.Hint.{Hint}
 use Rattle.pages.specs.Sound.{history_at, old_at, entered}
 use Rattle.pages.specs.Meaning.{meaning, check_of}
 use Rattle.pages.specs.Boundaries.{bounds_at, part_in, lo_at, hi_at, prefix_at}
@@ -45,25 +39,30 @@ use Rattle.pages.specs.contracts.remote_hints as remote-hints_fn
 use Rattle.pages.proofs.remote_hints.Reads as remote-hints
 use Rattle.pages.specs.contracts.hint_at as hint_fn
 use Rattle.pages.proofs.hint_at.Reads as hint-at
+use Rattle.std.proofs.Common.{Option, Result}
+use Rattle.frames.specs.declared.Body.{Body}
+use Rattle.frames.specs.declared.Refusal.{Refusal}
+use Rattle.pages.specs.declared.Bounds.{Bounds}
+use Rattle.pages.specs.declared.OldVersion.{OldVersion}
 
 module _ (κs : Lfts 1) (s : Bor (List ℕ)) (a : Addr) where
-  pub check_decided : (x : AtExit check_fn.ended κs) → Decides (λ (r : Checked). checking.Post κs (s, (a, tt)) r x) (λ (r : Checked). r)
-  check_decided x = decides (λ (r : Checked). r) (check_of (meaning s.now a))
+  pub check_decided : (x : AtExit check_fn.ended κs) → Decides (λ (r : Result Unit Refusal). checking.Post κs (s, (a, tt)) r x) (λ (r : Result Unit Refusal). r)
+  check_decided x = decides (λ (r : Result Unit Refusal). r) (check_of (meaning s.now a))
 
-  pub history_decided : (x : AtExit history_fn.ended κs) → Decides (λ (r : Opened). history-at.Post κs (s, (a, tt)) r x) (λ (r : Opened). r)
-  history_decided x = decides (λ (r : Opened). r) (history_at s.now a)
+  pub history_decided : (x : AtExit history_fn.ended κs) → Decides (λ (r : Option Body). history-at.Post κs (s, (a, tt)) r x) (λ (r : Option Body). r)
+  history_decided x = decides (λ (r : Option Body). r) (history_at s.now a)
 
-  pub bounds_decided : (x : AtExit bounds_fn.ended κs) → Decides (λ (r : BoundsRead). bounds-at.Post κs (s, (a, tt)) r x) (λ (r : BoundsRead). r)
-  bounds_decided x = decides (λ (r : BoundsRead). r) (bounds_at s.now a)
+  pub bounds_decided : (x : AtExit bounds_fn.ended κs) → Decides (λ (r : Result Bounds Refusal). bounds-at.Post κs (s, (a, tt)) r x) (λ (r : Result Bounds Refusal). r)
+  bounds_decided x = decides (λ (r : Result Bounds Refusal). r) (bounds_at s.now a)
 
-  pub history-hints_decided : (x : AtExit history-hints_fn.ended κs) → Decides (λ (r : HintsRead). history-hints.Post κs (s, (a, tt)) r x) (λ (r : HintsRead). r)
-  history-hints_decided x = decides (λ (r : HintsRead). r) (history_hints_at s.now a)
+  pub history-hints_decided : (x : AtExit history-hints_fn.ended κs) → Decides (λ (r : Result (Option Hints) Refusal). history-hints.Post κs (s, (a, tt)) r x) (λ (r : Result (Option Hints) Refusal). r)
+  history-hints_decided x = decides (λ (r : Result (Option Hints) Refusal). r) (history_hints_at s.now a)
 
-  pub remote-hints_decided : (x : AtExit remote-hints_fn.ended κs) → Decides (λ (r : HintsRead). remote-hints.Post κs (s, (a, tt)) r x) (λ (r : HintsRead). r)
-  remote-hints_decided x = decides (λ (r : HintsRead). r) (remote_hints_at s.now a)
+  pub remote-hints_decided : (x : AtExit remote-hints_fn.ended κs) → Decides (λ (r : Result (Option Hints) Refusal). remote-hints.Post κs (s, (a, tt)) r x) (λ (r : Result (Option Hints) Refusal). r)
+  remote-hints_decided x = decides (λ (r : Result (Option Hints) Refusal). r) (remote_hints_at s.now a)
 
-  pub old_decided : (i : ℕ) (x : AtExit old_fn.ended κs) → Decides (λ (r : OldRead). old-at.Post κs (s, (a, (i, tt))) r x) (λ (r : OldRead). r)
-  old_decided i x = decides (λ (r : OldRead). r) (old_at s.now a i)
+  pub old_decided : (i : ℕ) (x : AtExit old_fn.ended κs) → Decides (λ (r : Option OldVersion). old-at.Post κs (s, (a, (i, tt))) r x) (λ (r : Option OldVersion). r)
+  old_decided i x = decides (λ (r : Option OldVersion). r) (old_at s.now a i)
 
   pub entered_decided : (i : ℕ) (x : AtExit entered_fn.ended κs) → Decides (λ (r : Bool). entered_at.Post κs (s, (a, (i, tt))) r x) (λ (r : Bool). r)
   entered_decided i x = decides (λ (r : Bool). r) (entered s.now a i)
@@ -82,5 +81,5 @@ module _ (κs : Lfts 1) (s : Bor (List ℕ)) (a : Addr) where
 pub part_decided : (κs : Lfts 1) (s : Bor (List ℕ)) (p : Place) (x : AtExit part_fn.ended κs) → Decides (λ (r : Bor (List ℕ)). part_at.Post κs (s, (p, tt)) r x) (λ (r : Bor (List ℕ)). r.now)
 part_decided κs s p x = decides (λ (r : Bor (List ℕ)). r.now) (part_in s.now p)
 
-pub hint_decided : (κs : Lfts 1) (s : Bor (List ℕ)) (h : Hints) (k : ℕ) (x : AtExit hint_fn.ended κs) → Decides (λ (r : Hint). hint-at.Post κs (s, (h, (k, tt))) r x) (λ (r : Hint). r)
-hint_decided κs s h k x = decides (λ (r : Hint). r) (hint_in s.now h k)
+pub hint_decided : (κs : Lfts 1) (s : Bor (List ℕ)) (h : Hints) (k : ℕ) (x : AtExit hint_fn.ended κs) → Decides (λ (r : Option Addr). hint-at.Post κs (s, (h, (k, tt))) r x) (λ (r : Option Addr). r)
+hint_decided κs s h k x = decides (λ (r : Option Addr). r) (hint_in s.now h k)

@@ -14,70 +14,66 @@ use Rattle.order.specs.declared.Ver.{Ver}
 use Rattle.order.specs.Version.{newer_than}
 use Rattle.frames.specs.declared.Addr.{Addr}
 use Rattle.frames.specs.declared.Body.{Body}
-use Rattle.frames.specs.declared.Opened.{Opened}
 use Rattle.frames.specs.Layout.{base_len, addr}
 use Rattle.frames.proofs.Frames.{open_some}
 use Rattle.values.specs.Keys.{ver_in}
 use Rattle.records.specs.declared.Rec.{Rec}
-use Rattle.records.specs.declared.RecRead.{RecRead}
 use Rattle.records.specs.Records.{rec_at}
 use Rattle.records.proofs.Inside.{old-place, ver-inside}
-use Rattle.pages.specs.declared.OldRead.{OldRead}
 use Rattle.pages.specs.declared.Hand.{Hand}
-use Rattle.pages.specs.declared.HandRead.{HandRead}
 use Rattle.pages.specs.declared.Spot.{Spot}
-use Rattle.pages.specs.declared.SpotRead.{SpotRead}
-use Rattle.pages.specs.Sound.{slots_ok, history_at, hist_of, hist_ok, old_rec, old_in, old_link, old_at, chain_from, entered_of, entered, head_ok}
+use Rattle.pages.specs.Sound.{slots_ok, history_at, hist_of, hist_ok, old_rec, old_in, old_link, old_at, chain_from, entered_of, entered, head_ok, old_version}
 use Rattle.pages.specs.Hand.{hand_of, judged_of, judged_at, Held, Known, TurnsTo, TurnedTo}
 use Rattle.pages.proofs.Turns.{chain_bad, chain_broken, chain_young, chain_more, head_chain, head_out}
 use Rattle.pages.proofs.Given.{every_slot}
 use Rattle.pages.proofs.Olds.{history-inside}
+use Rattle.std.proofs.Common.{Option, Some, None}
 
 -- ---- the page
 
-taken_no : (h : Hand) → HandRead.Bad ≡ HandRead.Is h → ⊥
+taken_no : (h : Hand) → None ≡ Some h → ⊥
 taken_no h e = let z : ◌≡◌ {A = ℕ} 0 1 = cc in omega arith
 
 -- a page that was taken in hand is a history page, whole
 record Page (s : List ℕ) (a : Addr) (h : Hand) : Type 0 where
   body : Body
-  opened : history_at s a ≡ Opened.Is body
+  opened : history_at s a ≡ Some body
   whole : slots_ok s body ≡ true
   is : hand_of a body ≡ h
 
-judged_given : (s : List ℕ) (a : Addr) (h : Hand) → judged_at s a ≡ HandRead.Is h → Page s a h
+judged_given : (s : List ℕ) (a : Addr) (h : Hand) → judged_at s a ≡ Some h → Page s a h
 unfolding judged_at
 judged_given s a h e = go (history_at s a) refl e
   where
-    by : (b : Body) → history_at s a ≡ Opened.Is b → (t : Bool) → slots_ok s b ≡ t → cond t (HandRead.Is (hand_of a b)) HandRead.Bad ≡ HandRead.Is h → Page s a h
+    by : (b : Body) → history_at s a ≡ Some b → (t : Bool) → slots_ok s b ≡ t → cond t (Some (hand_of a b)) None ≡ Some h → Page s a h
     by b o true w e' = let x : hand_of a b ≡ h = cc in record { body = b; opened = o; whole = w; is = x }
     by b o false w e' = absurd (taken_no h e')
 
-    go : (o : Opened) → history_at s a ≡ o → judged_of s a o ≡ HandRead.Is h → Page s a h
-    go (Opened.Is b) o e' = by b o (slots_ok s b) refl e'
-    go Opened.Bad o e' = absurd (taken_no h e')
+    go : (o : Option Body) → history_at s a ≡ o → judged_of s a o ≡ Some h → Page s a h
+    go (Some b) o e' = by b o (slots_ok s b) refl e'
+    go None o e' = absurd (taken_no h e')
 
-pub judged-held : (s : List ℕ) (a : Addr) (h : Hand) → judged_at s a ≡ HandRead.Is h → Held s h
+pub judged-held : (s : List ℕ) (a : Addr) (h : Hand) → judged_at s a ≡ Some h → Held s h
 judged-held s a h e = ap (λ (p : Addr). judged_at s p) (sym (ap (λ (x : Hand). x.page) (judged_given s a h e).is)) ∙ e
 
 -- one that was not taken is none that is whole
-not_whole : (s : List ℕ) (a : Addr) → judged_at s a ≡ HandRead.Bad → hist_ok s a ≡ false
+not_whole : (s : List ℕ) (a : Addr) → judged_at s a ≡ None → hist_ok s a ≡ false
 unfolding judged_at hist_ok
 not_whole s a e = go (history_at s a) e
   where
-    by : (b : Body) (t : Bool) → cond t (HandRead.Is (hand_of a b)) HandRead.Bad ≡ HandRead.Bad → t ≡ false
+    by : (b : Body) (t : Bool) → cond t (Some (hand_of a b)) None ≡ None → t ≡ false
     by b true e' = absurd (taken_no (hand_of a b) (sym e'))
     by b false e' = refl
 
-    go : (o : Opened) → judged_of s a o ≡ HandRead.Bad → hist_of s o ≡ false
-    go (Opened.Is b) e' = by b (slots_ok s b) e'
-    go Opened.Bad e' = refl
+    go : (o : Option Body) → judged_of s a o ≡ None → hist_of s o ≡ false
+    go (Some b) e' = by b (slots_ok s b) e'
+    go None e' = refl
 
 -- the page in hand, asked for again
-pub known_again : (s : List ℕ) (a : Addr) (h : Hand) → Known s h → (eqb a.0 h.page.0 && not (eqb a.0 0)) ≡ true → judged_at s a ≡ HandRead.Is h
+pub known_again : (s : List ℕ) (a : Addr) (h : Hand) → Known s h → (eqb a.0 h.page.0 && not (eqb a.0 0)) ≡ true → judged_at s a ≡ Some h
 known_again s a h k e = go (eqb a.0 h.page.0) refl (eqb a.0 0) refl e
   where
-    go : (t : Bool) → eqb a.0 h.page.0 ≡ t → (u : Bool) → eqb a.0 0 ≡ u → (t && not u) ≡ true → judged_at s a ≡ HandRead.Is h
+    go : (t : Bool) → eqb a.0 h.page.0 ≡ t → (u : Bool) → eqb a.0 0 ≡ u → (t && not u) ≡ true → judged_at s a ≡ Some h
     go true p false q e' =
         let x : a.0 ≡ h.page.0 = eqb-true a.0 h.page.0 p in
         let n = eqb-false a.0 0 q in
@@ -91,7 +87,7 @@ known_again s a h k e = go (eqb a.0 h.page.0) refl (eqb a.0 0) refl e
 -- the old version at a slot of the page in hand
 pub record Old (s : List ℕ) (h : Hand) (i : ℕ) : Type 0 where
   pub rec : Rec
-  pub read : old_at s h.page i ≡ OldRead.Old h.page i rec
+  pub read : old_at s h.page i ≡ Some (old_version h.page i rec)
   pub whole : hist_ok s h.page ≡ true
   pub place : rec.ver_at ≡ h.at + le_at 4 s (h.at + base_len + 4 * i)
   pub slot : h.at + base_len + 4 * i + 4 ≤ length s
@@ -103,15 +99,15 @@ not_last i n l e = omega arith
 not_index : (k : ℕ) → k ≡ 2 → k ≡ 1 → ⊥
 not_index k e f = omega arith
 
-page-read : (s : List ℕ) (a : Addr) (b : Body) (i : ℕ) (r : Rec) → history_at s a ≡ Opened.Is b → i < b.elems → rec_at s b i ≡ RecRead.Is r → old_at s a i ≡ OldRead.Old a i r
+page-read : (s : List ℕ) (a : Addr) (b : Body) (i : ℕ) (r : Rec) → history_at s a ≡ Some b → i < b.elems → rec_at s b i ≡ Some r → old_at s a i ≡ Some (old_version a i r)
 unfolding old_at old_in
 page-read s a b i r o l e = rw (o, ne_eqb i b.elems (not_last i b.elems l), e)
 
-page-whole : (s : List ℕ) (a : Addr) (b : Body) → history_at s a ≡ Opened.Is b → slots_ok s b ≡ true → hist_ok s a ≡ true
+page-whole : (s : List ℕ) (a : Addr) (b : Body) → history_at s a ≡ Some b → slots_ok s b ≡ true → hist_ok s a ≡ true
 unfolding hist_ok
 page-whole s a b o w = rw o w
 
-page-old : (s : List ℕ) (a : Addr) (b : Body) (i : ℕ) → history_at s a ≡ Opened.Is b → slots_ok s b ≡ true → i < b.elems → Old s (hand_of a b) i
+page-old : (s : List ℕ) (a : Addr) (b : Body) (i : ℕ) → history_at s a ≡ Some b → slots_ok s b ≡ true → i < b.elems → Old s (hand_of a b) i
 page-old s a b i o w l =
     let g = every_slot s b w i l in
     let k = history-inside s a b o in
@@ -136,11 +132,11 @@ held-old s h i e l =
 pub spot_here : (s : List ℕ) (h : Hand) (i : ℕ) (p : Spot) → p.hand ≡ h → p.slot ≡ i → Held s h → i < h.elems → TurnsTo s h i p
 spot_here s h i p x y e l = rw (← x, ← y) (record { held = rw x e; slot = rw (x, y) l; same = refl })
 
-behind : (s : List ℕ) (a : Addr) (b : Body) (i : ℕ) → history_at s a ≡ Opened.Is b → i ≡ b.elems → old_at s a i ≡ old_link s b.link (history_at s b.link)
+behind : (s : List ℕ) (a : Addr) (b : Body) (i : ℕ) → history_at s a ≡ Some b → i ≡ b.elems → old_at s a i ≡ old_link s b.link (history_at s b.link)
 unfolding old_at
 behind s a b i o e = rw (o, eq-eqb i b.elems e)
 
-first_of : (s : List ℕ) (a : Addr) (b : Body) → history_at s a ≡ Opened.Is b → old_at s a 0 ≡ old_in s b a 0
+first_of : (s : List ℕ) (a : Addr) (b : Body) → history_at s a ≡ Some b → old_at s a 0 ≡ old_in s b a 0
 unfolding old_at
 first_of s a b o =
     let k = history-inside s a b o in
@@ -148,9 +144,9 @@ first_of s a b o =
     rw (o, ne_eqb 0 b.elems (λ e. omega arith))
 
 -- no chain goes on from an old version of a page that is not whole, nor from none
-chain_dead : (s : List ℕ) (n : ℕ) (a : Addr) (i : ℕ) (t : Ver) → 0 < n → (p : Addr) (q : ℕ) (w : RecRead) → old_at s a i ≡ old_rec p q w → hist_ok s p ≡ false → chain_from s n a i t ≡ false
-chain_dead s n a i t l p q (RecRead.Is r) e h = chain_broken s n a i t l p q r e h
-chain_dead s n a i t l p q RecRead.Bad e h = chain_bad s n a i t l e
+chain_dead : (s : List ℕ) (n : ℕ) (a : Addr) (i : ℕ) (t : Ver) → 0 < n → (p : Addr) (q : ℕ) (w : Option Rec) → old_at s a i ≡ old_rec p q w → hist_ok s p ≡ false → chain_from s n a i t ≡ false
+chain_dead s n a i t l p q (Some r) e h = chain_broken s n a i t l p q r e h
+chain_dead s n a i t l p q None e h = chain_bad s n a i t l e
 
 module _ (s : List ℕ) (h : Hand) (e : Held s h) (i : ℕ) (l : h.elems ≤ i) (m : i ≤ h.elems) where
   g : Page s h.page h
@@ -162,7 +158,7 @@ module _ (s : List ℕ) (h : Hand) (e : Held s h) (i : ℕ) (l : h.elems ≤ i) 
       let z : g.body.link ≡ h.link = ap (λ (y : Hand). y.link) g.is in
       behind s h.page g.body i g.opened (omega arith) ∙ ap (λ (y : Addr). old_link s y (history_at s y)) z
 
-  pub spot_behind : (d : Hand) (p : Spot) → p.hand ≡ d → p.slot ≡ 0 → judged_at s h.link ≡ HandRead.Is d → TurnsTo s h i p
+  pub spot_behind : (d : Hand) (p : Spot) → p.hand ≡ d → p.slot ≡ 0 → judged_at s h.link ≡ Some d → TurnsTo s h i p
   spot_behind d p x y j =
       let k = judged_given s h.link d j in
       let n = history-inside s h.link k.body k.opened in
@@ -170,25 +166,25 @@ module _ (s : List ℕ) (h : Hand) (e : Held s h) (i : ℕ) (l : h.elems ≤ i) 
       let w : k.body.elems ≡ d.elems = ap (λ (z : Hand). z.elems) k.is in
       let a : d.page ≡ h.link = sym (ap (λ (z : Hand). z.page) k.is) in
       let c : 0 < d.elems = omega arith in
-      let q : old_at s h.page i ≡ old_at s d.page 0 = next ∙ ap (λ (o : Opened). old_link s h.link o) k.opened ∙ sym (first_of s h.link k.body k.opened) ∙ ap (λ (z : Addr). old_at s z 0) (sym a) in
+      let q : old_at s h.page i ≡ old_at s d.page 0 = next ∙ ap (λ (o : Option Body). old_link s h.link o) k.opened ∙ sym (first_of s h.link k.body k.opened) ∙ ap (λ (z : Addr). old_at s z 0) (sym a) in
       record { held = rw x (judged-held s h.link d j); slot = rw (x, y) c; same = rw (x, y) q }
 
-  pub spot_none : judged_at s h.link ≡ HandRead.Bad → (n : ℕ) (t : Ver) → 0 < n → chain_from s n h.page i t ≡ false
+  pub spot_none : judged_at s h.link ≡ None → (n : ℕ) (t : Ver) → 0 < n → chain_from s n h.page i t ≡ false
   unfolding old_in
   spot_none j n t w = go (history_at s h.link) next
     where
-      go : (o : Opened) → old_at s h.page i ≡ old_link s h.link o → chain_from s n h.page i t ≡ false
-      go (Opened.Is b) q = chain_dead s n h.page i t w h.link 0 (rec_at s b 0) q (not_whole s h.link j)
-      go Opened.Bad q = chain_bad s n h.page i t w q
+      go : (o : Option Body) → old_at s h.page i ≡ old_link s h.link o → chain_from s n h.page i t ≡ false
+      go (Some b) q = chain_dead s n h.page i t w h.link 0 (rec_at s b 0) q (not_whole s h.link j)
+      go None q = chain_bad s n h.page i t w q
 
 -- ---- a chain's turn
 
-module _ (s : List ℕ) (h : Hand) (i : ℕ) (r : SpotRead) (g : TurnedTo s h i r) where
-  pub turned-is : (p : Spot) → r ≡ SpotRead.Is p → TurnsTo s h i p
-  turned-is p e = subst (λ (x : SpotRead). TurnedTo s h i x) e g
+module _ (s : List ℕ) (h : Hand) (i : ℕ) (r : Option Spot) (g : TurnedTo s h i r) where
+  pub turned-is : (p : Spot) → r ≡ Some p → TurnsTo s h i p
+  turned-is p e = subst (λ (x : Option Spot). TurnedTo s h i x) e g
 
-  pub turned_bad : r ≡ SpotRead.Bad → (n : ℕ) (t : Ver) → 0 < n → chain_from s n h.page i t ≡ false
-  turned_bad e = subst (λ (x : SpotRead). TurnedTo s h i x) e g
+  pub turned_bad : r ≡ None → (n : ℕ) (t : Ver) → 0 < n → chain_from s n h.page i t ≡ false
+  turned_bad e = subst (λ (x : Option Spot). TurnedTo s h i x) e g
 
 module _ (s : List ℕ) (h : Hand) (i n : ℕ) (t : Ver) (l : 0 < n) (p : Spot) (g : TurnsTo s h i p) (v : Ver) (e : v ≡ ver_in s (p.hand.at + le_at 4 s (p.hand.at + base_len + 4 * p.slot))) where
   old : Old s p.hand p.slot
@@ -207,11 +203,11 @@ module _ (s : List ℕ) (h : Hand) (i n : ℕ) (t : Ver) (l : 0 < n) (p : Spot) 
 
 -- ---- a head's history
 
-entered_in : (s : List ℕ) (a : Addr) (b : Body) (i : ℕ) → history_at s a ≡ Opened.Is b → entered s a i ≡ ltb i b.elems
+entered_in : (s : List ℕ) (a : Addr) (b : Body) (i : ℕ) → history_at s a ≡ Some b → entered s a i ≡ ltb i b.elems
 unfolding entered
 entered_in s a b i o = rw o
 
-entered-held : (s : List ℕ) (a : Addr) (h : Hand) (i : ℕ) → judged_at s a ≡ HandRead.Is h → entered s a i ≡ ltb i h.elems
+entered-held : (s : List ℕ) (a : Addr) (h : Hand) (i : ℕ) → judged_at s a ≡ Some h → entered s a i ≡ ltb i h.elems
 entered-held s a h i j =
     let g = judged_given s a h j in
     entered_in s a g.body i g.opened ∙ ap (λ (x : Hand). ltb i x.elems) g.is
@@ -220,11 +216,11 @@ chain_not_whole : (s : List ℕ) (n : ℕ) (a : Addr) (i : ℕ) (t : Ver) → 0 
 unfolding entered old_in old_at
 chain_not_whole s n a i t l e h = go (history_at s a) refl e
   where
-    go : (o : Opened) → history_at s a ≡ o → entered_of i o ≡ true → chain_from s n a i t ≡ false
-    go (Opened.Is b) o e' = chain_dead s n a i t l a i (rec_at s b i) (rw (o, ne_eqb i b.elems (not_last i b.elems (ltb-true i b.elems e')))) h
-    go Opened.Bad o e' = absurd (let z : ◌≡◌ {A = ℕ} 0 1 = cc in omega arith)
+    go : (o : Option Body) → history_at s a ≡ o → entered_of i o ≡ true → chain_from s n a i t ≡ false
+    go (Some b) o e' = chain_dead s n a i t l a i (rec_at s b i) (rw (o, ne_eqb i b.elems (not_last i b.elems (ltb-true i b.elems e')))) h
+    go None o e' = absurd (let z : ◌≡◌ {A = ℕ} 0 1 = cc in omega arith)
 
-pub head_not_whole : (s : List ℕ) (r : Rec) → (r.hist.count ≡ 0 → ⊥) → judged_at s r.hist.page ≡ HandRead.Bad → head_ok s r ≡ false
+pub head_not_whole : (s : List ℕ) (r : Rec) → (r.hist.count ≡ 0 → ⊥) → judged_at s r.hist.page ≡ None → head_ok s r ≡ false
 head_not_whole s r n j = go (entered s r.hist.page r.hist.slot) refl
   where
     some : (c : ℕ) → (c ≡ 0 → ⊥) → 0 < c
@@ -237,7 +233,7 @@ head_not_whole s r n j = go (entered s r.hist.page r.hist.slot) refl
     go false e = head_out s r n e
 
 -- a head whose page is in hand: a chain from its slot, where that is one of the page's
-module _ (s : List ℕ) (r : Rec) (n : r.hist.count ≡ 0 → ⊥) (h : Hand) (j : judged_at s r.hist.page ≡ HandRead.Is h) where
+module _ (s : List ℕ) (r : Rec) (n : r.hist.count ≡ 0 → ⊥) (h : Hand) (j : judged_at s r.hist.page ≡ Some h) where
   pub head_held : (v : Ver) → v ≡ ver_in s r.ver_at → r.hist.slot < h.elems → chain_from s r.hist.count h.page r.hist.slot v ≡ head_ok s r
   head_held v e l =
       ap (λ (x : Ver). chain_from s r.hist.count h.page r.hist.slot x) e

@@ -10,7 +10,6 @@ use lib.ListN.{length, take, drop}
 use lib.Dec.{eqb}
 use Rattle.frames.specs.declared.Body.{Body}
 use Rattle.records.specs.declared.Rec.{Rec}
-use Rattle.records.specs.declared.RecRead.{RecRead}
 use Rattle.records.specs.Records.{rec_at}
 use Rattle.records.proofs.Inside.{index_count}
 use Rattle.values.specs.declared.HistRef.{HistRef}
@@ -18,11 +17,12 @@ use Rattle.pages.specs.Sound.{head_ok, slots_ok, chains_ok}
 use Rattle.pages.specs.Meaning.{rows_of, rows_from}
 use Rattle.pages.proofs.Turns.{head_none}
 use Rattle.pages.proofs.Given.{every_slot, every_head}
+use Rattle.std.proofs.Common.{Some}
 
 -- a slot of a sound page: its record, and that its history is sound; on an index page no record has history
 pub record Good (s : List ℕ) (b : Body) (i : ℕ) : Type 0 where
   pub rec : Rec
-  pub read : rec_at s b i ≡ RecRead.Is rec
+  pub read : rec_at s b i ≡ Some rec
   pub ok : head_ok s rec ≡ true
 
 pub slot_good : (s : List ℕ) (b : Body) → slots_ok s b ≡ true → chains_ok s b ≡ true → (i : ℕ) → i < b.elems → Good s b i
@@ -30,16 +30,16 @@ slot_good s b e f i l =
     let g = every_slot s b e i l in
     record { rec = g.0; read = g.1; ok = by (eqb b.kind 1) refl g.0 g.1 }
   where
-    by : (t : Bool) → eqb b.kind 1 ≡ t → (r : Rec) → rec_at s b i ≡ RecRead.Is r → head_ok s r ≡ true
+    by : (t : Bool) → eqb b.kind 1 ≡ t → (r : Rec) → rec_at s b i ≡ Some r → head_ok s r ≡ true
     by true k r q = head_none s r (ap (λ (h : HistRef). h.count) (index_count s b i r (eqb-true _ _ k) q))
     by false k r q = every_head s b f (eqb-false b.kind 1 k) i l r q
 
 -- one row more
-pub rows_more : {A : Type 0} (f : Rec → A) (s : List ℕ) (b : Body) (k i : ℕ) (r : Rec) → rec_at s b i ≡ RecRead.Is r → rows_from f s b (suc k) i ≡ f r ∷ rows_from f s b k (i + 1)
+pub rows_more : {A : Type 0} (f : Rec → A) (s : List ℕ) (b : Body) (k i : ℕ) (r : Rec) → rec_at s b i ≡ Some r → rows_from f s b (suc k) i ≡ f r ∷ rows_from f s b k (i + 1)
 unfolding rows_from
 rows_more f s b k i r e = rw e
 
-module _ {A : Type 0} (f : Rec → A) (s : List ℕ) (b : Body) (every : (i : ℕ) → i < b.elems → (r : Rec) × (rec_at s b i ≡ RecRead.Is r)) where
+module _ {A : Type 0} (f : Rec → A) (s : List ℕ) (b : Body) (every : (i : ℕ) → i < b.elems → (r : Rec) × (rec_at s b i ≡ Some r)) where
   pub rows-many : (n j : ℕ) → j + n ≤ b.elems → length (rows_from f s b n j) ≡ n
   unfolding rows_from
   rows-many zero j l = refl

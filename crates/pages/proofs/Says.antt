@@ -9,20 +9,20 @@ use Rattle.spans.specs.Span.{part, part_or}
 use Rattle.records.specs.Parts.{prefix_in}
 use Rattle.records.proofs.Inside.{lo-part, hi-part, prefix-part}
 use Rattle.frames.specs.declared.Addr.{Addr}
-use Rattle.frames.specs.declared.Opened.{Opened}
 use Rattle.frames.specs.Layout.{open_at}
 use Rattle.frames.proofs.Frames.{open_inside}
-use Rattle.pages.specs.declared.Checked.{Checked}
 use Rattle.pages.specs.Meaning.{Page, Said, nothing, says, prefix_of, page_says, meaning, check_of}
 use Rattle.pages.specs.Boundaries.{bounds_of, bounds_at, lo_at, hi_at, prefix_at}
 use Rattle.pages.proofs.Given.{Sound, sound_given}
+use Rattle.std.proofs.Common.{Ok}
+use Rattle.frames.specs.declared.Refusal.{Refusal}
 
 -- the check says sound exactly where the page has a meaning
-pub checked_says : (m : Said) → check_of m ≡ Checked.Sound → (p : Page) × (m ≡ says p)
+pub checked_says : (m : Said) → check_of m ≡ Ok tt → (p : Page) × (m ≡ says p)
 checked_says nothing e = absurd (let z : ◌≡◌ {A = ℕ} 0 1 = cc in omega arith)
 checked_says (says p) e = (p, refl)
 
-pub says_checked : (m : Said) (p : Page) → m ≡ says p → check_of m ≡ Checked.Sound
+pub says_checked : (m : Said) (p : Page) → m ≡ says p → check_of m ≡ Ok tt
 says_checked m p e = ap check_of e
 
 -- the boundaries and the prefix that are lent on are those of the meaning

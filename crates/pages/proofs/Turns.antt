@@ -10,7 +10,6 @@ use lib.Dec.{leb, eqb}
 use lib.ListN.{take, drop}
 use Rattle.spans.specs.Span.{part}
 use Rattle.numbers.specs.Number.{le_at}
-use Rattle.order.specs.declared.Order.{Order}
 use Rattle.order.specs.declared.Ver.{Ver}
 use Rattle.order.specs.Order.{cmp_bytes}
 use Rattle.order.specs.Version.{newer_than}
@@ -19,17 +18,15 @@ use Rattle.order_pair.specs.declared.Pair.{Pair}
 use Rattle.order_pair.specs.Apart.{StandsAs}
 use Rattle.frames.specs.declared.Addr.{Addr}
 use Rattle.frames.specs.declared.Body.{Body}
-use Rattle.frames.specs.declared.Opened.{Opened}
 use Rattle.frames.specs.declared.Refusal.{Refusal}
 use Rattle.frames.specs.Layout.{open_at}
 use Rattle.records.specs.declared.Rec.{Rec}
-use Rattle.records.specs.declared.RecRead.{RecRead}
 use Rattle.values.specs.Keys.{ver_in}
 use Rattle.records.specs.Records.{rec_at}
-use Rattle.pages.specs.declared.Checked.{Checked}
-use Rattle.pages.specs.declared.OldRead.{OldRead}
-use Rattle.pages.specs.Sound.{in_order, slots_from, slots_ok, hist_ok, old_at, chain_from, head_ok, multi_of, chains_from, chains_ok, recs_ok, hints_ok, entered}
+use Rattle.pages.specs.Sound.{in_order, slots_from, slots_ok, hist_ok, old_at, chain_from, head_ok, multi_of, chains_from, chains_ok, recs_ok, hints_ok, entered, old_version}
 use Rattle.pages.specs.Meaning.{page_says, page_bounded, sound_body, meaning, check_of}
+use Rattle.std.proofs.Common.{Some, None, Ok, Err}
+use Rattle.std.specs.declared.cmp.Ordering.{Ordering}
 
 -- a turn spends one of what is left
 pub spend : (n i : ℕ) → i < n → n - i ≡ suc (n - (i + 1))
@@ -56,15 +53,15 @@ unfolding in_order part
 rises_by s kind i la ln ra rn d z h =
     let e : la + ln - la ≡ ln = omega arith in
     let f : ra + rn - ra ≡ rn = omega arith in
-    let less : cmp_bytes (take ln (drop la s)) (take rn (drop ra s)) ≡ Order.Less = rw (e, f) at (z.differ (λ q. omega arith) ∙ is-less d.x d.y Order.Equal h) in
+    let less : cmp_bytes (take ln (drop la s)) (take rn (drop ra s)) ≡ Ordering.Less = rw (e, f) at (z.differ (λ q. omega arith) ∙ is-less d.x d.y Ordering.Equal h) in
     rw less (yes (eqb kind 2 || eqb i 0))
 
 module _ (s : List ℕ) (b : Body) (n i want la ln : ℕ) (h : i < n) where
-  pub slots_bad : rec_at s b i ≡ RecRead.Bad → slots_from s b (n - i) i want la ln ≡ false
+  pub slots_bad : rec_at s b i ≡ None → slots_from s b (n - i) i want la ln ≡ false
   unfolding slots_from
   slots_bad e = rw (spend n i h, slots_from, e)
 
-  module _ (r : Rec) (e : rec_at s b i ≡ RecRead.Is r) where
+  module _ (r : Rec) (e : rec_at s b i ≡ Some r) where
     pub slots_gap : (r.from ≡ want → ⊥) → slots_from s b (n - i) i want la ln ≡ false
     unfolding slots_from
     slots_gap g = rw (spend n i h, slots_from, e, ne_eqb _ _ g)
@@ -91,11 +88,11 @@ module _ (s : List ℕ) (n : ℕ) (a : Addr) (i : ℕ) (t : Ver) (h : 0 < n) whe
   less : n ≡ suc (n - 1)
   less = omega arith
 
-  pub chain_bad : old_at s a i ≡ OldRead.Bad → chain_from s n a i t ≡ false
+  pub chain_bad : old_at s a i ≡ None → chain_from s n a i t ≡ false
   unfolding chain_from
   chain_bad e = rw (less, chain_from, e)
 
-  module _ (p : Addr) (q : ℕ) (r : Rec) (e : old_at s a i ≡ OldRead.Old p q r) where
+  module _ (p : Addr) (q : ℕ) (r : Rec) (e : old_at s a i ≡ Some (old_version p q r)) where
     pub chain_broken : hist_ok s p ≡ false → chain_from s n a i t ≡ false
     unfolding chain_from
     chain_broken g = rw (less, chain_from, e, g)
@@ -128,7 +125,7 @@ module _ (s : List ℕ) (r : Rec) where
   head_out e t = rw (ne_eqb _ _ e, t)
 
 module _ (s : List ℕ) (b : Body) (n i m : ℕ) (h : i < n) where
-  module _ (r : Rec) (e : rec_at s b i ≡ RecRead.Is r) where
+  module _ (r : Rec) (e : rec_at s b i ≡ Some r) where
     pub chains_broken : head_ok s r ≡ false → chains_from s b (n - i) i m ≡ false
     unfolding chains_from
     chains_broken g = rw (spend n i h, chains_from, e, g)
@@ -180,16 +177,16 @@ hints_fit s b n m e f g h k = rw (f, e) (rw (ne_eqb _ _ g, le-leb _ _ h, le-leb 
 
 -- ---- the check's answer
 
-pub check_none : (s : List ℕ) (a : Addr) → open_at s a ≡ Opened.Bad → check_of (meaning s a) ≡ Checked.Refused Refusal.BadFrame
+pub check_none : (s : List ℕ) (a : Addr) → open_at s a ≡ None → check_of (meaning s a) ≡ Err Refusal.BadFrame
 unfolding meaning
 check_none s a o = rw o
 
-module _ (s : List ℕ) (a : Addr) (b : Body) (o : open_at s a ≡ Opened.Is b) where
-  pub check_yes : sound_body s b ≡ true → check_of (meaning s a) ≡ Checked.Sound
+module _ (s : List ℕ) (a : Addr) (b : Body) (o : open_at s a ≡ Some b) where
+  pub check_yes : sound_body s b ≡ true → check_of (meaning s a) ≡ Ok tt
   unfolding meaning
   check_yes t = rw (o, t)
 
-  pub check_no : sound_body s b ≡ false → check_of (meaning s a) ≡ Checked.Refused Refusal.BadFrame
+  pub check_no : sound_body s b ≡ false → check_of (meaning s a) ≡ Err Refusal.BadFrame
   unfolding meaning
   check_no t = rw (o, t)
 

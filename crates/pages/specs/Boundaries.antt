@@ -1,15 +1,13 @@
 -- Where a page's boundaries and prefix stand, and the part of the arena at a place.
 -- Assumes nothing.
-use Rattle.std.specs.Prelude.{ℕ, ◌+◌, ◌*◌, List, [], cond, eqb}
+use Rattle.std.specs.Prelude.{ℕ, ◌+◌, ◌*◌, List, [], cond, eqb, Option, Some, None, Result, Ok, Err}
 use Rattle.spans.specs.Span.{part_or}
 use Rattle.frames.specs.declared.Addr.{Addr}
 use Rattle.frames.specs.declared.Body.{Body}
-use Rattle.frames.specs.declared.Opened.{Opened}
 use Rattle.frames.specs.declared.Refusal.{Refusal}
 use Rattle.frames.specs.Layout.{base_len, open_at}
 use Rattle.pages.specs.declared.Place.{Place}
 use Rattle.pages.specs.declared.Bounds.{Bounds}
-use Rattle.pages.specs.declared.BoundsRead.{BoundsRead}
 
 abbrev pub place : ℕ → ℕ → Place
 place at n = record { at = at; len = n }
@@ -24,11 +22,11 @@ bounds_of b =
       sibling = b.sibling;
     }
 
-abbrev pub bounds_read : Opened → BoundsRead
-bounds_read (Opened.Is b) = cond (eqb b.kind 2) (BoundsRead.Refused Refusal.BadFrame) (BoundsRead.Is (bounds_of b))
-bounds_read Opened.Bad = BoundsRead.Refused Refusal.BadFrame
+abbrev pub bounds_read : Option Body → Result Bounds Refusal
+bounds_read (Some b) = cond (eqb b.kind 2) (Err Refusal.BadFrame) (Ok (bounds_of b))
+bounds_read None = Err Refusal.BadFrame
 
-unfoldable pub bounds_at : List ℕ → Addr → BoundsRead
+unfoldable pub bounds_at : List ℕ → Addr → Result Bounds Refusal
 bounds_at s a = bounds_read (open_at s a)
 
 -- "a place outside it gives the empty part"
@@ -36,9 +34,9 @@ abbrev pub part_in : List ℕ → Place → List ℕ
 part_in s p = part_or s p.at p.len
 
 -- the boundaries and the prefix themselves; nothing where the page is refused
-abbrev pub boundary_of : List ℕ → (Bounds → Place) → BoundsRead → List ℕ
-boundary_of s f (BoundsRead.Is b) = part_in s (f b)
-boundary_of s f (BoundsRead.Refused r) = []
+abbrev pub boundary_of : List ℕ → (Bounds → Place) → Result Bounds Refusal → List ℕ
+boundary_of s f (Ok b) = part_in s (f b)
+boundary_of s f (Err r) = []
 
 unfoldable pub lo_at : List ℕ → Addr → List ℕ
 lo_at s a = boundary_of s (λ b. b.lo) (bounds_at s a)

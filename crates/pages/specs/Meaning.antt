@@ -1,6 +1,6 @@
 -- What a page says: its boundaries, prefix and sibling and its records in order, or nothing where it is not sound.
 -- Assumes nothing.
-use Rattle.std.specs.Prelude.{ℕ, zero, suc, ◌+◌, ◌*◌, List, [], ◌∷◌, ◌++◌, map, Bool, false, cond, eqb}
+use Rattle.std.specs.Prelude.{ℕ, zero, suc, ◌+◌, ◌*◌, List, [], ◌∷◌, ◌++◌, map, Bool, false, cond, eqb, Option, Some, None, Result, Ok, Err}
 use Rattle.spans.specs.Span.{part}
 use Rattle.numbers.specs.Number.{le_at}
 use Rattle.order.specs.declared.Ver.{Ver}
@@ -8,16 +8,13 @@ use Rattle.order.specs.Bounds.{bounded}
 use Rattle.frames.specs.declared.Addr.{Addr}
 use Rattle.frames.specs.declared.PageId.{PageId}
 use Rattle.frames.specs.declared.Body.{Body}
-use Rattle.frames.specs.declared.Opened.{Opened}
 use Rattle.frames.specs.declared.Refusal.{Refusal}
 use Rattle.frames.specs.Layout.{base_len, page_id, open_at}
 use Rattle.records.specs.declared.Rec.{Rec}
-use Rattle.records.specs.declared.RecRead.{RecRead}
 use Rattle.values.specs.Keys.{ver_in}
 use Rattle.records.specs.Records.{rec_at}
-use Rattle.pages.specs.declared.OldRead.{OldRead}
-use Rattle.pages.specs.declared.Checked.{Checked}
 use Rattle.pages.specs.Sound.{slots_ok, old_at, chains_ok, hints_ok}
+use Rattle.pages.specs.declared.OldVersion.{OldVersion}
 
 -- an older version and its value
 pub record Older : Type 0 where
@@ -54,9 +51,9 @@ pub data Said : Type 0 where
 -- ---- the reading, total: it is the meaning where the page is sound
 
 -- n old versions from a slot on
-abbrev pub olds_of : List ℕ → (Addr → ℕ → List Older) → OldRead → List Older
-olds_of s go (OldRead.Old p q r) = (record { ver = ver_in s r.ver_at; value = part s r.val_at r.val_len }) ∷ go p (q + 1)
-olds_of s go OldRead.Bad = []
+abbrev pub olds_of : List ℕ → (Addr → ℕ → List Older) → Option OldVersion → List Older
+olds_of s go (Some o) = (record { ver = ver_in s o.rec.ver_at; value = part s o.rec.val_at o.rec.val_len }) ∷ go o.page (o.slot + 1)
+olds_of s go None = []
 
 unfoldable pub olds_from : List ℕ → ℕ → Addr → ℕ → List Older
 olds_from s zero a i = []
@@ -82,9 +79,9 @@ unfoldable pub child_of : List ℕ → Body → Rec → Child
 child_of s b r = record { key = key_of s b r; page = page_id (le_at 8 s r.val_at) }
 
 -- the records of k slots from i on
-abbrev pub rows_of : {A : Type 0} → (Rec → A) → List A → RecRead → List A
-rows_of f rest (RecRead.Is r) = f r ∷ rest
-rows_of f rest RecRead.Bad = rest
+abbrev pub rows_of : {A : Type 0} → (Rec → A) → List A → Option Rec → List A
+rows_of f rest (Some r) = f r ∷ rest
+rows_of f rest None = rest
 
 unfoldable pub rows_from : {A : Type 0} → (Rec → A) → List ℕ → Body → ℕ → ℕ → List A
 rows_from f s b zero i = []
@@ -121,15 +118,15 @@ unfoldable pub sound_body : List ℕ → Body → Bool
 sound_body s b =
     cond (eqb b.kind 2) false (cond (slots_ok s b) (cond (chains_ok s b) (cond (hints_ok s b) (page_bounded (page_says s b)) false) false) false)
 
-abbrev pub meaning_of : List ℕ → Opened → Said
-meaning_of s (Opened.Is b) = cond (sound_body s b) (says (page_says s b)) nothing
-meaning_of s Opened.Bad = nothing
+abbrev pub meaning_of : List ℕ → Option Body → Said
+meaning_of s (Some b) = cond (sound_body s b) (says (page_says s b)) nothing
+meaning_of s None = nothing
 
 -- what the page at an address says, or nothing where it is not sound
 unfoldable pub meaning : List ℕ → Addr → Said
 meaning s a = meaning_of s (open_at s a)
 
 -- "A check call says so or 4"
-abbrev pub check_of : Said → Checked
-check_of nothing = Checked.Refused Refusal.BadFrame
-check_of (says p) = Checked.Sound
+abbrev pub check_of : Said → Result Unit Refusal
+check_of nothing = Err Refusal.BadFrame
+check_of (says p) = Ok tt

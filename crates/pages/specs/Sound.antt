@@ -1,6 +1,6 @@
 -- When a page is sound: document 01's sentence, one boolean function to each loop of the check. The whole of it, with the boundaries, stands in Meaning.
 -- Assumes nothing.
-use Rattle.std.specs.Prelude.{ℕ, zero, suc, ◌+◌, ◌*◌, List, Bool, true, false, ◌||◌, cond, ltb, leb, eqb}
+use Rattle.std.specs.Prelude.{ℕ, zero, suc, ◌+◌, ◌*◌, List, Bool, true, false, ◌||◌, cond, ltb, leb, eqb, Option, Some, None}
 use Rattle.spans.specs.Span.{part}
 use Rattle.numbers.specs.Number.{le_at}
 use Rattle.order.specs.declared.Ver.{Ver}
@@ -8,13 +8,11 @@ use Rattle.order.specs.Order.{cmp_bytes, is_less}
 use Rattle.order.specs.Version.{newer_than}
 use Rattle.frames.specs.declared.Addr.{Addr}
 use Rattle.frames.specs.declared.Body.{Body}
-use Rattle.frames.specs.declared.Opened.{Opened}
 use Rattle.frames.specs.Layout.{open_at}
 use Rattle.records.specs.declared.Rec.{Rec}
-use Rattle.records.specs.declared.RecRead.{RecRead}
 use Rattle.values.specs.Keys.{ver_in}
 use Rattle.records.specs.Records.{rec_at}
-use Rattle.pages.specs.declared.OldRead.{OldRead}
+use Rattle.pages.specs.declared.OldVersion.{OldVersion}
 
 -- ---- "records stand gapless in slot order, keys rise strictly (history pages excepted)"
 
@@ -23,12 +21,12 @@ unfoldable pub in_order : List ℕ → ℕ → ℕ → ℕ → ℕ → ℕ → �
 in_order s kind i la ln ra rn = cond (eqb kind 2 || eqb i 0) true (is_less (cmp_bytes (part s la ln) (part s ra rn)))
 
 -- the slots from i on: the record begins where the one before ended, and its key rises over that one's
-abbrev pub slots_of : List ℕ → Body → (ℕ → ℕ → ℕ → Bool) → ℕ → ℕ → ℕ → ℕ → RecRead → Bool
-slots_of s b go i want la ln (RecRead.Is r) =
+abbrev pub slots_of : List ℕ → Body → (ℕ → ℕ → ℕ → Bool) → ℕ → ℕ → ℕ → ℕ → Option Rec → Bool
+slots_of s b go i want la ln (Some r) =
     cond (eqb r.from want)
     (cond (in_order s b.kind i la ln r.rest_at r.rest_len) (go r.next r.rest_at r.rest_len) false)
     false
-slots_of s b go i want la ln RecRead.Bad = false
+slots_of s b go i want la ln None = false
 
 unfoldable pub slots_from : List ℕ → Body → ℕ → ℕ → ℕ → ℕ → ℕ → Bool
 slots_from s b zero i want la ln = true
@@ -40,56 +38,60 @@ slots_ok s b = slots_from s b b.elems 0 b.first 0 0
 -- ---- history pages
 
 -- the history page at an address
-abbrev pub history_of : Opened → Opened
-history_of (Opened.Is b) = cond (eqb b.kind 2) (Opened.Is b) Opened.Bad
-history_of Opened.Bad = Opened.Bad
+abbrev pub history_of : Option Body → Option Body
+history_of (Some b) = cond (eqb b.kind 2) (Some b) None
+history_of None = None
 
-unfoldable pub history_at : List ℕ → Addr → Opened
+unfoldable pub history_at : List ℕ → Addr → Option Body
 history_at s a = history_of (open_at s a)
 
 -- "each history page that it reaches whole: all slots, gapless"
-abbrev pub hist_of : List ℕ → Opened → Bool
-hist_of s (Opened.Is b) = slots_ok s b
-hist_of s Opened.Bad = false
+abbrev pub hist_of : List ℕ → Option Body → Bool
+hist_of s (Some b) = slots_ok s b
+hist_of s None = false
 
 unfoldable pub hist_ok : List ℕ → Addr → Bool
 hist_ok s a = hist_of s (history_at s a)
 
--- the old version at a slot of a page, or behind its last slot the first of the page that it links to
-abbrev pub old_rec : Addr → ℕ → RecRead → OldRead
-old_rec a i (RecRead.Is r) = OldRead.Old a i r
-old_rec a i RecRead.Bad = OldRead.Bad
+-- an old version: its page, its slot and its record
+abbrev pub old_version : Addr → ℕ → Rec → OldVersion
+old_version p i r = record { page = p; slot = i; rec = r }
 
-unfoldable pub old_in : List ℕ → Body → Addr → ℕ → OldRead
+-- the old version at a slot of a page, or behind its last slot the first of the page that it links to
+abbrev pub old_rec : Addr → ℕ → Option Rec → Option OldVersion
+old_rec a i (Some r) = Some (old_version a i r)
+old_rec a i None = None
+
+unfoldable pub old_in : List ℕ → Body → Addr → ℕ → Option OldVersion
 old_in s b a i = old_rec a i (rec_at s b i)
 
-abbrev pub old_link : List ℕ → Addr → Opened → OldRead
-old_link s a (Opened.Is b) = old_in s b a 0
-old_link s a Opened.Bad = OldRead.Bad
+abbrev pub old_link : List ℕ → Addr → Option Body → Option OldVersion
+old_link s a (Some b) = old_in s b a 0
+old_link s a None = None
 
-abbrev pub old_of : List ℕ → Addr → ℕ → Opened → OldRead
-old_of s a i (Opened.Is b) = cond (eqb i b.elems) (old_link s b.link (history_at s b.link)) (old_in s b a i)
-old_of s a i Opened.Bad = OldRead.Bad
+abbrev pub old_of : List ℕ → Addr → ℕ → Option Body → Option OldVersion
+old_of s a i (Some b) = cond (eqb i b.elems) (old_link s b.link (history_at s b.link)) (old_in s b a i)
+old_of s a i None = None
 
-unfoldable pub old_at : List ℕ → Addr → ℕ → OldRead
+unfoldable pub old_at : List ℕ → Addr → ℕ → Option OldVersion
 old_at s a i = old_of s a i (history_at s a)
 
 -- ---- "versions of a key grow strictly older"
 
 -- n old versions from a slot on, the first older than t, each older than the one before, each page whole
-abbrev pub chain_of : List ℕ → (Addr → ℕ → Ver → Bool) → Ver → OldRead → Bool
-chain_of s go t (OldRead.Old p q r) =
-    cond (hist_ok s p) (cond (newer_than t (ver_in s r.ver_at)) (go p (q + 1) (ver_in s r.ver_at)) false) false
-chain_of s go t OldRead.Bad = false
+abbrev pub chain_of : List ℕ → (Addr → ℕ → Ver → Bool) → Ver → Option OldVersion → Bool
+chain_of s go t (Some o) =
+    cond (hist_ok s o.page) (cond (newer_than t (ver_in s o.rec.ver_at)) (go o.page (o.slot + 1) (ver_in s o.rec.ver_at)) false) false
+chain_of s go t None = false
 
 unfoldable pub chain_from : List ℕ → ℕ → Addr → ℕ → Ver → Bool
 chain_from s zero a i t = true
 chain_from s (suc k) a i t = chain_of s (chain_from s k) t (old_at s a i)
 
 -- "slot below its page's elems"
-abbrev pub entered_of : ℕ → Opened → Bool
-entered_of i (Opened.Is b) = ltb i b.elems
-entered_of i Opened.Bad = false
+abbrev pub entered_of : ℕ → Option Body → Bool
+entered_of i (Some b) = ltb i b.elems
+entered_of i None = false
 
 unfoldable pub entered : List ℕ → Addr → ℕ → Bool
 entered s a i = entered_of i (history_at s a)
@@ -105,9 +107,9 @@ unfoldable pub multi_of : ℕ → ℕ → ℕ
 multi_of m c = cond (eqb c 0) m 1
 
 -- the heads from i on
-abbrev pub chains_of : List ℕ → (ℕ → Bool) → ℕ → RecRead → Bool
-chains_of s go m (RecRead.Is r) = cond (head_ok s r) (go (multi_of m r.hist.count)) false
-chains_of s go m RecRead.Bad = false
+abbrev pub chains_of : List ℕ → (ℕ → Bool) → ℕ → Option Rec → Bool
+chains_of s go m (Some r) = cond (head_ok s r) (go (multi_of m r.hist.count)) false
+chains_of s go m None = false
 
 unfoldable pub chains_from : List ℕ → Body → ℕ → ℕ → ℕ → Bool
 chains_from s b zero i m = eqb m b.multi

@@ -12,9 +12,9 @@ ghost use Rattle.pages.specs.Hand.{judged_at, Held, Known, TurnedTo};
 ghost use Rattle.pages.specs.Meaning.{page_says, page_bounded, meaning, check_of};
 ghost use Rattle.pages.specs.HintsAt.{hints_of, history_hints_at, remote_hints_at, hint_in};
 
-use frames::{Addr, BaseHeader, Body, NULL_ADDR, Opened, PageId, Refusal};
+use frames::{Addr, BaseHeader, Body, NULL_ADDR, PageId, Refusal};
 use order::Ver;
-use records::{ChildRead, Rec, RecRead, SlotRead, ValRead};
+use records::{ChildParts, Rec, ValParts};
 
 // ---- the check
 
@@ -30,13 +30,13 @@ fn in_order(s: &[u8], kind: u8, i: usize, la: usize, ln: usize, ra: usize, rn: u
 }
 
 // The record of slot i of an index or a history page: the common old version is read in place.
-fn old_or_child(s: &[u8], b: Body, i: usize) -> RecRead
+fn old_or_child(s: &[u8], b: Body, i: usize) -> Option<Rec>
     requires { Inside s.now b }
     ensures { result ≡ rec_at s.now b i }
 {
     if b.kind == Body::HISTORY {
-        if let RecRead::Is(r) = records::quick_old(s, b, i) {
-            return RecRead::Is(r);
+        if let Some(r) = records::quick_old(s, b, i) {
+            return Some(r);
         }
     }
     records::rec_at(s, b, i)
@@ -52,7 +52,7 @@ fn slots_ok(s: &[u8], b: Body) -> bool
     let mut la = 0;
     let mut ln = 0;
     while i < b.elems {
-        let RecRead::Is(r) = old_or_child(s, b, i) else {
+        let Some(r) = old_or_child(s, b, i) else {
             return false;
         };
         if r.from != want {
@@ -72,19 +72,19 @@ fn slots_ok(s: &[u8], b: Body) -> bool
 
 // The history page at an address. `s` is lent on anew to the call that is rarely made: handed on as it is, all of it would be copied first, and LLVM reads
 // sixteen bytes right behind two stores of eight, which waits.
-pub fn history_at(s: &[u8], a: Addr) -> Opened
+pub fn history_at(s: &[u8], a: Addr) -> Option<Body>
     ensures { result ≡ history_at s.now a }
 {
-    if let Opened::Is(d) = frames::quick_history(s, a) {
-        return Opened::Is(d);
+    if let Some(d) = frames::quick_history(s, a) {
+        return Some(d);
     }
-    let Opened::Is(b) = frames::open_at(&s[..], a) else {
-        return Opened::Bad;
+    let Some(b) = frames::open_at(&s[..], a) else {
+        return None;
     };
     if b.kind != Body::HISTORY {
-        return Opened::Bad;
+        return None;
     }
-    Opened::Is(b)
+    Some(b)
 }
 
 // A history page in hand: its address, where it stands, its slots and its link.
@@ -96,77 +96,72 @@ struct Hand {
     link: Addr,
 }
 
-#[derive(Clone, Copy)]
-enum HandRead {
-    Is(Hand),
-    Bad,
-}
-
 // The history page at an address, judged whole.
-fn judged(s: &[u8], a: Addr) -> HandRead
+fn judged(s: &[u8], a: Addr) -> Option<Hand>
     ensures { result ≡ judged_at s.now a }
 {
-    let Opened::Is(b) = history_at(s, a) else {
-        return HandRead::Bad;
+    let Some(b) = history_at(s, a) else {
+        return None;
     };
     if slots_ok(s, b) {
         let link = b.link;
-        return HandRead::Is(Hand {
+        return Some(Hand {
             page: a,
             at: b.at,
             elems: b.elems,
-            link: link,
+            link,
         });
     }
-    HandRead::Bad
+    None
 }
 
 // The same, with a page in hand: as long as pages come in order, each is judged once.
-fn in_hand(s: &[u8], a: Addr, hand: Hand) -> HandRead
+fn in_hand(s: &[u8], a: Addr, hand: Hand) -> Option<Hand>
     requires { Known s.now hand }
     ensures { result ≡ judged_at s.now a }
 {
     if (a.0 == hand.page.0) & (a.0 != 0) {
-        return HandRead::Is(hand);
+        return Some(hand);
     }
     judged(s, a)
 }
 
 // An old version: its page, its slot and its record.
 #[derive(Clone, Copy)]
-pub enum OldRead {
-    Old { page: Addr, slot: usize, rec: Rec },
-    Bad,
+pub struct OldVersion {
+    pub page: Addr,
+    pub slot: usize,
+    pub rec: Rec,
 }
 
-fn old_in(s: &[u8], b: Body, a: Addr, i: usize) -> OldRead
+fn old_in(s: &[u8], b: Body, a: Addr, i: usize) -> Option<OldVersion>
     requires { Inside s.now b }
     ensures { result ≡ old_in s.now b a i }
 {
-    let RecRead::Is(r) = records::rec_at(s, b, i) else {
-        return OldRead::Bad;
+    let Some(r) = records::rec_at(s, b, i) else {
+        return None;
     };
-    OldRead::Old {
+    Some(OldVersion {
         page: a,
         slot: i,
         rec: r,
-    }
+    })
 }
 
 // The old version at a slot of a history page, or, behind its last slot, the first of the page that it links to. A walk reads it from the page that it
 // carries (`walks::OldPlace::next`), for speed.
-pub fn old_at(s: &[u8], a: Addr, i: usize) -> OldRead
+pub fn old_at(s: &[u8], a: Addr, i: usize) -> Option<OldVersion>
     ensures { result ≡ old_at s.now a i }
 {
-    let Opened::Is(b) = history_at(s, a) else {
-        return OldRead::Bad;
+    let Some(b) = history_at(s, a) else {
+        return None;
     };
     if i != b.elems {
         return old_in(s, b, a, i);
     }
     let link = b.link;
-    let Opened::Is(d) = history_at(s, link) else {
-        return OldRead::Bad;
+    let Some(d) = history_at(s, link) else {
+        return None;
     };
     old_in(s, d, link, 0)
 }
@@ -178,29 +173,20 @@ struct Spot {
     slot: usize,
 }
 
-#[derive(Clone, Copy)]
-enum SpotRead {
-    Is(Spot),
-    Bad,
-}
-
 // Where the old version at a slot of the page in hand stands: behind its last slot it is the first of the page that it links to.
-fn spot_at(s: &[u8], hand: Hand, i: usize) -> SpotRead
+fn spot_at(s: &[u8], hand: Hand, i: usize) -> Option<Spot>
     requires held { Held s.now hand }
     requires i_le_elems { i ≤ hand.elems }
     ensures { TurnedTo s.now hand i result }
 {
     if i < hand.elems {
-        return SpotRead::Is(Spot {
-            hand: hand,
-            slot: i,
-        });
+        return Some(Spot { hand, slot: i });
     }
     let link = hand.link;
-    let HandRead::Is(h) = judged(s, link) else {
-        return SpotRead::Bad;
+    let Some(h) = judged(s, link) else {
+        return None;
     };
-    SpotRead::Is(Spot { hand: h, slot: 0 })
+    Some(Spot { hand: h, slot: 0 })
 }
 
 // The version at a slot of the page in hand: the page was judged, so it stands where the slot points.
@@ -232,37 +218,28 @@ fn chain(s: &[u8], first: Hand, i: usize, n: u32, t: Ver) -> Chained
     let mut slot = i;
     let mut ver = t;
     while 0 < left {
-        let SpotRead::Is(p) = spot_at(s, hand, slot) else {
-            return Chained {
-                ok: false,
-                hand: hand,
-            };
+        let Some(p) = spot_at(s, hand, slot) else {
+            return Chained { ok: false, hand };
         };
         let h = p.hand;
         let v = old_ver(s, h, p.slot);
         if ver.newer(v) {
             ver = v;
         } else {
-            return Chained {
-                ok: false,
-                hand: hand,
-            };
+            return Chained { ok: false, hand };
         }
         hand = h;
         slot = p.slot + 1;
         left -= 1;
     }
-    Chained {
-        ok: true,
-        hand: hand,
-    }
+    Chained { ok: true, hand }
 }
 
 // Whether a slot is one of a history page's.
 pub fn entered_at(s: &[u8], a: Addr, i: usize) -> bool
     ensures { result ≡ entered s.now a i }
 {
-    let Opened::Is(b) = history_at(s, a) else {
+    let Some(b) = history_at(s, a) else {
         return false;
     };
     i < b.elems
@@ -277,25 +254,16 @@ fn head_ok(s: &[u8], r: Rec, hand: Hand) -> Chained
 {
     let h = r.hist;
     if h.count == 0 {
-        return Chained {
-            ok: true,
-            hand: hand,
-        };
+        return Chained { ok: true, hand };
     }
     let page = h.page;
-    let HandRead::Is(x) = in_hand(s, page, hand) else {
-        return Chained {
-            ok: false,
-            hand: hand,
-        };
+    let Some(x) = in_hand(s, page, hand) else {
+        return Chained { ok: false, hand };
     };
     if (h.slot as usize) < x.elems {
         return chain(s, x, h.slot as usize, h.count, records::ver_at(s, r.ver_at));
     }
-    Chained {
-        ok: false,
-        hand: hand,
-    }
+    Chained { ok: false, hand }
 }
 
 fn multi_of(m: u8, count: u32) -> u8
@@ -305,34 +273,27 @@ fn multi_of(m: u8, count: u32) -> u8
 }
 
 // The head of slot i of a leaf: the common one is read in place. A second text of `records::quick_head`, whose second caller would slow walks.
-fn head_at(s: &[u8], b: Body, i: usize) -> RecRead
+fn head_at(s: &[u8], b: Body, i: usize) -> Option<Rec>
     requires inside { Inside s.now b }
     requires kind_value { b.kind ≡ 0 }
     ensures { result ≡ rec_at s.now b i }
 {
-    let SlotRead::At(p) = records::slot_at(s, b, i) else {
-        return RecRead::Bad;
+    let Some(p) = records::slot_at(s, b, i) else {
+        return None;
     };
     let n = records::quick_key(s, b, p);
     if n != 0 {
-        if let ValRead::Is {
-            hist,
-            val_at,
-            val_len,
-            remote,
-            next,
-        } = records::quick_value(s, b, p + 1 + n)
-        {
-            return RecRead::Is(Rec {
+        if let Some(val) = records::quick_value(s, b, p + 1 + n) {
+            return Some(Rec {
                 from: p,
                 ver_at: p + 1,
                 rest_at: p + 1 + 12,
                 rest_len: n - 12,
-                hist: hist,
-                val_at: val_at,
-                val_len: val_len,
-                remote: remote,
-                next: next,
+                hist: val.hist,
+                val_at: val.val_at,
+                val_len: val.val_len,
+                remote: val.remote,
+                next: val.next,
             });
         }
     }
@@ -357,7 +318,7 @@ fn leaf_ok(s: &[u8], b: Body) -> bool
         link: NULL_ADDR,
     };
     while i < b.elems {
-        let RecRead::Is(head) = head_at(s, b, i) else {
+        let Some(head) = head_at(s, b, i) else {
             return false;
         };
         if head.from != want {
@@ -409,23 +370,17 @@ fn index_ok(s: &[u8], b: Body) -> bool
     let mut la = 0;
     let mut ln = 0;
     while i < b.elems {
-        let ChildRead::Is {
-            from,
-            ver_at,
-            rest_at,
-            rest_len,
-        } = records::child_at(s, b, i)
-        else {
+        let Some(child) = records::child_at(s, b, i) else {
             return false;
         };
-        if from != want {
+        if child.from != want {
             return false;
         }
-        if rises(s, b.kind, i, la, ln, rest_at, rest_len) {
+        if rises(s, b.kind, i, la, ln, child.rest_at, child.rest_len) {
             i += 1;
-            want = rest_at + rest_len + 8;
-            la = rest_at;
-            ln = rest_len;
+            want = child.rest_at + child.rest_len + 8;
+            la = child.rest_at;
+            ln = child.rest_len;
         } else {
             return false;
         }
@@ -476,10 +431,10 @@ fn bounded(s: &[u8], b: Body) -> bool
     if b.elems == 0 {
         return order::below_by(order::compare(lo, hi), hi);
     }
-    let RecRead::Is(x) = records::rec_at(s, b, 0) else {
+    let Some(x) = records::rec_at(s, b, 0) else {
         return false;
     };
-    let RecRead::Is(y) = records::rec_at(s, b, b.elems - 1) else {
+    let Some(y) = records::rec_at(s, b, b.elems - 1) else {
         return false;
     };
     let p = spans::part_of(s, lo_at, b.prefix_len);
@@ -488,30 +443,24 @@ fn bounded(s: &[u8], b: Body) -> bool
     !order::is_less(low) & order::below_by(high, hi)
 }
 
-#[derive(Clone, Copy)]
-pub enum Checked {
-    Sound,
-    Refused(Refusal),
-}
-
 // Whether the page at an address, leaf or index, is sound.
-pub fn check(s: &[u8], a: Addr) -> Checked
+pub fn check(s: &[u8], a: Addr) -> Result<(), Refusal>
     ensures { result ≡ check_of (meaning s.now a) }
 {
-    let Opened::Is(b) = frames::open_at(s, a) else {
-        return Checked::Refused(Refusal::BadFrame);
+    let Some(b) = frames::open_at(s, a) else {
+        return Err(Refusal::BadFrame);
     };
     if b.kind == Body::HISTORY {
-        return Checked::Refused(Refusal::BadFrame);
+        return Err(Refusal::BadFrame);
     }
     if recs_ok(s, b) {
         if hints_ok(s, b) {
             if bounded(s, b) {
-                return Checked::Sound;
+                return Ok(());
             }
         }
     }
-    Checked::Refused(Refusal::BadFrame)
+    Err(Refusal::BadFrame)
 }
 
 // ---- boundaries
@@ -532,25 +481,19 @@ pub struct Bounds {
     pub sibling: PageId,
 }
 
-#[derive(Clone, Copy)]
-pub enum BoundsRead {
-    Is(Bounds),
-    Refused(Refusal),
-}
-
 // The boundaries of the leaf or index page at an address. An empty hi is none.
-pub fn bounds_at(s: &[u8], a: Addr) -> BoundsRead
+pub fn bounds_at(s: &[u8], a: Addr) -> Result<Bounds, Refusal>
     ensures { result ≡ bounds_at s.now a }
 {
-    let Opened::Is(b) = frames::open_at(s, a) else {
-        return BoundsRead::Refused(Refusal::BadFrame);
+    let Some(b) = frames::open_at(s, a) else {
+        return Err(Refusal::BadFrame);
     };
     if b.kind == Body::HISTORY {
-        return BoundsRead::Refused(Refusal::BadFrame);
+        return Err(Refusal::BadFrame);
     }
     let lo_at = b.at + BaseHeader::HDR_LEN + 4 * b.elems;
     let sibling = b.sibling;
-    BoundsRead::Is(Bounds {
+    Ok(Bounds {
         lo: Place {
             at: lo_at,
             len: b.lo_len,
@@ -563,7 +506,7 @@ pub fn bounds_at(s: &[u8], a: Addr) -> BoundsRead
             at: lo_at,
             len: b.prefix_len,
         },
-        sibling: sibling,
+        sibling,
     })
 }
 
@@ -578,7 +521,7 @@ pub fn part_at(s: &[u8], p: Place) -> &[u8]
 pub fn lo(s: &[u8], a: Addr) -> &[u8]
     ensures { result.now ≡ lo_at s.now a }
 {
-    let BoundsRead::Is(b) = bounds_at(s, a) else {
+    let Ok(b) = bounds_at(s, a) else {
         return &s[..0];
     };
     let p = b.lo;
@@ -589,7 +532,7 @@ pub fn lo(s: &[u8], a: Addr) -> &[u8]
 pub fn hi(s: &[u8], a: Addr) -> &[u8]
     ensures { result.now ≡ hi_at s.now a }
 {
-    let BoundsRead::Is(b) = bounds_at(s, a) else {
+    let Ok(b) = bounds_at(s, a) else {
         return &s[..0];
     };
     let p = b.hi;
@@ -600,7 +543,7 @@ pub fn hi(s: &[u8], a: Addr) -> &[u8]
 pub fn prefix(s: &[u8], a: Addr) -> &[u8]
     ensures { result.now ≡ prefix_at s.now a }
 {
-    let BoundsRead::Is(b) = bounds_at(s, a) else {
+    let Ok(b) = bounds_at(s, a) else {
         return &s[..0];
     };
     let p = b.prefix;
@@ -616,83 +559,67 @@ pub struct Hints {
     pub count: usize,
 }
 
-#[derive(Clone, Copy)]
-pub enum HintsRead {
-    Are(Hints),
-    Nothing,
-    Refused(Refusal),
-}
-
-#[derive(Clone, Copy)]
-pub enum Hint {
-    Is(Addr),
-    Nothing,
-}
-
 // Hints at a place; none where they are 0 in number.
-fn hints_of(at: usize, count: usize) -> HintsRead
+fn hints_of(at: usize, count: usize) -> Result<Option<Hints>, Refusal>
     ensures { result ≡ hints_of at count }
 {
     if count == 0 {
-        return HintsRead::Nothing;
+        return Ok(None);
     }
-    HintsRead::Are(Hints {
-        at: at,
-        count: count,
-    })
+    Ok(Some(Hints { at, count }))
 }
 
 // The addresses of a leaf page's history pages.
-pub fn history_hints(s: &[u8], a: Addr) -> HintsRead
+pub fn history_hints(s: &[u8], a: Addr) -> Result<Option<Hints>, Refusal>
     ensures { result ≡ history_hints_at s.now a }
 {
-    let Opened::Is(b) = frames::open_at(s, a) else {
-        return HintsRead::Refused(Refusal::BadFrame);
+    let Some(b) = frames::open_at(s, a) else {
+        return Err(Refusal::BadFrame);
     };
     if b.kind != Body::LEAF {
-        return HintsRead::Refused(Refusal::BadFrame);
+        return Err(Refusal::BadFrame);
     }
     if hints_ok(s, b) {
         if b.tail == b.end {
-            return HintsRead::Nothing;
+            return Ok(None);
         }
         return hints_of(b.end + 4, numbers::read_u32(s, b.end) as usize);
     }
-    HintsRead::Refused(Refusal::BadFrame)
+    Err(Refusal::BadFrame)
 }
 
 // The addresses of the remote frames that a leaf page's values stand in.
-pub fn remote_hints(s: &[u8], a: Addr) -> HintsRead
+pub fn remote_hints(s: &[u8], a: Addr) -> Result<Option<Hints>, Refusal>
     ensures { result ≡ remote_hints_at s.now a }
 {
-    let Opened::Is(b) = frames::open_at(s, a) else {
-        return HintsRead::Refused(Refusal::BadFrame);
+    let Some(b) = frames::open_at(s, a) else {
+        return Err(Refusal::BadFrame);
     };
     if b.kind != Body::LEAF {
-        return HintsRead::Refused(Refusal::BadFrame);
+        return Err(Refusal::BadFrame);
     }
     if hints_ok(s, b) {
         if b.tail == b.end {
-            return HintsRead::Nothing;
+            return Ok(None);
         }
         let p = b.end + 4 + 8 * (numbers::read_u32(s, b.end) as usize);
         return hints_of(p + 4, numbers::read_u32(s, p) as usize);
     }
-    HintsRead::Refused(Refusal::BadFrame)
+    Err(Refusal::BadFrame)
 }
 
 // One of them; none behind the last, and outside the arena.
-pub fn hint_at(s: &[u8], h: Hints, k: usize) -> Hint
+pub fn hint_at(s: &[u8], h: Hints, k: usize) -> Option<Addr>
     ensures { result ≡ hint_in s.now h k }
 {
     if h.count <= k {
-        return Hint::Nothing;
+        return None;
     }
     if s.len() < h.at {
-        return Hint::Nothing;
+        return None;
     }
     if (s.len() - h.at) / 8 <= k {
-        return Hint::Nothing;
+        return None;
     }
-    Hint::Is(Addr(numbers::read_u64(s, h.at + 8 * k)))
+    Some(Addr(numbers::read_u64(s, h.at + 8 * k)))
 }

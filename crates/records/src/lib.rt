@@ -1,39 +1,27 @@
 // A page's parts: one decoder of a record at a slot, for leaf, index and history pages; its prefix, lent on.
 #![tactic(auto)]
 
-ghost use Rattle.std.specs.Prelude.{◌≡◌, ◌+◌, ◌≤◌, ◌<◌, true, false, length};
+ghost use Rattle.std.specs.Prelude.{◌≡◌, ◌+◌, ◌≤◌, ◌<◌, true, false, length, Some, None};
 ghost use Rattle.frames.specs.declared.Body.{Body};
 ghost use Rattle.frames.specs.Layout.{Inside};
 ghost use Rattle.values.specs.Keys.{ver_in, key_at};
-ghost use Rattle.values.specs.Vals.{no_hist, val_of, val_at};
-ghost use Rattle.values.specs.declared.FrontRead.{FrontRead};
+ghost use Rattle.values.specs.Vals.{no_hist, val_of, val_at, front_places};
 ghost use Rattle.values.specs.declared.Val.{Val};
-ghost use Rattle.records.specs.declared.RecRead.{RecRead};
-ghost use Rattle.records.specs.declared.ValRead.{ValRead};
 ghost use Rattle.records.specs.Records.{slot_at, key_in, key_at_slot, val_in, rec_in, rec_at, child_of, Quickly, ShortKey};
 ghost use Rattle.records.specs.Parts.{prefix_in};
 
-use frames::{Addr, BaseHeader, Body, NULL_ADDR, RemoteRead};
+use frames::{Addr, BaseHeader, Body, NULL_ADDR};
 use order::Ver;
-use values::{HistRef, KeyRead, Val};
-
-#[derive(Clone, Copy)]
-pub enum SlotRead {
-    At(usize),
-    Bad,
-}
+use values::{HistRef, KeyParts, Val};
 
 // A value with its remote resolved: where its bytes stand, and the remote frame's address or 0.
 #[derive(Clone, Copy)]
-pub enum ValRead {
-    Is {
-        hist: HistRef,
-        val_at: usize,
-        val_len: usize,
-        remote: Addr,
-        next: usize,
-    },
-    Bad,
+pub struct ValParts {
+    pub hist: HistRef,
+    pub val_at: usize,
+    pub val_len: usize,
+    pub remote: Addr,
+    pub next: usize,
 }
 
 // A record's places: where it begins, its version, key rest, value; what follows it.
@@ -50,28 +38,22 @@ pub struct Rec {
     pub next: usize,
 }
 
-#[derive(Clone, Copy)]
-pub enum RecRead {
-    Is(Rec),
-    Bad,
-}
-
 // Where the record of slot i starts. `sst::marked_at` has a second text of this, for speed.
-pub fn slot_at(s: &[u8], b: Body, i: usize) -> SlotRead
+pub fn slot_at(s: &[u8], b: Body, i: usize) -> Option<usize>
     requires { Inside s.now b }
     ensures { result ≡ slot_at s.now b i }
 {
     if b.elems <= i {
-        return SlotRead::Bad;
+        return None;
     }
     let p = b.at + (numbers::read_u32(s, b.at + BaseHeader::HDR_LEN + 4 * i) as usize);
     if p < b.first {
-        return SlotRead::Bad;
+        return None;
     }
     if b.end <= p {
-        return SlotRead::Bad;
+        return None;
     }
-    SlotRead::At(p)
+    Some(p)
 }
 
 // The version at a place that holds one.
@@ -83,31 +65,22 @@ pub fn ver_at(s: &[u8], at: usize) -> Ver
 }
 
 // The key at a place of a page: whole, it has at most 4,096 bytes.
-fn key_in(s: &[u8], b: Body, at: usize) -> KeyRead
+fn key_in(s: &[u8], b: Body, at: usize) -> Option<KeyParts>
     requires { Inside s.now b }
     ensures { result ≡ key_in s.now b at }
 {
     let e = b.end;
-    let KeyRead::Key {
-        ver_at,
-        rest_at,
-        rest_len,
-    } = values::key_at(&s[..e], at, b.kind)
-    else {
-        return KeyRead::Bad;
+    let Some(k) = values::key_at(&s[..e], at, b.kind) else {
+        return None;
     };
-    if BaseHeader::MAX_KEY < b.prefix_len + rest_len {
-        return KeyRead::Bad;
+    if BaseHeader::MAX_KEY < b.prefix_len + k.rest_len {
+        return None;
     }
-    KeyRead::Key {
-        ver_at: ver_at,
-        rest_at: rest_at,
-        rest_len: rest_len,
-    }
+    Some(k)
 }
 
 // The same. A length of one byte is read here, so that this is small enough to stand in its caller's loop.
-fn short_key(s: &[u8], b: Body, at: usize) -> KeyRead
+fn short_key(s: &[u8], b: Body, at: usize) -> Option<KeyParts>
     requires { Inside s.now b }
     ensures { result ≡ key_in s.now b at }
 {
@@ -121,11 +94,11 @@ fn short_key(s: &[u8], b: Body, at: usize) -> KeyRead
                 if skip <= n {
                     if n <= e - at - 1 {
                         if b.prefix_len + (n - skip) <= BaseHeader::MAX_KEY {
-                            return KeyRead::Key {
+                            return Some(KeyParts {
                                 ver_at: at + 1,
                                 rest_at: at + 1 + skip,
                                 rest_len: n - skip,
-                            };
+                            });
                         }
                     }
                 }
@@ -136,80 +109,79 @@ fn short_key(s: &[u8], b: Body, at: usize) -> KeyRead
 }
 
 // The key of slot i: all that a search reads.
-pub fn key_at(s: &[u8], b: Body, i: usize) -> KeyRead
+pub fn key_at(s: &[u8], b: Body, i: usize) -> Option<KeyParts>
     requires { Inside s.now b }
     ensures { result ≡ key_at_slot s.now b i }
 {
-    let SlotRead::At(p) = slot_at(s, b, i) else {
-        return KeyRead::Bad;
+    let Some(p) = slot_at(s, b, i) else {
+        return None;
     };
     short_key(s, b, p)
 }
 
 // The value at a place of a page, and its remote frame judged with it; only a leaf's head has history.
-fn val_in(s: &[u8], b: Body, at: usize) -> ValRead
+fn val_in(s: &[u8], b: Body, at: usize) -> Option<ValParts>
     requires { Inside s.now b }
     ensures { result ≡ val_in s.now b at }
 {
     let e = b.end;
     let v = Val::decode_from(&s[..e], at, b.kind == Body::LEAF);
     match v {
-        Val::Inline {
+        Some(
+            Val::Inline {
+                hist,
+                at: p,
+                size,
+                next,
+            },
+        ) => Some(ValParts {
             hist,
-            at: p,
-            size,
-            next,
-        } => ValRead::Is {
-            hist: hist,
             val_at: p,
             val_len: size,
             remote: NULL_ADDR,
-            next: next,
-        },
-        Val::Remote {
-            hist,
-            addr,
-            size,
             next,
-        } => {
-            let RemoteRead::At(q) = frames::remote_at(s, addr, size as u32) else {
-                return ValRead::Bad;
+        }),
+        Some(
+            Val::Remote {
+                hist,
+                addr,
+                size,
+                next,
+            },
+        ) => {
+            let Some(q) = frames::remote_at(s, addr, size as u32) else {
+                return None;
             };
-            ValRead::Is {
-                hist: hist,
+            Some(ValParts {
+                hist,
                 val_at: q,
                 val_len: size,
                 remote: addr,
-                next: next,
-            }
+                next,
+            })
         }
-        Val::Bad => ValRead::Bad,
+        None => None,
     }
 }
 
 // The record at a place of a page.
-fn rec_in(s: &[u8], b: Body, p: usize) -> RecRead
+fn rec_in(s: &[u8], b: Body, p: usize) -> Option<Rec>
     requires { Inside s.now b }
     ensures { result ≡ rec_in s.now b p }
 {
-    let KeyRead::Key {
-        ver_at,
-        rest_at,
-        rest_len,
-    } = key_in(s, b, p)
-    else {
-        return RecRead::Bad;
+    let Some(k) = key_in(s, b, p) else {
+        return None;
     };
-    let q = rest_at + rest_len;
+    let q = k.rest_at + k.rest_len;
     if b.kind == Body::INDEX {
         if b.end < q + 8 {
-            return RecRead::Bad;
+            return None;
         }
-        return RecRead::Is(Rec {
+        return Some(Rec {
             from: p,
-            ver_at: ver_at,
-            rest_at: rest_at,
-            rest_len: rest_len,
+            ver_at: k.ver_at,
+            rest_at: k.rest_at,
+            rest_len: k.rest_len,
             hist: HistRef {
                 page: NULL_ADDR,
                 slot: 0,
@@ -221,36 +193,29 @@ fn rec_in(s: &[u8], b: Body, p: usize) -> RecRead
             next: q + 8,
         });
     }
-    let ValRead::Is {
-        hist,
-        val_at,
-        val_len,
-        remote,
-        next,
-    } = val_in(s, b, q)
-    else {
-        return RecRead::Bad;
+    let Some(val) = val_in(s, b, q) else {
+        return None;
     };
-    RecRead::Is(Rec {
+    Some(Rec {
         from: p,
-        ver_at: ver_at,
-        rest_at: rest_at,
-        rest_len: rest_len,
-        hist: hist,
-        val_at: val_at,
-        val_len: val_len,
-        remote: remote,
-        next: next,
+        ver_at: k.ver_at,
+        rest_at: k.rest_at,
+        rest_len: k.rest_len,
+        hist: val.hist,
+        val_at: val.val_at,
+        val_len: val.val_len,
+        remote: val.remote,
+        next: val.next,
     })
 }
 
 // The record of slot i. `quick_head` and `quick_old` read the common record by a second text, for speed.
-pub fn rec_at(s: &[u8], b: Body, i: usize) -> RecRead
+pub fn rec_at(s: &[u8], b: Body, i: usize) -> Option<Rec>
     requires { Inside s.now b }
     ensures { result ≡ rec_at s.now b i }
 {
-    let SlotRead::At(p) = slot_at(s, b, i) else {
-        return RecRead::Bad;
+    let Some(p) = slot_at(s, b, i) else {
+        return None;
     };
     rec_in(s, b, p)
 }
@@ -259,25 +224,25 @@ pub fn rec_at(s: &[u8], b: Body, i: usize) -> RecRead
 // other is left to the decoder above: the answer is then Bad, which says nothing.
 
 // A value's size and bytes behind its front.
-fn bytes_at(t: &[u8], at: usize, h: HistRef) -> Val
-    ensures { result ≡ val_of t.now (FrontRead.Front h false at) }
+fn bytes_at(t: &[u8], at: usize, h: HistRef) -> Option<Val>
+    ensures { result ≡ val_of t.now (Some (front_places h false at)) }
 {
     if spans::room(t.len(), at, 4) {
         let n = numbers::read_u32(t, at) as usize;
         if BaseHeader::MAX_VALUE < n {
-            return Val::Bad;
+            return None;
         }
         let p = at + 4;
         if n <= t.len() - p {
-            return Val::Inline {
+            return Some(Val::Inline {
                 hist: h,
                 at: p,
                 size: n,
                 next: p + n,
-            };
+            });
         }
     }
-    Val::Bad
+    None
 }
 
 fn no_hist() -> HistRef
@@ -291,8 +256,8 @@ fn no_hist() -> HistRef
 }
 
 // A head's value.
-fn head_val(t: &[u8], at: usize) -> Val
-    ensures { Quickly Val.Bad result (val_at t.now at true) }
+fn head_val(t: &[u8], at: usize) -> Option<Val>
+    ensures { Quickly None result (val_at t.now at true) }
 {
     if at < t.len() {
         let f = t[at];
@@ -306,49 +271,51 @@ fn head_val(t: &[u8], at: usize) -> Val
                     let h = HistRef {
                         page: Addr(numbers::read_u64(t, at + 1)),
                         slot: numbers::read_u16(t, at + 1 + 8),
-                        count: count,
+                        count,
                     };
                     return bytes_at(t, at + 1 + 14, h);
                 }
             }
         }
     }
-    Val::Bad
+    None
 }
 
 // An old version's value.
-fn old_val(t: &[u8], at: usize) -> Val
-    ensures { Quickly Val.Bad result (val_at t.now at false) }
+fn old_val(t: &[u8], at: usize) -> Option<Val>
+    ensures { Quickly None result (val_at t.now at false) }
 {
     if at < t.len() {
         if t[at] == 0 {
             return bytes_at(t, at + 1, no_hist());
         }
     }
-    Val::Bad
+    None
 }
 
 // The value of a leaf's head, at a place.
-pub fn quick_value(s: &[u8], b: Body, at: usize) -> ValRead
+pub fn quick_value(s: &[u8], b: Body, at: usize) -> Option<ValParts>
     requires inside { Inside s.now b }
     requires kind_value { b.kind ≡ 0 }
-    ensures { Quickly ValRead.Bad result (val_in s.now b at) }
+    ensures { Quickly None result (val_in s.now b at) }
 {
     let e = b.end;
     match head_val(&s[..e], at) {
-        Val::Inline {
+        Some(
+            Val::Inline {
+                hist,
+                at: p,
+                size,
+                next,
+            },
+        ) => Some(ValParts {
             hist,
-            at: p,
-            size,
-            next,
-        } => ValRead::Is {
-            hist: hist,
             val_at: p,
             val_len: size,
             remote: NULL_ADDR,
-            next: next,
-        },
-        _ => ValRead::Bad,
+            next,
+        }),
+        _ => None,
     }
 }
 
@@ -378,153 +345,147 @@ pub fn quick_key(s: &[u8], b: Body, p: usize) -> usize
 }
 
 // The head at a place of a leaf.
-fn head_in(s: &[u8], b: Body, p: usize) -> RecRead
+fn head_in(s: &[u8], b: Body, p: usize) -> Option<Rec>
     requires inside { Inside s.now b }
     requires kind_value { b.kind ≡ 0 }
     requires p_lt_end { p < b.end }
-    ensures { Quickly RecRead.Bad result (rec_in s.now b p) }
+    ensures { Quickly None result (rec_in s.now b p) }
 {
     let n = quick_key(s, b, p);
     if n == 0 {
-        return RecRead::Bad;
+        return None;
     }
-    let ValRead::Is {
-        hist,
-        val_at,
-        val_len,
-        remote,
-        next,
-    } = quick_value(s, b, p + 1 + n)
-    else {
-        return RecRead::Bad;
+    let Some(val) = quick_value(s, b, p + 1 + n) else {
+        return None;
     };
-    RecRead::Is(Rec {
+    Some(Rec {
         from: p,
         ver_at: p + 1,
         rest_at: p + 1 + 12,
         rest_len: n - 12,
-        hist: hist,
-        val_at: val_at,
-        val_len: val_len,
-        remote: remote,
-        next: next,
+        hist: val.hist,
+        val_at: val.val_at,
+        val_len: val.val_len,
+        remote: val.remote,
+        next: val.next,
     })
 }
 
 // The old version at a place of a history page.
-fn old_in(s: &[u8], b: Body, p: usize) -> RecRead
+fn old_in(s: &[u8], b: Body, p: usize) -> Option<Rec>
     requires inside { Inside s.now b }
     requires kind_value { b.kind ≡ 2 }
-    ensures { Quickly RecRead.Bad result (rec_in s.now b p) }
+    ensures { Quickly None result (rec_in s.now b p) }
 {
     let e = b.end;
     if spans::room(e, p, 12) {
         if b.prefix_len <= BaseHeader::MAX_KEY {
             match old_val(&s[..e], p + 12) {
-                Val::Inline {
-                    hist,
-                    at,
-                    size,
-                    next,
-                } => {
-                    return RecRead::Is(Rec {
+                Some(
+                    Val::Inline {
+                        hist,
+                        at,
+                        size,
+                        next,
+                    },
+                ) => {
+                    return Some(Rec {
                         from: p,
                         ver_at: p,
                         rest_at: p + 12,
                         rest_len: 0,
-                        hist: hist,
+                        hist,
                         val_at: at,
                         val_len: size,
                         remote: NULL_ADDR,
-                        next: next,
+                        next,
                     });
                 }
                 _ => {}
             }
         }
     }
-    RecRead::Bad
+    None
 }
 
 // The head of slot i of a leaf: a second text of `rec_at`, for speed, that may answer "not read here". `Quickly` says that what it reads is the same.
-pub fn quick_head(s: &[u8], b: Body, i: usize) -> RecRead
+pub fn quick_head(s: &[u8], b: Body, i: usize) -> Option<Rec>
     requires inside { Inside s.now b }
     requires kind_value { b.kind ≡ 0 }
-    ensures { Quickly RecRead.Bad result (rec_at s.now b i) }
+    ensures { Quickly None result (rec_at s.now b i) }
 {
-    let SlotRead::At(p) = slot_at(s, b, i) else {
-        return RecRead::Bad;
+    let Some(p) = slot_at(s, b, i) else {
+        return None;
     };
     head_in(s, b, p)
 }
 
 // The old version of slot i of a history page, likewise.
-pub fn quick_old(s: &[u8], b: Body, i: usize) -> RecRead
+pub fn quick_old(s: &[u8], b: Body, i: usize) -> Option<Rec>
     requires inside { Inside s.now b }
     requires kind_value { b.kind ≡ 2 }
-    ensures { Quickly RecRead.Bad result (rec_at s.now b i) }
+    ensures { Quickly None result (rec_at s.now b i) }
 {
-    let SlotRead::At(p) = slot_at(s, b, i) else {
-        return RecRead::Bad;
+    let Some(p) = slot_at(s, b, i) else {
+        return None;
     };
     old_in(s, b, p)
 }
 
 // The head at a place of a leaf that ends at e, any in form: `rec_in` by numbers. A loop that would hand on a `Body` copies it at every turn.
-pub fn head_by(s: &[u8], e: usize, prefix: usize, p: usize) -> RecRead
+pub fn head_by(s: &[u8], e: usize, prefix: usize, p: usize) -> Option<Rec>
     requires { (e ≤ length s.now) × (prefix ≤ e) }
     ensures { (b : Body) → b.kind ≡ 0 → b.end ≡ e → b.prefix_len ≡ prefix → result ≡ rec_in s.now b p }
 {
-    let KeyRead::Key {
-        ver_at,
-        rest_at,
-        rest_len,
-    } = values::key_at(&s[..e], p, Body::LEAF)
-    else {
-        return RecRead::Bad;
+    let Some(k) = values::key_at(&s[..e], p, Body::LEAF) else {
+        return None;
     };
-    if BaseHeader::MAX_KEY < prefix + rest_len {
-        return RecRead::Bad;
+    if BaseHeader::MAX_KEY < prefix + k.rest_len {
+        return None;
     }
-    match Val::decode_from(&s[..e], rest_at + rest_len, true) {
-        Val::Inline {
-            hist,
-            at,
-            size,
-            next,
-        } => RecRead::Is(Rec {
+    match Val::decode_from(&s[..e], k.rest_at + k.rest_len, true) {
+        Some(
+            Val::Inline {
+                hist,
+                at,
+                size,
+                next,
+            },
+        ) => Some(Rec {
             from: p,
-            ver_at: ver_at,
-            rest_at: rest_at,
-            rest_len: rest_len,
-            hist: hist,
+            ver_at: k.ver_at,
+            rest_at: k.rest_at,
+            rest_len: k.rest_len,
+            hist,
             val_at: at,
             val_len: size,
             remote: NULL_ADDR,
-            next: next,
-        }),
-        Val::Remote {
-            hist,
-            addr,
-            size,
             next,
-        } => {
-            let RemoteRead::At(q) = frames::remote_at(s, addr, size as u32) else {
-                return RecRead::Bad;
+        }),
+        Some(
+            Val::Remote {
+                hist,
+                addr,
+                size,
+                next,
+            },
+        ) => {
+            let Some(q) = frames::remote_at(s, addr, size as u32) else {
+                return None;
             };
-            RecRead::Is(Rec {
+            Some(Rec {
                 from: p,
-                ver_at: ver_at,
-                rest_at: rest_at,
-                rest_len: rest_len,
-                hist: hist,
+                ver_at: k.ver_at,
+                rest_at: k.rest_at,
+                rest_len: k.rest_len,
+                hist,
                 val_at: q,
                 val_len: size,
                 remote: addr,
-                next: next,
+                next,
             })
         }
-        Val::Bad => RecRead::Bad,
+        None => None,
     }
 }
 
@@ -532,29 +493,26 @@ pub fn head_by(s: &[u8], e: usize, prefix: usize, p: usize) -> RecRead
 
 // A child's places: where it begins, and its key; the page id stands behind the key.
 #[derive(Clone, Copy)]
-pub enum ChildRead {
-    Is {
-        from: usize,
-        ver_at: usize,
-        rest_at: usize,
-        rest_len: usize,
-    },
-    Bad,
+pub struct ChildParts {
+    pub from: usize,
+    pub ver_at: usize,
+    pub rest_at: usize,
+    pub rest_len: usize,
 }
 
 // The key of an index page at a place, the page ends where t ends. A length of one byte is read here, so that this is small enough to stand in a loop.
-fn child_key(t: &[u8], at: usize) -> KeyRead
+fn child_key(t: &[u8], at: usize) -> Option<KeyParts>
     ensures { result ≡ key_at t.now at 1 }
 {
     if at < t.len() {
         let n = t[at] as usize;
         if n < 128 {
             if n <= t.len() - at - 1 {
-                return KeyRead::Key {
+                return Some(KeyParts {
                     ver_at: at + 1,
                     rest_at: at + 1,
                     rest_len: n,
-                };
+                });
             }
         }
     }
@@ -562,35 +520,30 @@ fn child_key(t: &[u8], at: usize) -> KeyRead
 }
 
 // The child of slot i of an index page: a second text of `rec_at`, for speed. No `Body` is handed on, so a loop over the slots keeps it out of memory.
-pub fn child_at(s: &[u8], b: Body, i: usize) -> ChildRead
+pub fn child_at(s: &[u8], b: Body, i: usize) -> Option<ChildParts>
     requires inside { Inside s.now b }
     requires kind_value { b.kind ≡ 1 }
     ensures { rec_at s.now b i ≡ child_of result }
 {
-    let SlotRead::At(p) = slot_at(s, b, i) else {
-        return ChildRead::Bad;
+    let Some(p) = slot_at(s, b, i) else {
+        return None;
     };
     let e = b.end;
-    let KeyRead::Key {
-        ver_at,
-        rest_at,
-        rest_len,
-    } = child_key(&s[..e], p)
-    else {
-        return ChildRead::Bad;
+    let Some(k) = child_key(&s[..e], p) else {
+        return None;
     };
-    if BaseHeader::MAX_KEY < b.prefix_len + rest_len {
-        return ChildRead::Bad;
+    if BaseHeader::MAX_KEY < b.prefix_len + k.rest_len {
+        return None;
     }
-    if e < rest_at + rest_len + 8 {
-        return ChildRead::Bad;
+    if e < k.rest_at + k.rest_len + 8 {
+        return None;
     }
-    ChildRead::Is {
+    Some(ChildParts {
         from: p,
-        ver_at: ver_at,
-        rest_at: rest_at,
-        rest_len: rest_len,
-    }
+        ver_at: k.ver_at,
+        rest_at: k.rest_at,
+        rest_len: k.rest_len,
+    })
 }
 
 // ---- parts of the lent arena: the empty part where a place is outside it

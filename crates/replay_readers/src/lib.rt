@@ -3,23 +3,22 @@
 
 ghost use Rattle.std.specs.Prelude.{◌≡◌, length};
 
-use delta::{Child, IndexKey, LeafKey, Value};
+use delta::LeafKey;
 use frames::{Addr, Refusal};
-use lengths::Length;
 use order::Ver;
 use overlay::Laid;
-use pages::{BoundsRead, Checked, Hint, Hints, HintsRead};
+use pages::Hints;
 use sst::{Bound, Floor, Found};
 use std::io;
 use std::io::Write;
-use walks::{Begun, Branch, Item, Step, Walk};
+use walks::{Branch, Item, Step, Walk};
 
 // ---- pages
 
 fn check<W: Write>(out: &mut W, s: &[u8], a: Addr) -> io::Result<()> {
     match pages::check(s, a) {
-        Checked::Sound => replay_script::is_number(out, 1),
-        Checked::Refused(r) => replay_script::refused(out, r),
+        Ok(()) => replay_script::is_number(out, 1),
+        Err(r) => replay_script::refused(out, r),
     }
 }
 
@@ -33,8 +32,8 @@ fn high<W: Write>(out: &mut W, b: &[u8]) -> io::Result<()> {
 
 fn boundary<W: Write>(out: &mut W, s: &[u8], a: Addr, which: u8) -> io::Result<()> {
     match pages::bounds_at(s, a) {
-        BoundsRead::Refused(r) => replay_script::refused(out, r),
-        BoundsRead::Is(_) => {
+        Err(r) => replay_script::refused(out, r),
+        Ok(_) => {
             if which == b'l' {
                 replay_script::is_bytes(out, pages::lo(s, a))
             } else {
@@ -54,19 +53,19 @@ fn addresses<W: Write>(out: &mut W, s: &[u8], h: Hints) -> io::Result<()> {
     let mut k = 0;
     while k < n {
         match pages::hint_at(s, h, k) {
-            Hint::Is(a) => replay_script::say_number(out, a.0)?,
-            Hint::Nothing => replay_script::say_number(out, 0)?,
+            Some(a) => replay_script::say_number(out, a.0)?,
+            None => replay_script::say_number(out, 0)?,
         }
         k += 1;
     }
     replay_script::end_line(out)
 }
 
-fn hints<W: Write>(out: &mut W, s: &[u8], h: HintsRead) -> io::Result<()> {
+fn hints<W: Write>(out: &mut W, s: &[u8], h: Result<Option<Hints>, Refusal>) -> io::Result<()> {
     match h {
-        HintsRead::Are(x) => addresses(out, s, x),
-        HintsRead::Nothing => replay_script::nothing(out),
-        HintsRead::Refused(r) => replay_script::refused(out, r),
+        Ok(Some(x)) => addresses(out, s, x),
+        Ok(None) => replay_script::nothing(out),
+        Err(r) => replay_script::refused(out, r),
     }
 }
 
@@ -127,18 +126,18 @@ fn steps<W: Write>(out: &mut W, s: &[u8], from: Walk) -> io::Result<()> {
     let mut k: usize = 0;
     while k < 1000000 {
         match w.step(s) {
-            Step::Found(x, next) => {
+            Ok(Step::Found(x, next)) => {
                 row(out, s, x)?;
                 w = next;
             }
-            Step::Leads(x, next) => {
+            Ok(Step::Leads(x, next)) => {
                 child(out, s, x)?;
                 w = next;
             }
-            Step::End => {
+            Ok(Step::End) => {
                 return replay_script::say(out, b"end\n");
             }
-            Step::Refused(r) => {
+            Err(r) => {
                 return replay_script::refused(out, r);
             }
         }
@@ -147,10 +146,10 @@ fn steps<W: Write>(out: &mut W, s: &[u8], from: Walk) -> io::Result<()> {
     Ok(())
 }
 
-fn walked<W: Write>(out: &mut W, s: &[u8], b: Begun) -> io::Result<()> {
+fn walked<W: Write>(out: &mut W, s: &[u8], b: Result<Walk, Refusal>) -> io::Result<()> {
     match b {
-        Begun::Is(w) => steps(out, s, w),
-        Begun::Refused(r) => replay_script::refused(out, r),
+        Ok(w) => steps(out, s, w),
+        Err(r) => replay_script::refused(out, r),
     }
 }
 
@@ -176,35 +175,35 @@ fn of_walk<W: Write>(out: &mut W, l: &[u8], s: &[u8], a: Addr) -> io::Result<boo
 
 fn delta_key<W: Write>(out: &mut W, s: &[u8], a: Addr) -> io::Result<()> {
     match delta::key(s, a) {
-        LeafKey::Is { ver, key } => {
+        Ok(LeafKey { ver, key }) => {
             replay_script::say(out, b"=")?;
             replay_script::say_bytes(out, pages::part_at(s, key))?;
             replay_script::say_number(out, ver.txid)?;
             replay_script::say_number(out, ver.cmd as u64)?;
             replay_script::end_line(out)
         }
-        LeafKey::Refused(r) => replay_script::refused(out, r),
+        Err(r) => replay_script::refused(out, r),
     }
 }
 
 fn delta_val<W: Write>(out: &mut W, s: &[u8], a: Addr) -> io::Result<()> {
     match delta::val(s, a) {
-        Value::Is(p) => replay_script::is_bytes(out, pages::part_at(s, p)),
-        Value::Refused(r) => replay_script::refused(out, r),
+        Ok(p) => replay_script::is_bytes(out, pages::part_at(s, p)),
+        Err(r) => replay_script::refused(out, r),
     }
 }
 
 fn index_key<W: Write>(out: &mut W, s: &[u8], a: Addr) -> io::Result<()> {
     match delta::index_key(s, a) {
-        IndexKey::Is(p) => replay_script::is_bytes(out, pages::part_at(s, p)),
-        IndexKey::Refused(r) => replay_script::refused(out, r),
+        Ok(p) => replay_script::is_bytes(out, pages::part_at(s, p)),
+        Err(r) => replay_script::refused(out, r),
     }
 }
 
 fn index_page<W: Write>(out: &mut W, s: &[u8], a: Addr) -> io::Result<()> {
     match delta::index(s, a) {
-        Child::Is(p) => replay_script::is_number(out, p.0),
-        Child::Refused(r) => replay_script::refused(out, r),
+        Ok(p) => replay_script::is_number(out, p.0),
+        Err(r) => replay_script::refused(out, r),
     }
 }
 
@@ -244,8 +243,8 @@ fn of_length<W: Write>(out: &mut W, l: &[u8]) -> io::Result<bool> {
 
 fn unlength<W: Write>(out: &mut W, b: &[u8]) -> io::Result<()> {
     match lengths::read(b, 0) {
-        Length::Is(v, next) => replay_script::are_numbers(out, v as u64, next as u64),
-        Length::Bad => replay_script::refused(out, Refusal::BadFrame),
+        Some((v, next)) => replay_script::are_numbers(out, v as u64, next as u64),
+        None => replay_script::refused(out, Refusal::BadFrame),
     }
 }
 
@@ -259,35 +258,41 @@ fn nothing_after<W: Write>(out: &mut W, reads: usize) -> io::Result<()> {
 
 fn lower<W: Write>(out: &mut W, s: &[u8], a: Addr, key: &[u8], v: Ver) -> io::Result<()> {
     match sst::lower_bound(s, a, key, v) {
-        Bound::At { pos, reads } => replay_script::are_numbers(out, pos as u64, reads as u64),
-        Bound::PastEnd { pos, reads } => replay_script::are_numbers(out, pos as u64, reads as u64),
-        Bound::Refused(r) => replay_script::refused(out, r),
+        Ok(Bound::At { pos, reads }) => replay_script::are_numbers(out, pos as u64, reads as u64),
+        Ok(Bound::PastEnd { pos, reads }) => replay_script::are_numbers(
+            out,
+            pos as u64,
+            reads as u64,
+        ),
+        Err(r) => replay_script::refused(out, r),
     }
 }
 
 fn floor<W: Write>(out: &mut W, s: &[u8], a: Addr, key: &[u8]) -> io::Result<()> {
     match sst::floor_pid_by_raw(s, a, key) {
-        Floor::Is { slot, page, reads } => {
+        Ok(Floor::Is { slot, page, reads }) => {
             replay_script::say(out, b"=")?;
             replay_script::say_number(out, slot as u64)?;
             replay_script::say_number(out, page.0)?;
             replay_script::say_number(out, reads as u64)?;
             replay_script::end_line(out)
         }
-        Floor::Nothing { reads } => nothing_after(out, reads),
-        Floor::Refused(r) => replay_script::refused(out, r),
+        Ok(Floor::Nothing { reads }) => nothing_after(out, reads),
+        Err(r) => replay_script::refused(out, r),
     }
 }
 
 fn search<W: Write>(out: &mut W, s: &[u8], a: Addr, key: &[u8]) -> io::Result<()> {
     match sst::search_ver_val_by_raw(s, a, key) {
-        Found::Is {
-            slot,
-            ver,
-            hist: _,
-            value,
-            reads,
-        } => {
+        Ok(
+            Found::Is {
+                slot,
+                ver,
+                hist: _,
+                value,
+                reads,
+            },
+        ) => {
             replay_script::say(out, b"=")?;
             replay_script::say_number(out, slot as u64)?;
             replay_script::say_number(out, ver.txid)?;
@@ -296,8 +301,8 @@ fn search<W: Write>(out: &mut W, s: &[u8], a: Addr, key: &[u8]) -> io::Result<()
             replay_script::say_number(out, reads as u64)?;
             replay_script::end_line(out)
         }
-        Found::Nothing { reads } => nothing_after(out, reads),
-        Found::Refused(r) => replay_script::refused(out, r),
+        Ok(Found::Nothing { reads }) => nothing_after(out, reads),
+        Err(r) => replay_script::refused(out, r),
     }
 }
 
@@ -310,10 +315,10 @@ fn lent_by<W: Write>(out: &mut W, which: &[u8], b: &[u8]) -> io::Result<()> {
 
 fn laid<W: Write>(out: &mut W, s: &[u8], a: Addr, t: &[u8], d: Addr, key: &[u8]) -> io::Result<()> {
     match overlay::answer(s, a, t, d, key) {
-        Laid::Delta(p) => lent_by(out, b"= d", pages::part_at(t, p)),
-        Laid::Page(p) => lent_by(out, b"= p", pages::part_at(s, p)),
-        Laid::Nothing => replay_script::nothing(out),
-        Laid::Refused(r) => replay_script::refused(out, r),
+        Ok(Laid::Delta(p)) => lent_by(out, b"= d", pages::part_at(t, p)),
+        Ok(Laid::Page(p)) => lent_by(out, b"= p", pages::part_at(s, p)),
+        Ok(Laid::Nothing) => replay_script::nothing(out),
+        Err(r) => replay_script::refused(out, r),
     }
 }
 

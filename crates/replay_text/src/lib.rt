@@ -147,10 +147,7 @@ fn run_at(s: &[u8], at: usize) -> Repeat
                     next: next + 1,
                 };
             }
-            return Repeat {
-                count: n,
-                next: next,
-            };
+            return Repeat { count: n, next };
         }
     }
     Repeat { count: 1, next: at }

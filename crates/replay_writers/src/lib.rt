@@ -3,8 +3,7 @@
 
 ghost use Rattle.std.specs.Prelude.{◌≡◌, ◌≤◌, ◌<◌, length};
 
-use build_image::Built;
-use frames::{Addr, PageId};
+use frames::{Addr, PageId, Refusal};
 use order::Ver;
 use std::io;
 use std::io::Write;
@@ -38,10 +37,15 @@ fn built_at<W: Write>(out: &mut W, a: &[u8], next: usize, x: Addr, upto: usize) 
     written(out, a, next, upto)
 }
 
-fn built<W: Write>(out: &mut W, a: &[u8], next: usize, b: Built) -> io::Result<()> {
+fn built<W: Write>(
+    out: &mut W,
+    a: &[u8],
+    next: usize,
+    b: Result<(Addr, usize), Refusal>,
+) -> io::Result<()> {
     match b {
-        Built::At(x, upto) => built_at(out, a, next, x, upto),
-        Built::Refused(r) => replay_script::refused(out, r),
+        Ok((x, upto)) => built_at(out, a, next, x, upto),
+        Err(r) => replay_script::refused(out, r),
     }
 }
 

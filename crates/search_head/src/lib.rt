@@ -9,7 +9,7 @@ ghost use Rattle.search_head.specs.Head.{head_slot, head_in, head_at};
 use frames::{Addr, Body, Refusal};
 use order::Ver;
 use sst::{Halved, Outcome, Want};
-use values::KeyRead;
+use values::KeyParts;
 
 // Its page, slot and version, where its value begins, and the number of keys that the halving read. The value is not judged.
 #[derive(Clone, Copy)]
@@ -24,47 +24,41 @@ pub enum Head {
     Nothing {
         reads: usize,
     },
-    Refused(Refusal),
 }
 
 // The key of slot i again, for its version and its end.
-fn head_slot(s: &[u8], b: Body, i: usize, reads: usize) -> Head
+fn head_slot(s: &[u8], b: Body, i: usize, reads: usize) -> Result<Head, Refusal>
     requires inside { Inside s.now b }
     requires kind_value { b.kind ≡ 0 }
     ensures { result ≡ head_slot s.now b i reads }
 {
-    let KeyRead::Key {
-        ver_at,
-        rest_at,
-        rest_len,
-    } = records::key_at(s, b, i)
-    else {
-        return Head::Refused(Refusal::BadFrame);
+    let Some(k) = records::key_at(s, b, i) else {
+        return Err(Refusal::BadFrame);
     };
-    let v = records::ver_at(s, ver_at);
-    Head::Is {
+    let v = records::ver_at(s, k.ver_at);
+    Ok(Head::Is {
         page: b,
         slot: i,
         ver: v,
-        value: rest_at + rest_len,
-        reads: reads,
-    }
+        value: k.rest_at + k.rest_len,
+        reads,
+    })
 }
 
-fn head_in(s: &[u8], b: Body, h: Halved) -> Head
+fn head_in(s: &[u8], b: Body, h: Option<Halved>) -> Result<Head, Refusal>
     requires inside { Inside s.now b }
     requires kind_value { b.kind ≡ 0 }
     ensures { result ≡ head_in s.now b h }
 {
     match h {
-        Halved::At(i, n) => head_slot(s, b, i, n),
-        Halved::End(_, n) => Head::Nothing { reads: n },
-        Halved::Bad => Head::Refused(Refusal::BadFrame),
+        Some(Halved::At(i, n)) => head_slot(s, b, i, n),
+        Some(Halved::End(_, n)) => Ok(Head::Nothing { reads: n }),
+        None => Err(Refusal::BadFrame),
     }
 }
 
 // The head that search finds, by the same halving.
-pub fn head_at(s: &[u8], a: Addr, probe: &[u8]) -> Head
+pub fn head_at(s: &[u8], a: Addr, probe: &[u8]) -> Result<Head, Refusal>
     ensures { result ≡ head_at s.now a probe.now }
 {
     let w = Want {
@@ -74,8 +68,8 @@ pub fn head_at(s: &[u8], a: Addr, probe: &[u8]) -> Head
         ver: Ver::new(0, 0),
     };
     match sst::halve_at(s, a, probe, w) {
-        Outcome::Bad => Head::Refused(Refusal::BadFrame),
-        Outcome::Empty => Head::Nothing { reads: 0 },
-        Outcome::Stands(b, h) => head_in(s, b, h),
+        None => Err(Refusal::BadFrame),
+        Some(Outcome::Empty) => Ok(Head::Nothing { reads: 0 }),
+        Some(Outcome::Stands(b, h)) => head_in(s, b, h),
     }
 }

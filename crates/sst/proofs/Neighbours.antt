@@ -7,7 +7,6 @@ use mathlib.Core.Bool.{true, not}
 use mathlib.Core.List.{List, [], ◌∷◌, map}
 use native.Mathlib.Omega.{arith}
 use lib.ListN.{length, get_or}
-use Rattle.order.specs.declared.Order.{Order}
 use Rattle.order.specs.Order.{cmp_bytes, is_less}
 use Rattle.order.specs.Bounds.{below_hi, in_bounds, meet}
 use Rattle.order.proofs.Laws.{less_equal, cmp_same, cmp_less}
@@ -15,10 +14,13 @@ use Rattle.order.proofs.Bounds.{both_first, both_second, from_most, below-met, b
 use Rattle.frames.specs.declared.Addr.{Addr}
 use Rattle.pages.specs.Meaning.{Head, Child, Rows, leaf, index, Page, says, keys_of, meaning}
 use Rattle.pages.proofs.Given.{sound_given}
-use Rattle.sst.specs.declared.Found.{Found}
 use Rattle.sst.specs.Search.{search_at}
 use Rattle.sst.specs.Says.{no_head, no_child, row_count, row_key, FoundSays}
 use Rattle.sst.proofs.Answers.{search_says}
+use Rattle.std.proofs.Common.{Result, Ok, Err}
+use Rattle.frames.specs.declared.Refusal.{Refusal}
+use Rattle.sst.specs.declared.Found.{Found}
+use Rattle.std.specs.declared.cmp.Ordering.{Ordering}
 
 -- ---- the key of a row lies between the page's boundaries
 
@@ -52,13 +54,13 @@ module _ (s : List ℕ) (a : Addr) (p : Page) (m : meaning s a ≡ says p) (hs :
       let k = row_in s a p m i (omega (arith, ap row_count e)) in
       ap (in_bounds p.lo p.hi) (sym (ap (λ (r : Rows). row_key r i) e ∙ q)) ∙ k
 
-  pub none_outside : (in_bounds p.lo p.hi probe ≡ true → ⊥) → (n : ℕ) × (search_at s a probe ≡ Found.Nothing n)
+  pub none_outside : (in_bounds p.lo p.hi probe ≡ true → ⊥) → (n : ℕ) × (search_at s a probe ≡ Ok (Found.Nothing n))
   none_outside out = go (search_at s a probe) refl (search_says s a p m probe hs e)
     where
-      go : (r : Found) → search_at s a probe ≡ r → FoundSays s hs probe r → (n : ℕ) × (search_at s a probe ≡ Found.Nothing n)
-      go (Found.Is i v h x n) q w = absurd (out (found_in_lem i w.inside w.key))
-      go (Found.Nothing n) q w = (n, q)
-      go (Found.Refused r) q w = absurd w
+      go : (r : Result Found Refusal) → search_at s a probe ≡ r → FoundSays s hs probe r → (n : ℕ) × (search_at s a probe ≡ Ok (Found.Nothing n))
+      go (Ok (Found.Is i v h x n)) q w = absurd (out (found_in_lem i w.inside w.key))
+      go (Ok (Found.Nothing n)) q w = (n, q)
+      go (Err r) q w = absurd w
 
 -- ---- neighbours, each in its own arena
 
@@ -70,12 +72,12 @@ module _ (s t : List ℕ) (left right : Addr) (p q : Page) (m : meaning s left �
       less_equal (sym less ∙ ap (λ (x : List ℕ). cmp_bytes x (row_key q.rows j)) e ∙ cmp_same (row_key q.rows j))
 
   -- below the boundary between them the right page has no row for a probe, from it on the left page has none
-  pub left_alone : (ks : List Head) → q.rows ≡ leaf ks → (probe : List ℕ) → cmp_bytes probe q.lo ≡ Order.Less → (x : ℕ) × (search_at t right probe ≡ Found.Nothing x)
+  pub left_alone : (ks : List Head) → q.rows ≡ leaf ks → (probe : List ℕ) → cmp_bytes probe q.lo ≡ Ordering.Less → (x : ℕ) × (search_at t right probe ≡ Ok (Found.Nothing x))
   left_alone ks e probe less =
       none_outside t right q n ks e probe
       (λ k. from_most q.lo probe (both_first (not (is_less (cmp_bytes probe q.lo))) (below_hi probe q.hi) k) (cmp_less probe q.lo less))
 
-  pub right_alone : (hs : List Head) → p.rows ≡ leaf hs → (probe : List ℕ) → (cmp_bytes probe q.lo ≡ Order.Less → ⊥) → (x : ℕ) × (search_at s left probe ≡ Found.Nothing x)
+  pub right_alone : (hs : List Head) → p.rows ≡ leaf hs → (probe : List ℕ) → (cmp_bytes probe q.lo ≡ Ordering.Less → ⊥) → (x : ℕ) × (search_at s left probe ≡ Ok (Found.Nothing x))
   right_alone hs e probe more =
       none_outside s left p m hs e probe
       (λ k. more (below-met probe p.hi q.lo met (both_second (not (is_less (cmp_bytes probe p.lo))) (below_hi probe p.hi) k)))

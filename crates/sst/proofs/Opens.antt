@@ -14,30 +14,29 @@ use Rattle.order.specs.declared.Ver.{Ver}
 use Rattle.order.proofs.Laws.{starts-length, starts_none}
 use Rattle.frames.specs.declared.Addr.{Addr}
 use Rattle.frames.specs.declared.Body.{Body}
-use Rattle.frames.specs.declared.Opened.{Opened}
 use Rattle.frames.specs.Layout.{base_len, open_at, Inside}
 use Rattle.frames.proofs.Frames.{open_inside}
-use Rattle.values.specs.declared.KeyRead.{KeyRead}
-use Rattle.records.specs.declared.SlotRead.{SlotRead}
 use Rattle.records.specs.Records.{slot_at, key_slot, key_at_slot}
 use Rattle.records.specs.Parts.{prefix_in}
 use Rattle.records.proofs.Inside.{KeyInside, key-inside, prefix-part}
 use Rattle.sst.specs.declared.Want.{Want}
-use Rattle.sst.specs.declared.Halved.{Halved}
-use Rattle.sst.specs.declared.Ended.{Ended}
-use Rattle.sst.specs.declared.Outcome.{Outcome}
 use Rattle.sst.specs.Search.{Searchable, ready, empty, bad, right_kind, ready_of, ready_at, fits_prefix, halved, elsewhere, probed, outcome_of, outcome_at, end_of, ended_in, indexes, leaves}
+use Rattle.std.proofs.Common.{Option, Some, None}
+use Rattle.sst.specs.declared.Ended.{Ended}
+use Rattle.sst.specs.declared.Halved.{Halved}
+use Rattle.sst.specs.declared.Outcome.{Outcome}
+use Rattle.values.specs.Keys.{key_parts}
 
 -- ---- laws that belong to lower crates
 
 -- the key of a slot lies in the page (`records`)
-pub key-at-inside : (s : List ℕ) (b : Body) (i v r n : ℕ) → Inside s b → key_at_slot s b i ≡ KeyRead.Key v r n → KeyInside b v r n
+pub key-at-inside : (s : List ℕ) (b : Body) (i v r n : ℕ) → Inside s b → key_at_slot s b i ≡ Some (key_parts v r n) → KeyInside b v r n
 unfolding key_at_slot
 key-at-inside s b i v r n z e = go (slot_at s b i) e
   where
-    go : (w : SlotRead) → key_slot s b w ≡ KeyRead.Key v r n → KeyInside b v r n
-    go (SlotRead.At p) q = key-inside s b p v r n z q
-    go SlotRead.Bad q = absurd (let z : ◌≡◌ {A = ℕ} 0 1 = cc in omega arith)
+    go : (w : Option ℕ) → key_slot s b w ≡ Some (key_parts v r n) → KeyInside b v r n
+    go (Some p) q = key-inside s b p v r n z q
+    go None q = absurd (let z : ◌≡◌ {A = ℕ} 0 1 = cc in omega arith)
 
 -- the prefix has its length (`records`)
 pub prefix-length : (s : List ℕ) (b : Body) → Inside s b → length (prefix_in s b) ≡ b.prefix_len
@@ -49,7 +48,7 @@ prefix-length s b i =
 
 -- it was opened, it is of a kind that the search takes, and has keys
 pub record IsReady (s : List ℕ) (a : Addr) (w : Want) (b : Body) : Type 0 where
-  pub opened : open_at s a ≡ Opened.Is b
+  pub opened : open_at s a ≡ Some b
   pub inside : Inside s b
   pub right : right_kind b.kind w ≡ true
   pub some : b.elems ≡ 0 → ⊥
@@ -67,16 +66,16 @@ pub ready_inside : (s : List ℕ) (a : Addr) (w : Want) (b : Body) → ready_at 
 unfolding ready_at
 ready_inside s a w b e = go (open_at s a) refl e
   where
-    go : (o : Opened) → open_at s a ≡ o → ready_of w o ≡ ready b → IsReady s a w b
-    go (Opened.Is d) q e' =
+    go : (o : Option Body) → open_at s a ≡ o → ready_of w o ≡ ready b → IsReady s a w b
+    go (Some d) q e' =
         let a1 = ask (right_kind d.kind w) _ bad (ready b) (λ n. let z : ◌≡◌ {A = ℕ} 0 1 = cc in omega arith) e' in
         let a2 = dont (eqb d.elems 0) empty (ready d) (ready b) (λ n. let z : ◌≡◌ {A = ℕ} 0 1 = cc in omega arith) a1.1 in
         let x : d ≡ b = cc in
         rw (← x) (record { opened = q; inside = (open_inside s a d q).0; right = a1.0; some = eqb-false d.elems 0 a2.0 })
-    go Opened.Bad q e' = absurd (let z : ◌≡◌ {A = ℕ} 0 1 = cc in omega arith)
+    go None q e' = absurd (let z : ◌≡◌ {A = ℕ} 0 1 = cc in omega arith)
 
 -- opening a page for a search, by what its headers say
-module _ (s : List ℕ) (a : Addr) (w : Want) (b : Body) (o : open_at s a ≡ Opened.Is b) (k : right_kind b.kind w ≡ true) where
+module _ (s : List ℕ) (a : Addr) (w : Want) (b : Body) (o : open_at s a ≡ Some b) (k : right_kind b.kind w ≡ true) where
   pub open_empty : b.elems ≡ 0 → ready_at s a w ≡ empty
   unfolding ready_at
   open_empty e = rw (o, k, eq-eqb _ _ e)
@@ -87,20 +86,20 @@ module _ (s : List ℕ) (a : Addr) (w : Want) (b : Body) (o : open_at s a ≡ Op
 
 -- the search of an opened page, by what its header and its prefix say
 module _ (s : List ℕ) (probe : List ℕ) (w : Want) (b : Body) where
-  pub ends_wrong : right_kind b.kind w ≡ false → ended_in s b probe w ≡ Ended.Bad
+  pub ends_wrong : right_kind b.kind w ≡ false → ended_in s b probe w ≡ None
   unfolding ended_in
   ends_wrong k = rw k
 
   module _ (k : right_kind b.kind w ≡ true) where
-    pub ends_empty : b.elems ≡ 0 → ended_in s b probe w ≡ Ended.Empty
+    pub ends_empty : b.elems ≡ 0 → ended_in s b probe w ≡ Some Ended.Empty
     unfolding ended_in
     ends_empty e = rw (k, eq-eqb _ _ e)
 
-    pub ends_halves : (b.elems ≡ 0 → ⊥) → fits_prefix s b probe ≡ true → ended_in s b probe w ≡ Ended.Stands (halved s b probe w)
+    pub ends_halves : (b.elems ≡ 0 → ⊥) → fits_prefix s b probe ≡ true → ended_in s b probe w ≡ Some (Ended.Stands (halved s b probe w))
     unfolding ended_in probed
     ends_halves e f = rw (k, ne_eqb _ _ e, f)
 
-    pub ends-elsewhere : (b.elems ≡ 0 → ⊥) → fits_prefix s b probe ≡ false → ended_in s b probe w ≡ Ended.Stands (elsewhere s b probe)
+    pub ends-elsewhere : (b.elems ≡ 0 → ⊥) → fits_prefix s b probe ≡ false → ended_in s b probe w ≡ Some (Ended.Stands (elsewhere s b probe))
     unfolding ended_in probed
     ends-elsewhere e f = rw (k, ne_eqb _ _ e, f)
 
@@ -108,23 +107,23 @@ module _ (s : List ℕ) (probe : List ℕ) (w : Want) (b : Body) where
 abbrev pub wants : Bool → Bool → Ver → Want
 wants leaf index v = record { leaf = leaf; index = index; lower = false; ver = v }
 
-pub end_of_lem : (s : List ℕ) (b : Body) (probe : List ℕ) (w x : Want) (r e : Ended) → x ≡ w → r ≡ ended_in s b probe x → r ≡ e → ended_in s b probe w ≡ e
+pub end_of_lem : (s : List ℕ) (b : Body) (probe : List ℕ) (w x : Want) (r e : Option Ended) → x ≡ w → r ≡ ended_in s b probe x → r ≡ e → ended_in s b probe w ≡ e
 end_of_lem s b probe w x r e y h k = ap (ended_in s b probe) (sym y) ∙ sym h ∙ k
 
 -- what it says of the page at an address
-abbrev pub back_of : Body → Ended → Outcome
-back_of b (Ended.Stands h) = Outcome.Stands b h
-back_of b Ended.Empty = Outcome.Empty
-back_of b Ended.Bad = Outcome.Bad
+abbrev pub back_of : Body → Option Ended → Option Outcome
+back_of b (Some (Ended.Stands h)) = Some (Outcome.Stands b h)
+back_of b (Some Ended.Empty) = Some Outcome.Empty
+back_of b None = None
 
-pub outcome_ended : (s : List ℕ) (a : Addr) (probe : List ℕ) (w : Want) (b : Body) (e : Ended) → open_at s a ≡ Opened.Is b → ended_in s b probe w ≡ e → outcome_at s a probe w ≡ back_of b e
+pub outcome_ended : (s : List ℕ) (a : Addr) (probe : List ℕ) (w : Want) (b : Body) (e : Option Ended) → open_at s a ≡ Some b → ended_in s b probe w ≡ e → outcome_at s a probe w ≡ back_of b e
 unfolding outcome_at ready_at ended_in
 outcome_ended s a probe w b e o h =
-    ap (λ (q : Opened). outcome_of s probe w (ready_of w q)) o
+    ap (λ (q : Option Body). outcome_of s probe w (ready_of w q)) o
     ∙ go (right_kind b.kind w) (eqb b.elems 0)
     ∙ ap (back_of b) h
   where
-    page : Bool → Bool → Outcome
+    page : Bool → Bool → Option Outcome
     page k m = outcome_of s probe w (cond k (cond m empty (ready b)) bad)
 
     go : (k m : Bool) → page k m ≡ back_of b (end_of (page k m))
@@ -132,17 +131,17 @@ outcome_ended s a probe w b e o h =
     go true true = refl
     go true false = refl
 
-pub outcome_bad : (s : List ℕ) (a : Addr) (probe : List ℕ) (w : Want) → open_at s a ≡ Opened.Bad → outcome_at s a probe w ≡ Outcome.Bad
+pub outcome_bad : (s : List ℕ) (a : Addr) (probe : List ℕ) (w : Want) → open_at s a ≡ None → outcome_at s a probe w ≡ None
 unfolding outcome_at ready_at
-outcome_bad s a probe w o = ap (λ (q : Opened). outcome_of s probe w (ready_of w q)) o
+outcome_bad s a probe w o = ap (λ (q : Option Body). outcome_of s probe w (ready_of w q)) o
 
 -- ---- a page that the probe stands in
 
-pub outcome_ready : (s : List ℕ) (a : Addr) (probe : List ℕ) (w : Want) (b : Body) (h : Halved) → outcome_at s a probe w ≡ Outcome.Stands b h → IsReady s a w b × (probed s b probe w ≡ h)
+pub outcome_ready : (s : List ℕ) (a : Addr) (probe : List ℕ) (w : Want) (b : Body) (h : Option Halved) → outcome_at s a probe w ≡ Some (Outcome.Stands b h) → IsReady s a w b × (probed s b probe w ≡ h)
 unfolding outcome_at
 outcome_ready s a probe w b h e = go (ready_at s a w) refl e
   where
-    go : (r : Searchable) → ready_at s a w ≡ r → outcome_of s probe w r ≡ Outcome.Stands b h → IsReady s a w b × (probed s b probe w ≡ h)
+    go : (r : Searchable) → ready_at s a w ≡ r → outcome_of s probe w r ≡ Some (Outcome.Stands b h) → IsReady s a w b × (probed s b probe w ≡ h)
     go (ready d) q e' =
         let x : d ≡ b = cc in
         let y : probed s d probe w ≡ h = cc in

@@ -8,26 +8,20 @@ use native.Mathlib.Omega.{arith}
 use lib.ListN.{length, drop, get_or}
 use lib.Dec.{eqb}
 use Rattle.spans.specs.Span.{part}
-use Rattle.order.specs.declared.Order.{Order}
 use Rattle.order.specs.declared.Ver.{Ver}
 use Rattle.order.specs.Order.{cmp_bytes, flip, starts_with, is_less}
 use Rattle.order.specs.Version.{newer_than}
 use Rattle.order.proofs.Laws.{cmp_flip, cmp_less, cmp_greater, cmp_trans, cmp_front, cmp_beside, cmp_apart, starts_split}
 use Rattle.frames.specs.declared.Addr.{Addr}
 use Rattle.frames.specs.declared.Body.{Body}
-use Rattle.frames.specs.declared.PageRead.{PageRead}
-use Rattle.frames.specs.declared.Opened.{Opened}
 use Rattle.frames.specs.Layout.{page_at, kind_of, body_of, open_of, open_at, Inside}
 use Rattle.records.specs.declared.Rec.{Rec}
-use Rattle.records.specs.declared.RecRead.{RecRead}
 use Rattle.records.specs.Records.{rec_at}
 use Rattle.records.proofs.Inside.{at-inside, prefix-part}
 use Rattle.pages.specs.Sound.{slots_ok}
 use Rattle.pages.specs.Meaning.{Head, Child, Rows, leaf, index, Page, prefix_of, key_of, head_of, child_of, rows_from, heads_from, children_from, page_says}
 use Rattle.pages.proofs.Given.{every_slot, keys_rise}
 use Rattle.pages.proofs.Rows.{rows-many}
-use Rattle.sst.specs.declared.Cmp.{Cmp}
-use Rattle.sst.specs.declared.Halved.{Halved}
 use Rattle.sst.specs.declared.Want.{Want}
 use Rattle.sst.specs.Halve.{asked, lowered}
 use Rattle.sst.specs.Search.{newer_at, cmp_read, key_cmp, fits_prefix, halved, elsewhere, probed}
@@ -36,17 +30,22 @@ use Rattle.sst.proofs.Halving.{Rises, Finds, halve_finds}
 use Rattle.sst.proofs.Rising.{Sorted, against, rises-same, finds_same}
 use Rattle.sst.proofs.Opens.{prefix-length}
 use Rattle.sst.proofs.Compared.{twice}
+use Rattle.std.proofs.Common.{Option, Some, None}
+use Rattle.frames.specs.declared.BaseHeader.{BaseHeader}
+use Rattle.frames.specs.declared.BoxHeader.{BoxHeader}
+use Rattle.sst.specs.declared.Halved.{Halved}
+use Rattle.std.specs.declared.cmp.Ordering.{Ordering}
 
 -- ---- rows
 
 -- row i of k rows from slot j on is what slot j + i says (it belongs to `pages`)
-module _ {A : Type 0} (f : Rec → A) (d : A) (s : List ℕ) (b : Body) (every : (i : ℕ) → i < b.elems → (r : Rec) × (rec_at s b i ≡ RecRead.Is r)) where
-  pub row_at : (k j i : ℕ) → j + k ≤ b.elems → i < k → (r : Rec) → rec_at s b (j + i) ≡ RecRead.Is r → get_or (rows_from f s b k j) i d ≡ f r
+module _ {A : Type 0} (f : Rec → A) (d : A) (s : List ℕ) (b : Body) (every : (i : ℕ) → i < b.elems → (r : Rec) × (rec_at s b i ≡ Some r)) where
+  pub row_at : (k j i : ℕ) → j + k ≤ b.elems → i < k → (r : Rec) → rec_at s b (j + i) ≡ Some r → get_or (rows_from f s b k j) i d ≡ f r
   unfolding rows_from
   row_at zero j i l h r e = absurd (omega arith)
   row_at (suc k) j zero l h r e =
       let n : j + 0 ≡ j = omega arith in
-      let e' : rec_at s b j ≡ RecRead.Is r = rw n at e in
+      let e' : rec_at s b j ≡ Some r = rw n at e in
       rw e'
   row_at (suc k) j (suc i) l h r e =
       let g = every j (omega arith) in
@@ -62,15 +61,15 @@ unfolding page_says
 rows_said s b p e = ap (λ (q : Page). q.rows) e
 
 module _ (s : List ℕ) (b : Body) (e : slots_ok s b ≡ true) where
-  every : (i : ℕ) → i < b.elems → (r : Rec) × (rec_at s b i ≡ RecRead.Is r)
+  every : (i : ℕ) → i < b.elems → (r : Rec) × (rec_at s b i ≡ Some r)
   every = every_slot s b e
 
   pub count_of : (t : Bool) → row_count (rows_by t s b) ≡ b.elems
   count_of true = rows-many (child_of s b) s b every b.elems 0 (omega arith)
   count_of false = rows-many (head_of s b) s b every b.elems 0 (omega arith)
 
-  module _ (i : ℕ) (l : i < b.elems) (r : Rec) (q : rec_at s b i ≡ RecRead.Is r) where
-    at_zero : rec_at s b (0 + i) ≡ RecRead.Is r
+  module _ (i : ℕ) (l : i < b.elems) (r : Rec) (q : rec_at s b i ≡ Some r) where
+    at_zero : rec_at s b (0 + i) ≡ Some r
     at_zero = let n : 0 + i ≡ i = omega arith in rw n q
 
     pub head_at_lem : get_or (heads_from s b b.elems 0) i no_head ≡ head_of s b r
@@ -91,7 +90,7 @@ module _ (s : List ℕ) (b : Body) (e : slots_ok s b ≡ true) where
 
   -- keys rise, however far apart
   module _ (n : b.kind ≡ 2 → ⊥) where
-    far : (d i : ℕ) → i + suc d < b.elems → (r r' : Rec) → rec_at s b i ≡ RecRead.Is r → rec_at s b (i + suc d) ≡ RecRead.Is r' → cmp_bytes (key_of s b r) (key_of s b r') ≡ Order.Less
+    far : (d i : ℕ) → i + suc d < b.elems → (r r' : Rec) → rec_at s b i ≡ Some r → rec_at s b (i + suc d) ≡ Some r' → cmp_bytes (key_of s b r) (key_of s b r') ≡ Ordering.Less
     far zero i l r r' p q =
         let m : i + suc 0 ≡ i + 1 = omega arith in
         keys_rise s b e n i (omega arith) r r' p (rw m at q)
@@ -125,12 +124,12 @@ probe_split s b probe i f =
     ∙ ap (λ (m : ℕ). prefix_of s b ++ drop m probe) (sym (ap length (prefix-part s b i)) ∙ prefix-length s b i)
 
 -- a probe against the whole keys, and in a lower bound against the versions
-abbrev pub row_cmp : List ℕ → Body → List ℕ → Bool → Want → ℕ → Cmp
+abbrev pub row_cmp : List ℕ → Body → List ℕ → Bool → Want → ℕ → Option Ordering
 row_cmp s b probe t w j =
     cond w.lower (lowered (row_newer (rows_by t s b) w.ver j) (against (row_key (rows_by t s b)) probe j)) (against (row_key (rows_by t s b)) probe j)
 
 module _ (s : List ℕ) (b : Body) (i : Inside s b) (e : slots_ok s b ≡ true) (probe : List ℕ) (f : fits_prefix s b probe ≡ true) where
-  rest_says : (t : Bool) (j : ℕ) (l : j < b.elems) (r : Rec) → rec_at s b j ≡ RecRead.Is r → cmp_bytes (part s r.rest_at r.rest_len) (drop b.prefix_len probe) ≡ cmp_bytes (row_key (rows_by t s b) j) probe
+  rest_says : (t : Bool) (j : ℕ) (l : j < b.elems) (r : Rec) → rec_at s b j ≡ Some r → cmp_bytes (part s r.rest_at r.rest_len) (drop b.prefix_len probe) ≡ cmp_bytes (row_key (rows_by t s b) j) probe
   rest_says t j l r q =
       sym (cmp_front (prefix_of s b) (part s r.rest_at r.rest_len) (drop b.prefix_len probe))
       ∙ ap₂ cmp_bytes (sym (key_of_lem s b e j l r q t)) (sym (probe_split s b probe i f))
@@ -143,7 +142,7 @@ module _ (s : List ℕ) (b : Body) (i : Inside s b) (e : slots_ok s b ≡ true) 
       let c = rest_says t j l g.0 g.1 in
       let v = newer_of s b e j l g.0 g.1 t k w.ver in
       ap (cmp_read s b (drop b.prefix_len probe) w) x
-      ∙ ap₂ (λ (y : Bool) (o : Order). cond w.lower (lowered y (asked o)) (asked o)) v c
+      ∙ ap₂ (λ (y : Bool) (o : Ordering). cond w.lower (lowered y (asked o)) (asked o)) v c
 
   halved_finds : (t : Bool) → eqb b.kind 1 ≡ t → (w : Want) → Rises (row_cmp s b probe t w) b.elems → Finds (row_cmp s b probe t w) b.elems (halved s b probe w)
   unfolding halved
@@ -154,16 +153,16 @@ module _ (s : List ℕ) (b : Body) (i : Inside s b) (e : slots_ok s b ≡ true) 
 
 -- a probe without the prefix stands to every key as it stands to the prefix
 module _ (s : List ℕ) (b : Body) (i : Inside s b) (e : slots_ok s b ≡ true) (probe : List ℕ) (f : fits_prefix s b probe ≡ false) (t : Bool) (w : Want) where
-  beside : (j : ℕ) → j < b.elems → (o : Order) → cmp_bytes (prefix_of s b) probe ≡ o → row_cmp s b probe t w j ≡ cond w.lower (lowered (row_newer (rows_by t s b) w.ver j) (asked o)) (asked o)
+  beside : (j : ℕ) → j < b.elems → (o : Ordering) → cmp_bytes (prefix_of s b) probe ≡ o → row_cmp s b probe t w j ≡ cond w.lower (lowered (row_newer (rows_by t s b) w.ver j) (asked o)) (asked o)
   beside j l o c =
       let g = every_slot s b e j l in
       let k : cmp_bytes (row_key (rows_by t s b) j) probe ≡ o = ap (λ (x : List ℕ). cmp_bytes x probe) (key_of_lem s b e j l g.0 g.1 t) ∙ cmp_beside (prefix_of s b) (part s g.0.rest_at g.0.rest_len) probe (sym (fits_said s b probe i) ∙ f) ∙ c in
-      ap (λ (x : Order). cond w.lower (lowered (row_newer (rows_by t s b) w.ver j) (asked x)) (asked x)) k
+      ap (λ (x : Ordering). cond w.lower (lowered (row_newer (rows_by t s b) w.ver j) (asked x)) (asked x)) k
 
-  elsewhere_by : (o : Order) → cmp_bytes probe (prefix_of s b) ≡ o → Finds (row_cmp s b probe t w) b.elems (cond (is_less o) (Halved.End 0 0) (Halved.End b.elems 0))
-  elsewhere_by Order.Less c = (omega arith, (λ j l. absurd (omega arith)), (λ j l m. beside j m Order.Greater (cmp_less probe (prefix_of s b) c) ∙ twice w.lower Cmp.Greater))
-  elsewhere_by Order.Equal c = absurd (cmp_apart (prefix_of s b) probe (sym (fits_said s b probe i) ∙ f) (cmp_flip probe (prefix_of s b) ∙ ap flip c))
-  elsewhere_by Order.Greater c = (omega arith, (λ j l. beside j l Order.Less (cmp_greater probe (prefix_of s b) c) ∙ twice w.lower Cmp.Less), (λ j l m. absurd (omega arith)))
+  elsewhere_by : (o : Ordering) → cmp_bytes probe (prefix_of s b) ≡ o → Finds (row_cmp s b probe t w) b.elems (cond (is_less o) (Some (Halved.End 0 0)) (Some (Halved.End b.elems 0)))
+  elsewhere_by Ordering.Less c = (omega arith, (λ j l. absurd (omega arith)), (λ j l m. beside j m Ordering.Greater (cmp_less probe (prefix_of s b) c) ∙ twice w.lower (Some Ordering.Greater)))
+  elsewhere_by Ordering.Equal c = absurd (cmp_apart (prefix_of s b) probe (sym (fits_said s b probe i) ∙ f) (cmp_flip probe (prefix_of s b) ∙ ap flip c))
+  elsewhere_by Ordering.Greater c = (omega arith, (λ j l. beside j l Ordering.Less (cmp_greater probe (prefix_of s b) c) ∙ twice w.lower (Some Ordering.Less)), (λ j l m. absurd (omega arith)))
 
   elsewhere_finds : Finds (row_cmp s b probe t w) b.elems (elsewhere s b probe)
   unfolding elsewhere prefix_of
@@ -193,13 +192,13 @@ kind_three flag i = go (eqb flag 1) (eqb i 1)
     go false false x y = refl
 
 -- a page that was opened and is neither an index nor a history page is a leaf (it belongs to `frames`)
-pub open_kind : (s : List ℕ) (a : Addr) (b : Body) → open_at s a ≡ Opened.Is b → (b.kind ≡ 1 → ⊥) → (b.kind ≡ 2 → ⊥) → b.kind ≡ 0
+pub open_kind : (s : List ℕ) (a : Addr) (b : Body) → open_at s a ≡ Some b → (b.kind ≡ 1 → ⊥) → (b.kind ≡ 2 → ⊥) → b.kind ≡ 0
 unfolding open_at body_of
 open_kind s a b e = go (page_at s a) e
   where
-    go : (p : PageRead) → open_of a p ≡ Opened.Is b → (b.kind ≡ 1 → ⊥) → (b.kind ≡ 2 → ⊥) → b.kind ≡ 0
-    go (PageRead.Page x h) e' n m =
+    go : (p : Option (BoxHeader × BaseHeader)) → open_of a p ≡ Some b → (b.kind ≡ 1 → ⊥) → (b.kind ≡ 2 → ⊥) → b.kind ≡ 0
+    go (Some (x, h)) e' n m =
         let y : body_of a x h ≡ b = cc in
         let k : kind_of x.flag h.is_index ≡ b.kind = ap (λ (d : Body). d.kind) y in
         sym k ∙ kind_three x.flag h.is_index (λ z. n (sym k ∙ z)) (λ z. m (sym k ∙ z))
-    go PageRead.Bad e' n m = absurd (let z : ◌≡◌ {A = ℕ} 0 1 = cc in omega arith)
+    go None e' n m = absurd (let z : ◌≡◌ {A = ℕ} 0 1 = cc in omega arith)

@@ -8,27 +8,18 @@ ghost use Rattle.sst.specs.Halve.{halve};
 ghost use Rattle.sst.specs.Narrow.{Marks, MarkedAt, equal_at, IsMet, Narrowed};
 ghost use Rattle.sst.specs.Search.{newer_at, key_cmp, fits_prefix, halved, elsewhere, ended_in, outcome_at, bound_in, floor_slot, page_in, floor_in, head_in, found_in, search_at, floor_at, lower_at};
 
-use frames::{Addr, BaseHeader, Body, Opened, PageId, Refusal};
-use order::{Order, Ver};
+use frames::{Addr, BaseHeader, Body, PageId, Refusal};
+use order::Ver;
 use pages::Place;
-use records::{RecRead, SlotRead, ValRead};
-use values::{HistRef, KeyRead};
-
-// How a key stands to the probe, or that it cannot be read.
-#[derive(Clone, Copy)]
-pub enum Cmp {
-    Less,
-    Equal,
-    Greater,
-    Refuse,
-}
+use records::ValParts;
+use std::cmp::Ordering;
+use values::{HistRef, KeyParts};
 
 // Where a probe stands among a page's keys, with the number of keys read: at an equal key, or where the smaller keys end.
 #[derive(Clone, Copy)]
 pub enum Halved {
     At(usize, usize),
     End(usize, usize),
-    Bad,
 }
 
 // The kinds of page that a search takes, and what it looks for beside the key: in a lower bound, the version.
@@ -43,17 +34,15 @@ pub struct Want {
 // Where the search of an opened page ends; bad is another kind of page.
 #[derive(Clone, Copy)]
 pub enum Ended {
-    Stands(Halved),
+    Stands(Option<Halved>),
     Empty,
-    Bad,
 }
 
 // The same of the page at an address; bad is no page, too.
 #[derive(Clone, Copy)]
 pub enum Outcome {
-    Stands(Body, Halved),
+    Stands(Body, Option<Halved>),
     Empty,
-    Bad,
 }
 
 // The first position not less, with the number of keys read.
@@ -61,7 +50,6 @@ pub enum Outcome {
 pub enum Bound {
     At { pos: usize, reads: usize },
     PastEnd { pos: usize, reads: usize },
-    Refused(Refusal),
 }
 
 // The slot of the greatest key not above, its page, and the number of keys read.
@@ -75,7 +63,6 @@ pub enum Floor {
     Nothing {
         reads: usize,
     },
-    Refused(Refusal),
 }
 
 // The slot of the key, its version, its history's reference, the place of its value in the arena, and the number of keys read.
@@ -91,7 +78,6 @@ pub enum Found {
     Nothing {
         reads: usize,
     },
-    Refused(Refusal),
 }
 
 // ---- the comparison
@@ -115,7 +101,7 @@ pub struct Stand {
     pub lo: usize,
     pub hi: usize,
     pub reads: usize,
-    pub met: SlotRead,
+    pub met: Option<usize>,
 }
 
 // The byte before a key rest of n bytes, where one byte says the length and the key is not too long; elsewhere 256, which no byte is.
@@ -138,22 +124,22 @@ fn mark_of(b: Body, n: usize) -> usize
 
 // Where the record of slot i starts, if the byte there is the mark. A second text of `records::slot_at`, for speed: `marked_lies` (proofs/Narrows.antt)
 // proves that the key there is the one that the decoder reads.
-fn marked_at(s: &[u8], b: Body, i: usize, mark: usize) -> SlotRead
+fn marked_at(s: &[u8], b: Body, i: usize, mark: usize) -> Option<usize>
     requires inside { Inside s.now b }
     requires i_lt_elems { (i < b.elems) × (mark ≤ 256) }
     ensures { MarkedAt s.now b i mark result }
 {
     let p = b.at + (numbers::read_u32(s, b.at + BaseHeader::HDR_LEN + 4 * i) as usize);
     if p < b.first {
-        return SlotRead::Bad;
+        return None;
     }
     if b.end <= p + mark {
-        return SlotRead::Bad;
+        return None;
     }
     if (s[p] as usize) != mark {
-        return SlotRead::Bad;
+        return None;
     }
-    SlotRead::At(p)
+    Some(p)
 }
 
 // Turns over keys as long as the probe, in a loop of their own: up to the first key of another length, or one that is the probe.
@@ -171,12 +157,12 @@ fn narrow(s: &[u8], b: Body, rest: &[u8], mark: usize, from: Stand) -> Stand
     let mut reads = from.reads;
     while lo < hi {
         let mid = lo + (hi - lo) / 2;
-        let SlotRead::At(p) = marked_at(s, b, mid, mark) else {
+        let Some(p) = marked_at(s, b, mid, mark) else {
             return Stand {
-                lo: lo,
-                hi: hi,
-                reads: reads,
-                met: SlotRead::Bad,
+                lo,
+                hi,
+                reads,
+                met: None,
             };
         };
         let q = p + 1 + skip;
@@ -185,17 +171,17 @@ fn narrow(s: &[u8], b: Body, rest: &[u8], mark: usize, from: Stand) -> Stand
         if d.x == d.y {
             if d.whole {
                 return Stand {
-                    lo: lo,
-                    hi: hi,
-                    reads: reads,
-                    met: SlotRead::At(p),
+                    lo,
+                    hi,
+                    reads,
+                    met: Some(p),
                 };
             }
             return Stand {
-                lo: lo,
-                hi: hi,
-                reads: reads,
-                met: SlotRead::Bad,
+                lo,
+                hi,
+                reads,
+                met: None,
             };
         }
         reads += 1;
@@ -206,62 +192,57 @@ fn narrow(s: &[u8], b: Body, rest: &[u8], mark: usize, from: Stand) -> Stand
         }
     }
     Stand {
-        lo: lo,
-        hi: hi,
-        reads: reads,
-        met: SlotRead::Bad,
+        lo,
+        hi,
+        reads,
+        met: None,
     }
 }
 
 // A key that is the probe, its version at a place: a lower bound asks for the version, too.
-fn equal_at(s: &[u8], kind: u8, at: usize, w: Want) -> Cmp
+fn equal_at(s: &[u8], kind: u8, at: usize, w: Want) -> Option<Ordering>
     requires { at + skip_of kind ≤ length s.now }
     ensures { result ≡ equal_at s.now kind at w }
 {
     if w.lower {
         if newer_at(s, kind, at, w.ver) {
-            return Cmp::Less;
+            return Some(Ordering::Less);
         }
-        return Cmp::Greater;
+        return Some(Ordering::Greater);
     }
-    Cmp::Equal
+    Some(Ordering::Equal)
 }
 
 // The key of slot i, of any length.
-fn any_at(s: &[u8], b: Body, i: usize, rest: &[u8], w: Want) -> Cmp
+fn any_at(s: &[u8], b: Body, i: usize, rest: &[u8], w: Want) -> Option<Ordering>
     requires { Inside s.now b }
     ensures { result ≡ key_cmp s.now b rest.now w i }
 {
-    let KeyRead::Key {
-        ver_at,
-        rest_at,
-        rest_len,
-    } = records::key_at(s, b, i)
-    else {
-        return Cmp::Refuse;
+    let Some(k) = records::key_at(s, b, i) else {
+        return None;
     };
-    let e = rest_at + rest_len;
-    match order::compare(&s[rest_at..e], rest) {
-        Order::Less => Cmp::Less,
-        Order::Equal => equal_at(s, b.kind, ver_at, w),
-        Order::Greater => Cmp::Greater,
+    let e = k.rest_at + k.rest_len;
+    match order::compare(&s[k.rest_at..e], rest) {
+        Ordering::Less => Some(Ordering::Less),
+        Ordering::Equal => equal_at(s, b.kind, k.ver_at, w),
+        Ordering::Greater => Some(Ordering::Greater),
     }
 }
 
 // The key of slot i, where the turns above stopped.
-fn met_at(s: &[u8], b: Body, i: usize, rest: &[u8], w: Want, met: SlotRead) -> Cmp
+fn met_at(s: &[u8], b: Body, i: usize, rest: &[u8], w: Want, met: Option<usize>) -> Option<Ordering>
     requires inside { Inside s.now b }
     requires met { IsMet s.now b rest.now i met }
     ensures { result ≡ key_cmp s.now b rest.now w i }
 {
     match met {
-        SlotRead::At(p) => equal_at(s, b.kind, p + 1, w),
-        SlotRead::Bad => any_at(s, b, i, rest, w),
+        Some(p) => equal_at(s, b.kind, p + 1, w),
+        None => any_at(s, b, i, rest, w),
     }
 }
 
 // A page's slots, halved.
-fn halve_keys(s: &[u8], b: Body, rest: &[u8], w: Want) -> Halved
+fn halve_keys(s: &[u8], b: Body, rest: &[u8], w: Want) -> Option<Halved>
     requires { Inside s.now b }
     ensures { result ≡ halve (key_cmp s.now b rest.now w) b.elems 0 b.elems 0 }
 {
@@ -276,10 +257,10 @@ fn halve_keys(s: &[u8], b: Body, rest: &[u8], w: Want) -> Halved
             rest,
             mark,
             Stand {
-                lo: lo,
-                hi: hi,
-                reads: reads,
-                met: SlotRead::Bad,
+                lo,
+                hi,
+                reads,
+                met: None,
             },
         );
         lo = g.lo;
@@ -290,22 +271,22 @@ fn halve_keys(s: &[u8], b: Body, rest: &[u8], w: Want) -> Halved
             let mid = lo + (hi - lo) / 2;
             reads += 1;
             match met_at(s, b, mid, rest, w, met) {
-                Cmp::Less => {
+                Some(Ordering::Less) => {
                     lo = mid + 1;
                 }
-                Cmp::Greater => {
+                Some(Ordering::Greater) => {
                     hi = mid;
                 }
-                Cmp::Equal => {
-                    return Halved::At(mid, reads);
+                Some(Ordering::Equal) => {
+                    return Some(Halved::At(mid, reads));
                 }
-                Cmp::Refuse => {
-                    return Halved::Bad;
+                None => {
+                    return None;
                 }
             }
         }
     }
-    Halved::End(lo, reads)
+    Some(Halved::End(lo, reads))
 }
 
 // Whether a probe begins with the page's prefix.
@@ -320,7 +301,7 @@ fn fits_prefix(s: &[u8], b: Body, probe: &[u8]) -> bool
 }
 
 // A page's slots, halved for a probe that begins with its prefix.
-fn halve_page(s: &[u8], b: Body, probe: &[u8], w: Want) -> Halved
+fn halve_page(s: &[u8], b: Body, probe: &[u8], w: Want) -> Option<Halved>
     requires inside { Inside s.now b }
     requires prefix_len_in_bounds { b.prefix_len ≤ length probe.now }
     ensures { result ≡ halved s.now b probe.now w }
@@ -330,68 +311,68 @@ fn halve_page(s: &[u8], b: Body, probe: &[u8], w: Want) -> Halved
 }
 
 // Where a probe stands that does not begin with the page's prefix, as every key does: before the first or behind the last. No key is read.
-fn elsewhere_in(s: &[u8], b: Body, probe: &[u8]) -> Halved
+fn elsewhere_in(s: &[u8], b: Body, probe: &[u8]) -> Option<Halved>
     requires { Inside s.now b }
     ensures { result ≡ elsewhere s.now b probe.now }
 {
     match order::compare(probe, records::prefix_of(s, b)) {
-        Order::Less => Halved::End(0, 0),
-        Order::Equal => Halved::End(b.elems, 0),
-        Order::Greater => Halved::End(b.elems, 0),
+        Ordering::Less => Some(Halved::End(0, 0)),
+        Ordering::Equal => Some(Halved::End(b.elems, 0)),
+        Ordering::Greater => Some(Halved::End(b.elems, 0)),
     }
 }
 
 // A page that was opened, for a search: its kind, then an empty page, then the probe against the prefix, then the halving.
-fn ended_in(s: &[u8], b: Body, probe: &[u8], w: Want) -> Ended
+fn ended_in(s: &[u8], b: Body, probe: &[u8], w: Want) -> Option<Ended>
     requires { Inside s.now b }
     ensures { result ≡ ended_in s.now b probe.now w }
 {
     if (w.leaf & (b.kind == Body::LEAF)) | (w.index & (b.kind == Body::INDEX)) {
         if b.elems == 0 {
-            return Ended::Empty;
+            return Some(Ended::Empty);
         }
         if fits_prefix(s, b, probe) {
-            return Ended::Stands(halve_page(s, b, probe, w));
+            return Some(Ended::Stands(halve_page(s, b, probe, w)));
         }
-        return Ended::Stands(elsewhere_in(s, b, probe));
+        return Some(Ended::Stands(elsewhere_in(s, b, probe)));
     }
-    Ended::Bad
+    None
 }
 
 // The page at an address, and where the probe stands among its keys: what the overlay asks for.
-pub fn halve_at(s: &[u8], a: Addr, probe: &[u8], w: Want) -> Outcome
+pub fn halve_at(s: &[u8], a: Addr, probe: &[u8], w: Want) -> Option<Outcome>
     ensures { result ≡ outcome_at s.now a probe.now w }
 {
-    let Opened::Is(b) = frames::open_at(s, a) else {
-        return Outcome::Bad;
+    let Some(b) = frames::open_at(s, a) else {
+        return None;
     };
     match ended_in(s, b, probe, w) {
-        Ended::Bad => Outcome::Bad,
-        Ended::Empty => Outcome::Empty,
-        Ended::Stands(h) => Outcome::Stands(b, h),
+        None => None,
+        Some(Ended::Empty) => Some(Outcome::Empty),
+        Some(Ended::Stands(h)) => Some(Outcome::Stands(b, h)),
     }
 }
 
 // ---- the three searches
 
-fn bound_in(elems: usize, h: Halved) -> Bound
+fn bound_in(elems: usize, h: Option<Halved>) -> Result<Bound, Refusal>
     ensures { result ≡ bound_in elems h }
 {
     match h {
-        Halved::At(_, _) => Bound::Refused(Refusal::BadFrame),
-        Halved::End(p, n) => {
+        Some(Halved::At(_, _)) => Err(Refusal::BadFrame),
+        Some(Halved::End(p, n)) => {
             if p < elems {
-                Bound::At { pos: p, reads: n }
+                Ok(Bound::At { pos: p, reads: n })
             } else {
-                Bound::PastEnd { pos: p, reads: n }
+                Ok(Bound::PastEnd { pos: p, reads: n })
             }
         }
-        Halved::Bad => Bound::Refused(Refusal::BadFrame),
+        None => Err(Refusal::BadFrame),
     }
 }
 
 // The first position of a leaf or index page whose key and version are not less than the probe's; an index page has no versions.
-pub fn lower_bound(s: &[u8], a: Addr, probe: &[u8], v: Ver) -> Bound
+pub fn lower_bound(s: &[u8], a: Addr, probe: &[u8], v: Ver) -> Result<Bound, Refusal>
     ensures { result ≡ lower_at s.now a probe.now v }
 {
     let w = Want {
@@ -400,13 +381,13 @@ pub fn lower_bound(s: &[u8], a: Addr, probe: &[u8], v: Ver) -> Bound
         lower: true,
         ver: v,
     };
-    let Opened::Is(b) = frames::open_at(s, a) else {
-        return Bound::Refused(Refusal::BadFrame);
+    let Some(b) = frames::open_at(s, a) else {
+        return Err(Refusal::BadFrame);
     };
     match ended_in(s, b, probe, w) {
-        Ended::Bad => Bound::Refused(Refusal::BadFrame),
-        Ended::Empty => Bound::PastEnd { pos: 0, reads: 0 },
-        Ended::Stands(h) => bound_in(b.elems, h),
+        None => Err(Refusal::BadFrame),
+        Some(Ended::Empty) => Ok(Bound::PastEnd { pos: 0, reads: 0 }),
+        Some(Ended::Stands(h)) => bound_in(b.elems, h),
     }
 }
 
@@ -420,44 +401,39 @@ fn floor_slot(p: usize) -> usize
 }
 
 // The page id of slot i.
-fn page_in(s: &[u8], b: Body, i: usize, reads: usize) -> Floor
+fn page_in(s: &[u8], b: Body, i: usize, reads: usize) -> Result<Floor, Refusal>
     requires inside { Inside s.now b }
     requires kind_value { b.kind ≡ 1 }
     ensures { result ≡ page_in s.now b i reads }
 {
-    let KeyRead::Key {
-        ver_at: _,
-        rest_at,
-        rest_len,
-    } = records::key_at(s, b, i)
-    else {
-        return Floor::Refused(Refusal::BadFrame);
+    let Some(k) = records::key_at(s, b, i) else {
+        return Err(Refusal::BadFrame);
     };
-    let q = rest_at + rest_len;
+    let q = k.rest_at + k.rest_len;
     if b.end < q + 8 {
-        return Floor::Refused(Refusal::BadFrame);
+        return Err(Refusal::BadFrame);
     }
-    Floor::Is {
+    Ok(Floor::Is {
         slot: i,
         page: PageId(numbers::read_u64(s, q)),
-        reads: reads,
-    }
+        reads,
+    })
 }
 
-fn floor_in(s: &[u8], b: Body, h: Halved) -> Floor
+fn floor_in(s: &[u8], b: Body, h: Option<Halved>) -> Result<Floor, Refusal>
     requires inside { Inside s.now b }
     requires kind_value { b.kind ≡ 1 }
     ensures { result ≡ floor_in s.now b h }
 {
     match h {
-        Halved::At(i, n) => page_in(s, b, i, n),
-        Halved::End(p, n) => page_in(s, b, floor_slot(p), n),
-        Halved::Bad => Floor::Refused(Refusal::BadFrame),
+        Some(Halved::At(i, n)) => page_in(s, b, i, n),
+        Some(Halved::End(p, n)) => page_in(s, b, floor_slot(p), n),
+        None => Err(Refusal::BadFrame),
     }
 }
 
 // The greatest key of an index page that is not above the probe, slot 0 below the first, and its page.
-pub fn floor_pid_by_raw(s: &[u8], a: Addr, probe: &[u8]) -> Floor
+pub fn floor_pid_by_raw(s: &[u8], a: Addr, probe: &[u8]) -> Result<Floor, Refusal>
     ensures { result ≡ floor_at s.now a probe.now }
 {
     let w = Want {
@@ -466,24 +442,24 @@ pub fn floor_pid_by_raw(s: &[u8], a: Addr, probe: &[u8]) -> Floor
         lower: false,
         ver: Ver::new(0, 0),
     };
-    let Opened::Is(b) = frames::open_at(s, a) else {
-        return Floor::Refused(Refusal::BadFrame);
+    let Some(b) = frames::open_at(s, a) else {
+        return Err(Refusal::BadFrame);
     };
     match ended_in(s, b, probe, w) {
-        Ended::Bad => Floor::Refused(Refusal::BadFrame),
-        Ended::Empty => Floor::Nothing { reads: 0 },
-        Ended::Stands(h) => floor_in(s, b, h),
+        None => Err(Refusal::BadFrame),
+        Some(Ended::Empty) => Ok(Floor::Nothing { reads: 0 }),
+        Some(Ended::Stands(h)) => floor_in(s, b, h),
     }
 }
 
 // The head of slot i, by the decoder of any record.
-fn any_head(s: &[u8], b: Body, i: usize, reads: usize) -> Found
+fn any_head(s: &[u8], b: Body, i: usize, reads: usize) -> Result<Found, Refusal>
     requires inside { Inside s.now b }
     requires kind_value { b.kind ≡ 0 }
     ensures { result ≡ head_in s.now b i reads }
 {
-    let RecRead::Is(r) = records::rec_at(s, b, i) else {
-        return Found::Refused(Refusal::BadFrame);
+    let Some(r) = records::rec_at(s, b, i) else {
+        return Err(Refusal::BadFrame);
     };
     let v = records::ver_at(s, r.ver_at);
     let p = Place {
@@ -491,67 +467,56 @@ fn any_head(s: &[u8], b: Body, i: usize, reads: usize) -> Found
         len: r.val_len,
     };
     let h = r.hist;
-    Found::Is {
+    Ok(Found::Is {
         slot: i,
         ver: v,
         hist: h,
         value: p,
-        reads: reads,
-    }
+        reads,
+    })
 }
 
 // The head of slot i: a value that stands in its page is read in place.
-fn head_in(s: &[u8], b: Body, i: usize, reads: usize) -> Found
+fn head_in(s: &[u8], b: Body, i: usize, reads: usize) -> Result<Found, Refusal>
     requires inside { Inside s.now b }
     requires kind_value { b.kind ≡ 0 }
     ensures { result ≡ head_in s.now b i reads }
 {
-    let KeyRead::Key {
-        ver_at,
-        rest_at,
-        rest_len,
-    } = records::key_at(s, b, i)
-    else {
-        return Found::Refused(Refusal::BadFrame);
+    let Some(k) = records::key_at(s, b, i) else {
+        return Err(Refusal::BadFrame);
     };
-    let ValRead::Is {
-        hist,
-        val_at,
-        val_len,
-        ..
-    } = records::quick_value(s, b, rest_at + rest_len)
-    else {
+    let Some(val) = records::quick_value(s, b, k.rest_at + k.rest_len) else {
         return any_head(s, b, i, reads);
     };
-    let v = records::ver_at(s, ver_at);
+    let v = records::ver_at(s, k.ver_at);
     let p = Place {
-        at: val_at,
-        len: val_len,
+        at: val.val_at,
+        len: val.val_len,
     };
-    let h = hist;
-    Found::Is {
+    let h = val.hist;
+    Ok(Found::Is {
         slot: i,
         ver: v,
         hist: h,
         value: p,
-        reads: reads,
-    }
+        reads,
+    })
 }
 
-fn found_in(s: &[u8], b: Body, h: Halved) -> Found
+fn found_in(s: &[u8], b: Body, h: Option<Halved>) -> Result<Found, Refusal>
     requires inside { Inside s.now b }
     requires kind_value { b.kind ≡ 0 }
     ensures { result ≡ found_in s.now b h }
 {
     match h {
-        Halved::At(i, n) => head_in(s, b, i, n),
-        Halved::End(_, n) => Found::Nothing { reads: n },
-        Halved::Bad => Found::Refused(Refusal::BadFrame),
+        Some(Halved::At(i, n)) => head_in(s, b, i, n),
+        Some(Halved::End(_, n)) => Ok(Found::Nothing { reads: n }),
+        None => Err(Refusal::BadFrame),
     }
 }
 
 // A leaf's head with the probe as its key. Its value is lent on by `pages::part_at`; its history is not followed.
-pub fn search_ver_val_by_raw(s: &[u8], a: Addr, probe: &[u8]) -> Found
+pub fn search_ver_val_by_raw(s: &[u8], a: Addr, probe: &[u8]) -> Result<Found, Refusal>
     ensures { result ≡ search_at s.now a probe.now }
 {
     let w = Want {
@@ -560,12 +525,12 @@ pub fn search_ver_val_by_raw(s: &[u8], a: Addr, probe: &[u8]) -> Found
         lower: false,
         ver: Ver::new(0, 0),
     };
-    let Opened::Is(b) = frames::open_at(s, a) else {
-        return Found::Refused(Refusal::BadFrame);
+    let Some(b) = frames::open_at(s, a) else {
+        return Err(Refusal::BadFrame);
     };
     match ended_in(s, b, probe, w) {
-        Ended::Bad => Found::Refused(Refusal::BadFrame),
-        Ended::Empty => Found::Nothing { reads: 0 },
-        Ended::Stands(h) => found_in(s, b, h),
+        None => Err(Refusal::BadFrame),
+        Some(Ended::Empty) => Ok(Found::Nothing { reads: 0 }),
+        Some(Ended::Stands(h)) => found_in(s, b, h),
     }
 }

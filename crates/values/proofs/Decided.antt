@@ -12,9 +12,7 @@ use Rattle.spans.specs.Only.{Decides, decides}
 use Rattle.spans.proofs.Put.{stored_decided}
 use Rattle.frames.specs.declared.Addr.{Addr}
 use Rattle.order.specs.declared.Ver.{Ver}
-use Rattle.values.specs.declared.KeyRead.{KeyRead}
 use Rattle.values.specs.declared.HistRef.{HistRef}
-use Rattle.values.specs.declared.Val.{Val}
 use Rattle.values.specs.Keys.{key_at}
 use Rattle.values.specs.Vals.{size_of, val_at}
 use Rattle.values.specs.contracts.key_at as key-at_fn
@@ -37,15 +35,18 @@ use Rattle.values.specs.contracts.Val.encode_inline as inline_fn
 use Rattle.values.proofs.Val.encode_inline.Reads as inline
 use Rattle.values.specs.contracts.Val.encode_remote as remote_fn
 use Rattle.values.proofs.Val.encode_remote.Reads as remote
+use Rattle.std.proofs.Common.{Option}
+use Rattle.values.specs.declared.KeyParts.{KeyParts}
+use Rattle.values.specs.declared.Val.{Val}
 
 -- ---- readers and sizes
 
 module _ (κs : Lfts 1) (s : Bor (List ℕ)) (at : ℕ) where
-  pub key-at_decided : (kind : ℕ) (e : AtExit key-at_fn.ended κs) → Decides (λ (r : KeyRead). key-at.Post κs (s, (at, (kind, tt))) r e) (λ (r : KeyRead). r)
-  key-at_decided kind e = decides (λ (r : KeyRead). r) (key_at s.now at kind)
+  pub key-at_decided : (kind : ℕ) (e : AtExit key-at_fn.ended κs) → Decides (λ (r : Option KeyParts). key-at.Post κs (s, (at, (kind, tt))) r e) (λ (r : Option KeyParts). r)
+  key-at_decided kind e = decides (λ (r : Option KeyParts). r) (key_at s.now at kind)
 
-  pub decode_decided : (head : Bool) (e : AtExit decode_fn.ended κs) → Decides (λ (r : Val). decode.Post κs (s, (at, (head, tt))) r e) (λ (r : Val). r)
-  decode_decided head e = decides (λ (r : Val). r) (val_at s.now at head)
+  pub decode_decided : (head : Bool) (e : AtExit decode_fn.ended κs) → Decides (λ (r : Option Val). decode.Post κs (s, (at, (head, tt))) r e) (λ (r : Option Val). r)
+  decode_decided head e = decides (λ (r : Option Val). r) (val_at s.now at head)
 
 pub calc_size_decided : (has : Bool) (limit n : ℕ) (e : AtExit calc_fn.ended tt) → Decides (λ (r : ℕ). calc.Post tt (has, (limit, (n, tt))) r e) (λ (r : ℕ). r)
 calc_size_decided has limit n e = decides (λ (r : ℕ). r) (size_of has limit n)

@@ -14,15 +14,14 @@ use Rattle.spans.proofs.Tests.{ask}
 use Rattle.spans.proofs.Lying.{lies_front, lies_back, lies_in, lies_part, lies_append, part_lies}
 use Rattle.numbers.specs.Number.{le, le_at, Bytes}
 use Rattle.numbers.proofs.Numbers.{length-le, lies_le, le_lies}
-use Rattle.lengths.specs.declared.Length.{Length}
 use Rattle.lengths.specs.Leb128.{uleb, read_len}
 use Rattle.lengths.proofs.Laws.{read_lies, lies_read, uleb-some}
 use Rattle.order.specs.declared.Ver.{Ver}
 use Rattle.order.specs.Version.{ver_of}
 use Rattle.frames.specs.Limits.{max_key}
-use Rattle.values.specs.declared.KeyRead.{KeyRead}
-use Rattle.values.specs.Keys.{ver_bytes, ver_in, leaf_front, leaf_key, index_key, skip_of, key_of, key_at}
+use Rattle.values.specs.Keys.{ver_bytes, ver_in, leaf_front, leaf_key, index_key, skip_of, key_of, key_at, key_parts}
 use Rattle.values.proofs.Laws.{length-ver, length-leaf_front}
+use Rattle.std.proofs.Common.{Option, Some, None}
 
 -- a version's numbers fit their fields
 pub record SmallVer (v : Ver) : Type 0 where
@@ -53,8 +52,8 @@ module _ (s : List ℕ) (at : ℕ) (v : Ver) where
 -- ---- keys: a length n that counts `skip` bytes and a rest
 
 module _ (s : List ℕ) (at kind : ℕ) (leaf : eqb kind 2 ≡ false) where
-  pub key-is : (n next : ℕ) → read_len s at ≡ Length.Is n next → skip_of kind ≤ n → next + n ≤ length s
-      → key_at s at kind ≡ KeyRead.Key next (next + skip_of kind) (n - skip_of kind)
+  pub key-is : (n next : ℕ) → read_len s at ≡ Some (n, next) → skip_of kind ≤ n → next + n ≤ length s
+      → key_at s at kind ≡ Some (key_parts next (next + skip_of kind) (n - skip_of kind))
   unfolding key_at
   key-is n next e h r =
       simp (leaf, e, le-leb (skip_of kind) n h, le-leb (next + n) (length s) r)
@@ -91,12 +90,12 @@ module _ (s : List ℕ) (at : ℕ) (v : Ver) (rest : List ℕ) (small : length r
       omega
       (arith, lies_in s at (leaf_key v rest) (omega (arith, length-append (leaf_front v (length rest)) rest, some)) h, length-append (leaf_front v (length rest)) rest, length-leaf_front v (length rest))
 
-  pub leaf_back : key_at s at 0 ≡ KeyRead.Key (at + n) (at + n + 12) (length rest)
+  pub leaf_back : key_at s at 0 ≡ Some (key_parts (at + n) (at + n + 12) (length rest))
   unfolding skip_of
   leaf_back =
       let e : 12 + length rest - 12 ≡ length rest = omega arith in
       key-is s at 0 refl (12 + length rest) (at + n) (read_lies s at (12 + length rest) (omega arith) lead) (omega arith) room
-      ∙ ap (λ (k : ℕ). KeyRead.Key (at + n) (at + n + 12) k) e
+      ∙ ap (λ (k : ℕ). Some (key_parts (at + n) (at + n + 12) k)) e
 
 module _ (s : List ℕ) (at : ℕ) (rest : List ℕ) (small : length rest ≤ max_key) (h : Lies s at (index_key rest)) where
   abbrev m : ℕ
@@ -110,18 +109,18 @@ module _ (s : List ℕ) (at : ℕ) (rest : List ℕ) (small : length rest ≤ ma
   unfolding index_key
   index_rest = lies_back s at (uleb (length rest)) rest h
 
-  pub index_back : key_at s at 1 ≡ KeyRead.Key (at + m) (at + m + 0) (length rest)
+  pub index_back : key_at s at 1 ≡ Some (key_parts (at + m) (at + m + 0) (length rest))
   unfolding skip_of index_key
   index_back =
       let some : 0 < length (uleb (length rest)) = uleb-some (length rest) (omega arith) in
       let room : at + m + length rest ≤ length s =
       omega (arith, lies_in s at (index_key rest) (omega (arith, length-append (uleb (length rest)) rest, some)) h, length-append (uleb (length rest)) rest) in
       key-is s at 1 refl (length rest) (at + m) (read_lies s at (length rest) (omega arith) lead') (omega arith) room
-      ∙ ap (λ (k : ℕ). KeyRead.Key (at + m) (at + m + 0) k) (omega arith)
+      ∙ ap (λ (k : ℕ). Some (key_parts (at + m) (at + m + 0) k)) (omega arith)
 
 -- what was read is what would have been written
 module _ (s : List ℕ) (at kind ver rest n : ℕ) (hb : Bytes s) where
-  bad : KeyRead.Bad ≡ KeyRead.Key ver rest n → ⊥
+  bad : None ≡ Some (key_parts ver rest n) → ⊥
   bad e = let z : ◌≡◌ {A = ℕ} 0 1 = cc in omega arith
 
   -- a leaf's or an index page's key: a length that lies there, of what it skips and the rest
@@ -131,14 +130,14 @@ module _ (s : List ℕ) (at kind ver rest n : ℕ) (hb : Bytes s) where
     pub rest_at : rest ≡ ver + skip_of kind
     pub ends : rest + n ≤ length s
 
-  same : (next m : ℕ) → KeyRead.Key next (next + skip_of kind) (m - skip_of kind) ≡ KeyRead.Key ver rest n → (next ≡ ver) × (next + skip_of kind ≡ rest) × (m - skip_of kind ≡ n)
+  same : (next m : ℕ) → Some (key_parts next (next + skip_of kind) (m - skip_of kind)) ≡ Some (key_parts ver rest n) → (next ≡ ver) × (next + skip_of kind ≡ rest) × (m - skip_of kind ≡ n)
   same next m e = (cc, cc, cc)
 
-  framed : (r : Length) → read_len s at ≡ r → key_of s kind r ≡ KeyRead.Key ver rest n → Framed
-  framed Length.Bad q e = absurd (bad e)
-  framed (Length.Is m next) q e =
-      let a = ask (leb (skip_of kind) m) (cond (leb (next + m) (length s)) (KeyRead.Key next (next + skip_of kind) (m - skip_of kind)) KeyRead.Bad) KeyRead.Bad (KeyRead.Key ver rest n) bad e in
-      let b = ask (leb (next + m) (length s)) (KeyRead.Key next (next + skip_of kind) (m - skip_of kind)) KeyRead.Bad (KeyRead.Key ver rest n) bad a.1 in
+  framed : (r : Option (ℕ × ℕ)) → read_len s at ≡ r → key_of s kind r ≡ Some (key_parts ver rest n) → Framed
+  framed None q e = absurd (bad e)
+  framed (Some (m, next)) q e =
+      let a = ask (leb (skip_of kind) m) (cond (leb (next + m) (length s)) (Some (key_parts next (next + skip_of kind) (m - skip_of kind))) None) None (Some (key_parts ver rest n)) bad e in
+      let b = ask (leb (next + m) (length s)) (Some (key_parts next (next + skip_of kind) (m - skip_of kind))) None (Some (key_parts ver rest n)) bad a.1 in
       let g = same next m b.1 in
       let l = lies_read s at m next hb q in
       let skip : skip_of kind ≤ m = leb-true (skip_of kind) m a.0 in
@@ -151,8 +150,8 @@ module _ (s : List ℕ) (at kind ver rest n : ℕ) (hb : Bytes s) where
         ends = omega (arith, g.0, g.1, g.2);
       }
 
-  pub key-read : eqb kind 2 ≡ false → key_at s at kind ≡ KeyRead.Key ver rest n → Framed
+  pub key-read : eqb kind 2 ≡ false → key_at s at kind ≡ Some (key_parts ver rest n) → Framed
   unfolding key_at
   key-read leaf e =
       framed (read_len s at) refl
-      (sym (ap (λ (b : Bool). cond b (cond (leb (at + 12) (length s)) (KeyRead.Key at (at + 12) 0) KeyRead.Bad) (key_of s kind (read_len s at))) leaf) ∙ e)
+      (sym (ap (λ (b : Bool). cond b (cond (leb (at + 12) (length s)) (Some (key_parts at (at + 12) 0)) None) (key_of s kind (read_len s at))) leaf) ∙ e)

@@ -17,10 +17,11 @@ use Rattle.numbers.proofs.Numbers.{length-le, lies_le, le_lies, le_at-one}
 use Rattle.frames.specs.declared.Addr.{Addr}
 use Rattle.frames.specs.Limits.{max_value}
 use Rattle.values.specs.declared.HistRef.{HistRef}
-use Rattle.values.specs.declared.FrontRead.{FrontRead}
-use Rattle.values.specs.declared.Val.{Val}
-use Rattle.values.specs.Vals.{addr_of, hist_of, no_hist, flag_of, hist_bytes, front_bytes, front_size, inline_bytes, remote_bytes, ref_at, front_at, val_of, val_at}
+use Rattle.values.specs.Vals.{addr_of, hist_of, no_hist, flag_of, hist_bytes, front_bytes, front_size, inline_bytes, remote_bytes, ref_at, front_at, val_of, val_at, front_places}
 use Rattle.values.proofs.Laws.{length_hist, length_front, length_inline, length-remote, front-some, front_parts, hist_some, hist_none}
+use Rattle.std.proofs.Common.{Option, Some, None}
+use Rattle.values.specs.declared.Front.{Front}
+use Rattle.values.specs.declared.Val.{Val}
 
 -- a history reference's numbers fit their fields
 pub record SmallHist (h : HistRef) : Type 0 where
@@ -39,7 +40,7 @@ Allowed h head = eqb h.count 0 ≡ false → head ≡ true
 -- ---- the reader's cases
 
 module _ (s : List ℕ) (at : ℕ) (head : Bool) (in_s : at < length s) where
-  pub front-plain : (remote : Bool) → get_or s at 0 ≡ cond remote 2 0 → front_at s at head ≡ FrontRead.Front no_hist remote (at + 1)
+  pub front-plain : (remote : Bool) → get_or s at 0 ≡ cond remote 2 0 → front_at s at head ≡ Some (front_places no_hist remote (at + 1))
   unfolding front_at
   front-plain true e = rw (lt-ltb at (length s) in_s, e) refl
   front-plain false e = rw (lt-ltb at (length s) in_s, e) refl
@@ -50,10 +51,10 @@ module _ (s : List ℕ) (at : ℕ) (head : Bool) (in_s : at < length s) where
   front_hist false q e = rw (lt-ltb at (length s) in_s, e, q) refl
 
 module _ (s : List ℕ) (h : HistRef) (next n : ℕ) (r4 : next + 4 ≤ length s) (size : le_at 4 s next ≡ n) (small : n ≤ max_value) where
-  pub val_inline : next + 4 + n ≤ length s → val_of s (FrontRead.Front h false next) ≡ Val.Inline h (next + 4) n (next + 4 + n)
+  pub val_inline : next + 4 + n ≤ length s → val_of s (Some (front_places h false next)) ≡ Some (Val.Inline h (next + 4) n (next + 4 + n))
   val_inline r = simp (le-leb (next + 4) (length s) r4, size, le-leb n max_value small, le-leb (next + 4 + n) (length s) r)
 
-  pub val-remote : (a : ℕ) → next + 12 ≤ length s → le_at 8 s (next + 4) ≡ a → val_of s (FrontRead.Front h true next) ≡ Val.Remote h (addr_of a) n (next + 12)
+  pub val-remote : (a : ℕ) → next + 12 ≤ length s → le_at 8 s (next + 4) ≡ a → val_of s (Some (front_places h true next)) ≡ Some (Val.Remote h (addr_of a) n (next + 12))
   val-remote a r e = simp (le-leb (next + 4) (length s) r4, size, le-leb n max_value small, le-leb (next + 12) (length s) r, e)
 
 -- ---- written, then read
@@ -90,7 +91,7 @@ module _ (s : List ℕ) (at : ℕ) (h : HistRef) (remote : Bool) (n : ℕ) (lies
   pub size_is : n < 256 ^ 4 → le_at 4 s next ≡ n
   size_is l = lies_le s next 4 n l (lies_back s (at + 1) (hist_bytes h) (le 4 n) rest)
 
-  reference : eqb h.count 0 ≡ false → SmallHist h → ref_at s (at + 1) remote ≡ FrontRead.Front h remote (at + 1 + 14)
+  reference : eqb h.count 0 ≡ false → SmallHist h → ref_at s (at + 1) remote ≡ Some (front_places h remote (at + 1 + 14))
   unfolding ref_at
   reference e w =
       let p = le 8 h.page.0 in
@@ -109,21 +110,21 @@ module _ (s : List ℕ) (at : ℕ) (h : HistRef) (remote : Bool) (n : ℕ) (lies
       rw (le-leb (at + 1 + 14) (length s) room, counts, e, pages, slots) refl
 
   -- what the flag and the history read back as
-  pub front_back : (head : Bool) → Allowed h head → SmallHist h → front_at s at head ≡ FrontRead.Front (canon h) remote next
+  pub front_back : (head : Bool) → Allowed h head → SmallHist h → front_at s at head ≡ Some (front_places (canon h) remote next)
   front_back head ok w = go (eqb h.count 0) refl
     where
       in_s : at < length s
       in_s = omega (arith, inside, front-some h.count)
 
-      go : (b : Bool) → eqb h.count 0 ≡ b → front_at s at head ≡ FrontRead.Front (canon h) remote next
+      go : (b : Bool) → eqb h.count 0 ≡ b → front_at s at head ≡ Some (front_places (canon h) remote next)
       go true e =
           front-plain s at head in_s remote (flag_byte ∙ flag_none h.count remote e)
-          ∙ ap₂ (λ (x : HistRef) (k : ℕ). FrontRead.Front x remote k) (sym (ap (λ (b : Bool). cond b no_hist h) e))
+          ∙ ap₂ (λ (x : HistRef) (k : ℕ). Some (front_places x remote k)) (sym (ap (λ (b : Bool). cond b no_hist h) e))
           (omega (arith, length_hist h ∙ ap (λ (b : Bool). cond b 0 14) e))
       go false e =
           front_hist s at head in_s remote (ok e) (flag_byte ∙ flag_some h.count remote e)
           ∙ reference e w
-          ∙ ap₂ (λ (x : HistRef) (k : ℕ). FrontRead.Front x remote k) (sym (ap (λ (b : Bool). cond b no_hist h) e))
+          ∙ ap₂ (λ (x : HistRef) (k : ℕ). Some (front_places x remote k)) (sym (ap (λ (b : Bool). cond b no_hist h) e))
           (omega (arith, length_hist h ∙ ap (λ (b : Bool). cond b 0 14) e))
 
 -- an inline value: its bytes stand behind the front
@@ -139,13 +140,13 @@ module _ (s : List ℕ) (at : ℕ) (h : HistRef) (v : List ℕ) (head : Bool) (o
   whole : at + (front_size h.count + length v) ≤ length s
   whole = omega (arith, length_inline h v, lies_in s at (inline_bytes h v) (omega (arith, length_inline h v, front-some h.count)) lies)
 
-  pub inline_back : val_at s at head ≡ Val.Inline (canon h) (at + front_size h.count) (length v) (at + front_size h.count + length v)
+  pub inline_back : val_at s at head ≡ Some (Val.Inline (canon h) (at + front_size h.count) (length v) (at + front_size h.count + length v))
   unfolding val_at
   inline_back =
       let k = next-is s at h false (length v) lead in
       ap (val_of s) (front_back s at h false (length v) lead head ok w)
       ∙ val_inline s (canon h) _ (length v) (omega (arith, k, whole)) (size_is s at h false (length v) lead (omega arith)) small (omega (arith, k, whole))
-      ∙ ap (λ (j : ℕ). Val.Inline (canon h) j (length v) (j + length v)) k
+      ∙ ap (λ (j : ℕ). Some (Val.Inline (canon h) j (length v) (j + length v))) k
 
 -- a remote value: its address stands there
 module _ (s : List ℕ) (at : ℕ) (h : HistRef) (n a : ℕ) (head : Bool) (ok : Allowed h head) (w : SmallHist h) (small : n ≤ max_value) (remote : a < 256 ^ 8) (lies : Lies s at (remote_bytes h n a)) where
@@ -156,7 +157,7 @@ module _ (s : List ℕ) (at : ℕ) (h : HistRef) (n a : ℕ) (head : Bool) (ok :
   whole' : at + (front_size h.count + 8) ≤ length s
   whole' = omega (arith, length-remote h n a, lies_in s at (remote_bytes h n a) (omega (arith, length-remote h n a, front-some h.count)) lies)
 
-  pub remote_back : val_at s at head ≡ Val.Remote (canon h) (addr_of a) n (at + (front_size h.count + 8))
+  pub remote_back : val_at s at head ≡ Some (Val.Remote (canon h) (addr_of a) n (at + (front_size h.count + 8)))
   unfolding val_at remote_bytes
   remote_back =
       let k = next-is s at h true n lead' in
@@ -164,7 +165,7 @@ module _ (s : List ℕ) (at : ℕ) (h : HistRef) (n a : ℕ) (head : Bool) (ok :
       ap (val_of s) (front_back s at h true n lead' head ok w)
       ∙ val-remote s (canon h) _ n (omega (arith, k, whole')) (size_is s at h true n lead' (omega arith)) small a (omega (arith, k, whole'))
       (lies_le s _ 8 a remote (subst (λ (j : ℕ). Lies s j (le 8 a)) e (lies_back s at (front_bytes h true n) (le 8 a) lies)))
-      ∙ ap (λ (j : ℕ). Val.Remote (canon h) (addr_of a) n j) (omega (arith, k))
+      ∙ ap (λ (j : ℕ). Some (Val.Remote (canon h) (addr_of a) n j)) (omega (arith, k))
 
 -- ---- read, then written
 
@@ -193,21 +194,21 @@ flag_refers c (suc (suc (suc zero))) n m t = rw n refl
 flag_refers c (suc (suc (suc (suc x)))) n m t = absurd (omega arith)
 
 module _ (s : List ℕ) (at : ℕ) (head : Bool) (h : HistRef) (remote : Bool) (next : ℕ) (hb : Bytes s) where
-  no_front : FrontRead.Bad ≡ FrontRead.Front h remote next → ⊥
+  no_front : None ≡ Some (front_places h remote next) → ⊥
   no_front e = let z : ◌≡◌ {A = ℕ} 0 1 = cc in omega arith
 
-  fields : (h' : HistRef) (remote' : Bool) (next' : ℕ) → FrontRead.Front h' remote' next' ≡ FrontRead.Front h remote next → (h' ≡ h) × (remote' ≡ remote) × (next' ≡ next)
+  fields : (h' : HistRef) (remote' : Bool) (next' : ℕ) → Some (front_places h' remote' next') ≡ Some (front_places h remote next) → (h' ≡ h) × (remote' ≡ remote) × (next' ≡ next)
   fields h' remote' next' e = (cc, cc, cc)
 
   flag_lies : at < length s → flag_of h.count remote ≡ get_or s at 0 → Lies s at (le 1 (flag_of h.count remote))
   flag_lies l e = subst (λ (k : ℕ). Lies s at (le 1 k)) (le_at-one s at l ∙ sym e) (le_lies s at 1 (omega arith) hb)
 
-  ref-read : ref_at s (at + 1) remote ≡ FrontRead.Front h remote next → (eqb h.count 0 ≡ false) × Lies s (at + 1) (hist_bytes h) × (next ≡ at + 1 + length (hist_bytes h)) × (next ≤ length s)
+  ref-read : ref_at s (at + 1) remote ≡ Some (front_places h remote next) → (eqb h.count 0 ≡ false) × Lies s (at + 1) (hist_bytes h) × (next ≡ at + 1 + length (hist_bytes h)) × (next ≤ length s)
   unfolding ref_at
   ref-read e =
       let r = hist_of (le_at 8 s (at + 1)) (le_at 2 s (at + 1 + 8)) (le_at 4 s (at + 1 + 10)) in
-      let a = ask (leb (at + 1 + 14) (length s)) (cond (eqb (le_at 4 s (at + 1 + 10)) 0) FrontRead.Bad (FrontRead.Front r remote (at + 1 + 14))) FrontRead.Bad (FrontRead.Front h remote next) no_front e in
-      let b = dont (eqb (le_at 4 s (at + 1 + 10)) 0) FrontRead.Bad (FrontRead.Front r remote (at + 1 + 14)) (FrontRead.Front h remote next) no_front a.1 in
+      let a = ask (leb (at + 1 + 14) (length s)) (cond (eqb (le_at 4 s (at + 1 + 10)) 0) None (Some (front_places r remote (at + 1 + 14)))) None (Some (front_places h remote next)) no_front e in
+      let b = dont (eqb (le_at 4 s (at + 1 + 10)) 0) None (Some (front_places r remote (at + 1 + 14))) (Some (front_places h remote next)) no_front a.1 in
       let f = fields r remote (at + 1 + 14) b.1 in
       let room : at + 1 + 14 ≤ length s = leb-true (at + 1 + 14) (length s) a.0 in
       let some : eqb h.count 0 ≡ false = sym (ap (λ (x : HistRef). eqb x.count 0) f.0) ∙ b.0 in
@@ -230,7 +231,7 @@ module _ (s : List ℕ) (at : ℕ) (head : Bool) (h : HistRef) (remote : Bool) (
   nothing = refl
 
   plain : at < length s → get_or s at 0 ≤ 3 → (eqb (get_or s at 0) 0 || eqb (get_or s at 0) 2) ≡ true
-      → FrontRead.Front no_hist (eqb (get_or s at 0) 2) (at + 1) ≡ FrontRead.Front h remote next → FrontSays s at head h remote next
+      → Some (front_places no_hist (eqb (get_or s at 0) 2) (at + 1)) ≡ Some (front_places h remote next) → FrontSays s at head h remote next
   unfolding hist_bytes
   plain l m t e =
       let f = fields no_hist (eqb (get_or s at 0) 2) (at + 1) e in
@@ -245,11 +246,11 @@ module _ (s : List ℕ) (at : ℕ) (head : Bool) (h : HistRef) (remote : Bool) (
       }
 
   refers : at < length s → get_or s at 0 ≤ 3 → (eqb (get_or s at 0) 0 || eqb (get_or s at 0) 2) ≡ false → head ≡ true
-      → ref_at s (at + 1) (eqb (get_or s at 0) 3) ≡ FrontRead.Front h remote next → FrontSays s at head h remote next
+      → ref_at s (at + 1) (eqb (get_or s at 0) 3) ≡ Some (front_places h remote next) → FrontSays s at head h remote next
   unfolding ref_at
   refers l m t hd e =
       let fe : eqb (get_or s at 0) 3 ≡ remote = remote_of_lem (eqb (get_or s at 0) 3) e in
-      let r = ref-read (subst (λ (b : Bool). ref_at s (at + 1) b ≡ FrontRead.Front h remote next) fe e) in
+      let r = ref-read (subst (λ (b : Bool). ref_at s (at + 1) b ≡ Some (front_places h remote next)) fe e) in
       record {
         flag = flag_lies l (ap (flag_of h.count) (sym fe) ∙ flag_refers h.count (get_or s at 0) r.0 m t);
         hist = r.1;
@@ -258,31 +259,31 @@ module _ (s : List ℕ) (at : ℕ) (head : Bool) (h : HistRef) (remote : Bool) (
         allowed = λ _. hd;
       }
     where
-      pick : (t u : Bool) (f : Bool) (x : HistRef) (k : ℕ) → cond t (cond u FrontRead.Bad (FrontRead.Front x f k)) FrontRead.Bad ≡ FrontRead.Front h remote next → f ≡ remote
+      pick : (t u : Bool) (f : Bool) (x : HistRef) (k : ℕ) → cond t (cond u None (Some (front_places x f k))) None ≡ Some (front_places h remote next) → f ≡ remote
       pick true true f x k q = absurd (no_front q)
       pick true false f x k q = (fields x f k q).1
       pick false u f x k q = absurd (no_front q)
 
-      remote_of_lem : (f : Bool) → ref_at s (at + 1) f ≡ FrontRead.Front h remote next → f ≡ remote
+      remote_of_lem : (f : Bool) → ref_at s (at + 1) f ≡ Some (front_places h remote next) → f ≡ remote
       remote_of_lem f q = pick (leb (at + 1 + 14) (length s)) (eqb (le_at 4 s (at + 1 + 10)) 0) f (hist_of (le_at 8 s (at + 1)) (le_at 2 s (at + 1 + 8)) (le_at 4 s (at + 1 + 10))) (at + 1 + 14) q
 
-  pub front_read : front_at s at head ≡ FrontRead.Front h remote next → FrontSays s at head h remote next
+  pub front_read : front_at s at head ≡ Some (front_places h remote next) → FrontSays s at head h remote next
   unfolding front_at
   front_read e =
       let x = get_or s at 0 in
-      let a = ask (ltb at (length s)) _ FrontRead.Bad (FrontRead.Front h remote next) no_front e in
-      let b = ask (leb x 3) _ FrontRead.Bad (FrontRead.Front h remote next) no_front a.1 in
+      let a = ask (ltb at (length s)) _ None (Some (front_places h remote next)) no_front e in
+      let b = ask (leb x 3) _ None (Some (front_places h remote next)) no_front a.1 in
       let l : at < length s = ltb-true at (length s) a.0 in
       let m : x ≤ 3 = leb-true x 3 b.0 in
       go (eqb x 0 || eqb x 2) refl l m b.1
     where
       go : (t : Bool) → (eqb (get_or s at 0) 0 || eqb (get_or s at 0) 2) ≡ t → at < length s → get_or s at 0 ≤ 3
-          → cond (eqb (get_or s at 0) 0 || eqb (get_or s at 0) 2) (FrontRead.Front no_hist (eqb (get_or s at 0) 2) (at + 1)) (cond head (ref_at s (at + 1) (eqb (get_or s at 0) 3)) FrontRead.Bad) ≡ FrontRead.Front h remote next
+          → cond (eqb (get_or s at 0) 0 || eqb (get_or s at 0) 2) (Some (front_places no_hist (eqb (get_or s at 0) 2) (at + 1))) (cond head (ref_at s (at + 1) (eqb (get_or s at 0) 3)) None) ≡ Some (front_places h remote next)
           → FrontSays s at head h remote next
-      go true q l m e = plain l m q (sym (ap (λ (t : Bool). cond t (FrontRead.Front no_hist (eqb (get_or s at 0) 2) (at + 1)) (cond head (ref_at s (at + 1) (eqb (get_or s at 0) 3)) FrontRead.Bad)) q) ∙ e)
+      go true q l m e = plain l m q (sym (ap (λ (t : Bool). cond t (Some (front_places no_hist (eqb (get_or s at 0) 2) (at + 1))) (cond head (ref_at s (at + 1) (eqb (get_or s at 0) 3)) None)) q) ∙ e)
       go false q l m e =
-          let f = sym (ap (λ (t : Bool). cond t (FrontRead.Front no_hist (eqb (get_or s at 0) 2) (at + 1)) (cond head (ref_at s (at + 1) (eqb (get_or s at 0) 3)) FrontRead.Bad)) q) ∙ e in
-          let d = ask head (ref_at s (at + 1) (eqb (get_or s at 0) 3)) FrontRead.Bad (FrontRead.Front h remote next) no_front f in
+          let f = sym (ap (λ (t : Bool). cond t (Some (front_places no_hist (eqb (get_or s at 0) 2) (at + 1))) (cond head (ref_at s (at + 1) (eqb (get_or s at 0) 3)) None)) q) ∙ e in
+          let d = ask head (ref_at s (at + 1) (eqb (get_or s at 0) 3)) None (Some (front_places h remote next)) no_front f in
           refers l m q d.0 d.1
 
 -- the size, and the bytes or the address
@@ -321,25 +322,25 @@ module _ (s : List ℕ) (at : ℕ) (head : Bool) (hb : Bytes s) where
       lies_append s at f (hist_bytes h ++ le 4 (le_at 4 s next)) w.flag (subst (λ (k : ℕ). Lies s k (hist_bytes h ++ le 4 (le_at 4 s next))) e1 back)
 
   module _ (h : HistRef) (p n next : ℕ) where
-    no_inline : Val.Bad ≡ Val.Inline h p n next → ⊥
+    no_inline : None ≡ Some (Val.Inline h p n next) → ⊥
     no_inline e = let z : ◌≡◌ {A = ℕ} 0 1 = cc in omega arith
 
-    not_remote : (h' : HistRef) (a : Addr) (n' next' : ℕ) → Val.Remote h' a n' next' ≡ Val.Inline h p n next → ⊥
+    not_remote : (h' : HistRef) (a : Addr) (n' next' : ℕ) → Some (Val.Remote h' a n' next') ≡ Some (Val.Inline h p n next) → ⊥
     not_remote h' a n' next' e = let z : ◌≡◌ {A = ℕ} 0 1 = cc in omega arith
 
-    same : (h' : HistRef) (p' n' next' : ℕ) → Val.Inline h' p' n' next' ≡ Val.Inline h p n next → (h' ≡ h) × (p' ≡ p) × (n' ≡ n) × (next' ≡ next)
+    same : (h' : HistRef) (p' n' next' : ℕ) → Some (Val.Inline h' p' n' next') ≡ Some (Val.Inline h p n next) → (h' ≡ h) × (p' ≡ p) × (n' ≡ n) × (next' ≡ next)
     same h' p' n' next' e = (cc, cc, cc, cc)
 
-    sized : (h' : HistRef) (remote : Bool) (q : ℕ) → FrontSays s at head h' remote q → val_of s (FrontRead.Front h' remote q) ≡ Val.Inline h p n next → InlineSays h p n next
+    sized : (h' : HistRef) (remote : Bool) (q : ℕ) → FrontSays s at head h' remote q → val_of s (Some (front_places h' remote q)) ≡ Some (Val.Inline h p n next) → InlineSays h p n next
     sized h' true q w e =
-        let a = ask (leb (q + 4) (length s)) _ Val.Bad (Val.Inline h p n next) no_inline e in
-        let b = ask (leb (le_at 4 s q) max_value) _ Val.Bad (Val.Inline h p n next) no_inline a.1 in
-        let c = ask (leb (q + 12) (length s)) (Val.Remote h' (addr_of (le_at 8 s (q + 4))) (le_at 4 s q) (q + 12)) Val.Bad (Val.Inline h p n next) no_inline b.1 in
+        let a = ask (leb (q + 4) (length s)) _ None (Some (Val.Inline h p n next)) no_inline e in
+        let b = ask (leb (le_at 4 s q) max_value) _ None (Some (Val.Inline h p n next)) no_inline a.1 in
+        let c = ask (leb (q + 12) (length s)) (Some (Val.Remote h' (addr_of (le_at 8 s (q + 4))) (le_at 4 s q) (q + 12))) None (Some (Val.Inline h p n next)) no_inline b.1 in
         absurd (not_remote h' (addr_of (le_at 8 s (q + 4))) (le_at 4 s q) (q + 12) c.1)
     sized h' false q w e =
-        let a = ask (leb (q + 4) (length s)) _ Val.Bad (Val.Inline h p n next) no_inline e in
-        let b = ask (leb (le_at 4 s q) max_value) _ Val.Bad (Val.Inline h p n next) no_inline a.1 in
-        let c = ask (leb (q + 4 + le_at 4 s q) (length s)) (Val.Inline h' (q + 4) (le_at 4 s q) (q + 4 + le_at 4 s q)) Val.Bad (Val.Inline h p n next) no_inline b.1 in
+        let a = ask (leb (q + 4) (length s)) _ None (Some (Val.Inline h p n next)) no_inline e in
+        let b = ask (leb (le_at 4 s q) max_value) _ None (Some (Val.Inline h p n next)) no_inline a.1 in
+        let c = ask (leb (q + 4 + le_at 4 s q) (length s)) (Some (Val.Inline h' (q + 4) (le_at 4 s q) (q + 4 + le_at 4 s q))) None (Some (Val.Inline h p n next)) no_inline b.1 in
         let f = same h' (q + 4) (le_at 4 s q) (q + 4 + le_at 4 s q) c.1 in
         let r : q + 4 + le_at 4 s q ≤ length s = leb-true (q + 4 + le_at 4 s q) (length s) c.0 in
         built h' q f.0 f.1 f.2 f.3 w r (leb-true (le_at 4 s q) max_value b.0)
@@ -361,36 +362,36 @@ module _ (s : List ℕ) (at : ℕ) (head : Bool) (hb : Bytes s) where
             value f e r =
                 joined h (part s p n) f (subst (λ (k : ℕ). Lies s k (part s p n)) (e ∙ ap (λ (k : ℕ). at + k) (sym (length_front h false (length (part s p n))))) (part_lies s p n r))
 
-    pub inline_read : val_at s at head ≡ Val.Inline h p n next → InlineSays h p n next
+    pub inline_read : val_at s at head ≡ Some (Val.Inline h p n next) → InlineSays h p n next
     unfolding val_at
     inline_read e = go (front_at s at head) refl e
       where
-        go : (f : FrontRead) → front_at s at head ≡ f → val_of s f ≡ Val.Inline h p n next → InlineSays h p n next
-        go FrontRead.Bad q e = absurd (no_inline e)
-        go (FrontRead.Front h' remote k) q e = sized h' remote k (front_read s at head h' remote k hb q) e
+        go : (f : Option Front) → front_at s at head ≡ f → val_of s f ≡ Some (Val.Inline h p n next) → InlineSays h p n next
+        go None q e = absurd (no_inline e)
+        go (Some f) q e = sized f.hist f.remote f.next (front_read s at head f.hist f.remote f.next hb q) e
 
   module _ (h : HistRef) (a n next : ℕ) where
-    no_remote : Val.Bad ≡ Val.Remote h (addr_of a) n next → ⊥
+    no_remote : None ≡ Some (Val.Remote h (addr_of a) n next) → ⊥
     no_remote e = let z : ◌≡◌ {A = ℕ} 0 1 = cc in omega arith
 
-    not_inline : (h' : HistRef) (p' n' next' : ℕ) → Val.Inline h' p' n' next' ≡ Val.Remote h (addr_of a) n next → ⊥
+    not_inline : (h' : HistRef) (p' n' next' : ℕ) → Some (Val.Inline h' p' n' next') ≡ Some (Val.Remote h (addr_of a) n next) → ⊥
     not_inline h' p' n' next' e = let z : ◌≡◌ {A = ℕ} 0 1 = cc in omega arith
 
-    same-remote : (h' : HistRef) (a' n' next' : ℕ) → Val.Remote h' (addr_of a') n' next' ≡ Val.Remote h (addr_of a) n next → (h' ≡ h) × (a' ≡ a) × (n' ≡ n) × (next' ≡ next)
+    same-remote : (h' : HistRef) (a' n' next' : ℕ) → Some (Val.Remote h' (addr_of a') n' next') ≡ Some (Val.Remote h (addr_of a) n next) → (h' ≡ h) × (a' ≡ a) × (n' ≡ n) × (next' ≡ next)
     same-remote h' a' n' next' e =
         let d : addr_of a' ≡ addr_of a = cc in
         (cc, ap (λ (x : Addr). x.0) d, cc, cc)
 
-    sized-remote : (h' : HistRef) (remote : Bool) (q : ℕ) → FrontSays s at head h' remote q → val_of s (FrontRead.Front h' remote q) ≡ Val.Remote h (addr_of a) n next → RemoteSays h a n next
+    sized-remote : (h' : HistRef) (remote : Bool) (q : ℕ) → FrontSays s at head h' remote q → val_of s (Some (front_places h' remote q)) ≡ Some (Val.Remote h (addr_of a) n next) → RemoteSays h a n next
     sized-remote h' false q w e =
-        let x = ask (leb (q + 4) (length s)) _ Val.Bad (Val.Remote h (addr_of a) n next) no_remote e in
-        let y = ask (leb (le_at 4 s q) max_value) _ Val.Bad (Val.Remote h (addr_of a) n next) no_remote x.1 in
-        let z = ask (leb (q + 4 + le_at 4 s q) (length s)) (Val.Inline h' (q + 4) (le_at 4 s q) (q + 4 + le_at 4 s q)) Val.Bad (Val.Remote h (addr_of a) n next) no_remote y.1 in
+        let x = ask (leb (q + 4) (length s)) _ None (Some (Val.Remote h (addr_of a) n next)) no_remote e in
+        let y = ask (leb (le_at 4 s q) max_value) _ None (Some (Val.Remote h (addr_of a) n next)) no_remote x.1 in
+        let z = ask (leb (q + 4 + le_at 4 s q) (length s)) (Some (Val.Inline h' (q + 4) (le_at 4 s q) (q + 4 + le_at 4 s q))) None (Some (Val.Remote h (addr_of a) n next)) no_remote y.1 in
         absurd (not_inline h' (q + 4) (le_at 4 s q) (q + 4 + le_at 4 s q) z.1)
     sized-remote h' true q w e =
-        let x = ask (leb (q + 4) (length s)) _ Val.Bad (Val.Remote h (addr_of a) n next) no_remote e in
-        let y = ask (leb (le_at 4 s q) max_value) _ Val.Bad (Val.Remote h (addr_of a) n next) no_remote x.1 in
-        let z = ask (leb (q + 12) (length s)) (Val.Remote h' (addr_of (le_at 8 s (q + 4))) (le_at 4 s q) (q + 12)) Val.Bad (Val.Remote h (addr_of a) n next) no_remote y.1 in
+        let x = ask (leb (q + 4) (length s)) _ None (Some (Val.Remote h (addr_of a) n next)) no_remote e in
+        let y = ask (leb (le_at 4 s q) max_value) _ None (Some (Val.Remote h (addr_of a) n next)) no_remote x.1 in
+        let z = ask (leb (q + 12) (length s)) (Some (Val.Remote h' (addr_of (le_at 8 s (q + 4))) (le_at 4 s q) (q + 12))) None (Some (Val.Remote h (addr_of a) n next)) no_remote y.1 in
         let f = same-remote h' (le_at 8 s (q + 4)) (le_at 4 s q) (q + 12) z.1 in
         built h' q f.0 f.1 f.2 f.3 w (leb-true (q + 12) (length s) z.0) (leb-true (le_at 4 s q) max_value y.0)
       where
@@ -408,10 +409,10 @@ module _ (s : List ℕ) (at : ℕ) (head : Bool) (hb : Bytes s) where
               allowed = w'.allowed;
             }
 
-    pub remote-read : val_at s at head ≡ Val.Remote h (addr_of a) n next → RemoteSays h a n next
+    pub remote-read : val_at s at head ≡ Some (Val.Remote h (addr_of a) n next) → RemoteSays h a n next
     unfolding val_at
     remote-read e = go (front_at s at head) refl e
       where
-        go : (f : FrontRead) → front_at s at head ≡ f → val_of s f ≡ Val.Remote h (addr_of a) n next → RemoteSays h a n next
-        go FrontRead.Bad q e = absurd (no_remote e)
-        go (FrontRead.Front h' remote k) q e = sized-remote h' remote k (front_read s at head h' remote k hb q) e
+        go : (f : Option Front) → front_at s at head ≡ f → val_of s f ≡ Some (Val.Remote h (addr_of a) n next) → RemoteSays h a n next
+        go None q e = absurd (no_remote e)
+        go (Some f) q e = sized-remote f.hist f.remote f.next (front_read s at head f.hist f.remote f.next hb q) e

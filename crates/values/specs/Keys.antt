@@ -1,12 +1,11 @@
 -- Versions and keys as a page holds them, written and read.
 -- Assumes nothing.
-use Rattle.std.specs.Prelude.{ℕ, ◌+◌, ◌-◌, List, ◌++◌, cond, length, leb, eqb}
+use Rattle.std.specs.Prelude.{ℕ, ◌+◌, ◌-◌, List, ◌++◌, cond, length, leb, eqb, Option, Some, None}
 use Rattle.numbers.specs.Number.{le, le_at}
-use Rattle.lengths.specs.declared.Length.{Length}
 use Rattle.lengths.specs.Leb128.{uleb, read_len}
 use Rattle.order.specs.declared.Ver.{Ver}
 use Rattle.order.specs.Version.{ver_of}
-use Rattle.values.specs.declared.KeyRead.{KeyRead}
+use Rattle.values.specs.declared.KeyParts.{KeyParts}
 
 -- Version, 12: txid u64, cmd u32
 unfoldable pub ver_bytes : Ver → List ℕ
@@ -38,16 +37,20 @@ index_key_size n = length (uleb n) + n
 unfoldable pub skip_of : ℕ → ℕ
 skip_of kind = cond (eqb kind 1) 0 12
 
--- a length, and as many bytes behind it
-abbrev pub key_of : List ℕ → ℕ → Length → KeyRead
-key_of s kind (Length.Is n next) =
-    cond (leb (skip_of kind) n)
-    (cond (leb (next + n) (length s)) (KeyRead.Key next (next + skip_of kind) (n - skip_of kind)) KeyRead.Bad)
-    KeyRead.Bad
-key_of s kind Length.Bad = KeyRead.Bad
+-- a key's places: its version's, its rest's, and how long that is
+abbrev pub key_parts : ℕ → ℕ → ℕ → KeyParts
+key_parts v r n = record { ver_at = v; rest_at = r; rest_len = n }
 
-unfoldable pub key_at : List ℕ → ℕ → ℕ → KeyRead
+-- a length, and as many bytes behind it
+abbrev pub key_of : List ℕ → ℕ → Option (ℕ × ℕ) → Option KeyParts
+key_of s kind (Some (n, next)) =
+    cond (leb (skip_of kind) n)
+    (cond (leb (next + n) (length s)) (Some (key_parts next (next + skip_of kind) (n - skip_of kind))) None)
+    None
+key_of s kind None = None
+
+unfoldable pub key_at : List ℕ → ℕ → ℕ → Option KeyParts
 key_at s at kind =
     cond (eqb kind 2)
-    (cond (leb (at + 12) (length s)) (KeyRead.Key at (at + 12) 0) KeyRead.Bad)
+    (cond (leb (at + 12) (length s)) (Some (key_parts at (at + 12) 0)) None)
     (key_of s kind (read_len s at))

@@ -1,11 +1,11 @@
 -- Values as a page holds them: flag, history reference, size, and the bytes or a remote's address.
 -- Assumes nothing.
-use Rattle.std.specs.Prelude.{ℕ, ◌+◌, List, [], ◌++◌, Bool, true, false, cond, ◌||◌, length, get_or, leb, ltb, eqb}
+use Rattle.std.specs.Prelude.{ℕ, ◌+◌, List, [], ◌++◌, Bool, true, false, cond, ◌||◌, length, get_or, leb, ltb, eqb, Option, Some, None}
 use Rattle.numbers.specs.Number.{le, le_at}
 use Rattle.frames.specs.declared.Addr.{Addr}
 use Rattle.frames.specs.Limits.{max_value}
 use Rattle.values.specs.declared.HistRef.{HistRef}
-use Rattle.values.specs.declared.FrontRead.{FrontRead}
+use Rattle.values.specs.declared.Front.{Front}
 use Rattle.values.specs.declared.Val.{Val}
 
 abbrev pub addr_of : ℕ → Addr
@@ -53,37 +53,41 @@ size_of hist limit n = hist_size hist + cond (ltb n limit) (5 + n) 13
 
 -- ---- read: history only where a head stands, count at least 1; size at most 65,536; all of it in the slice
 
+-- what stands before a value's size: its history, whether its bytes are remote, and the place behind
+abbrev pub front_places : HistRef → Bool → ℕ → Front
+front_places h r n = record { hist = h; remote = r; next = n }
+
 -- the fourteen bytes behind a flag with history
-unfoldable pub ref_at : List ℕ → ℕ → Bool → FrontRead
+unfoldable pub ref_at : List ℕ → ℕ → Bool → Option Front
 ref_at s at remote =
     cond (leb (at + 14) (length s))
-    (cond (eqb (le_at 4 s (at + 10)) 0) FrontRead.Bad
-    (FrontRead.Front (hist_of (le_at 8 s at) (le_at 2 s (at + 8)) (le_at 4 s (at + 10))) remote (at + 14)))
-    FrontRead.Bad
+    (cond (eqb (le_at 4 s (at + 10)) 0) None
+    (Some (front_places (hist_of (le_at 8 s at) (le_at 2 s (at + 8)) (le_at 4 s (at + 10))) remote (at + 14))))
+    None
 
 -- flag and history
-unfoldable pub front_at : List ℕ → ℕ → Bool → FrontRead
+unfoldable pub front_at : List ℕ → ℕ → Bool → Option Front
 unfolding ref_at
 front_at s at head =
     cond (ltb at (length s))
     (cond (leb (get_or s at 0) 3)
-    (cond (eqb (get_or s at 0) 0 || eqb (get_or s at 0) 2) (FrontRead.Front no_hist (eqb (get_or s at 0) 2) (at + 1))
-    (cond head (ref_at s (at + 1) (eqb (get_or s at 0) 3)) FrontRead.Bad))
-    FrontRead.Bad)
-    FrontRead.Bad
+    (cond (eqb (get_or s at 0) 0 || eqb (get_or s at 0) 2) (Some (front_places no_hist (eqb (get_or s at 0) 2) (at + 1)))
+    (cond head (ref_at s (at + 1) (eqb (get_or s at 0) 3)) None))
+    None)
+    None
 
 -- size, and the bytes or the address
-abbrev pub val_of : List ℕ → FrontRead → Val
-val_of s (FrontRead.Front h remote at) =
-    cond (leb (at + 4) (length s))
-    (cond (leb (le_at 4 s at) max_value)
-    (cond remote
-    (cond (leb (at + 12) (length s)) (Val.Remote h (addr_of (le_at 8 s (at + 4))) (le_at 4 s at) (at + 12)) Val.Bad)
-    (cond (leb (at + 4 + le_at 4 s at) (length s)) (Val.Inline h (at + 4) (le_at 4 s at) (at + 4 + le_at 4 s at)) Val.Bad))
-    Val.Bad)
-    Val.Bad
-val_of s FrontRead.Bad = Val.Bad
+abbrev pub val_of : List ℕ → Option Front → Option Val
+val_of s (Some f) =
+    cond (leb (f.next + 4) (length s))
+    (cond (leb (le_at 4 s f.next) max_value)
+    (cond f.remote
+    (cond (leb (f.next + 12) (length s)) (Some (Val.Remote f.hist (addr_of (le_at 8 s (f.next + 4))) (le_at 4 s f.next) (f.next + 12))) None)
+    (cond (leb (f.next + 4 + le_at 4 s f.next) (length s)) (Some (Val.Inline f.hist (f.next + 4) (le_at 4 s f.next) (f.next + 4 + le_at 4 s f.next))) None))
+    None)
+    None
+val_of s None = None
 
-unfoldable pub val_at : List ℕ → ℕ → Bool → Val
+unfoldable pub val_at : List ℕ → ℕ → Bool → Option Val
 unfolding front_at
 val_at s at head = val_of s (front_at s at head)

@@ -8,7 +8,6 @@ ghost use Rattle.values.specs.Keys.{ver_bytes, leaf_front, leaf_key, index_key, 
 ghost use Rattle.values.specs.Vals.{flag_of, hist_bytes, front_bytes, front_size, inline_bytes, remote_bytes, hist_size, size_of, ref_at, front_at, val_at};
 
 use frames::{Addr, BaseHeader, Body, NULL_ADDR};
-use lengths::Length;
 use order::Ver;
 
 // ---- versions
@@ -36,13 +35,10 @@ pub fn write_ver(buf: &mut [u8], at: usize, v: Ver) -> usize
 
 // Where a key's version stands, its rest, and how long that is.
 #[derive(Clone, Copy)]
-pub enum KeyRead {
-    Key {
-        ver_at: usize,
-        rest_at: usize,
-        rest_len: usize,
-    },
-    Bad,
+pub struct KeyParts {
+    pub ver_at: usize,
+    pub rest_at: usize,
+    pub rest_len: usize,
 }
 
 // The bytes before a key's rest that are its version: an index key has none.
@@ -53,35 +49,35 @@ pub fn skip_of(kind: u8) -> usize
 }
 
 // The key at a place of a page that ends where s ends: of a leaf (0), an index page (1) or a history page (2).
-pub fn key_at(s: &[u8], at: usize, kind: u8) -> KeyRead
+pub fn key_at(s: &[u8], at: usize, kind: u8) -> Option<KeyParts>
     ensures { result ≡ key_at s.now at kind }
 {
     if kind == 2 {
         if spans::room(s.len(), at, Ver::LEN) {
-            return KeyRead::Key {
+            return Some(KeyParts {
                 ver_at: at,
                 rest_at: at + 12,
                 rest_len: 0,
-            };
+            });
         }
-        return KeyRead::Bad;
+        return None;
     }
-    let Length::Is(v, next) = lengths::read(s, at) else {
-        return KeyRead::Bad;
+    let Some((v, next)) = lengths::read(s, at) else {
+        return None;
     };
     let n = v as usize;
     let skip = skip_of(kind);
     if n < skip {
-        return KeyRead::Bad;
+        return None;
     }
     if spans::room(s.len(), next, n) {
-        return KeyRead::Key {
+        return Some(KeyParts {
             ver_at: next,
             rest_at: next + skip,
             rest_len: n - skip,
-        };
+        });
     }
-    KeyRead::Bad
+    None
 }
 
 // The size of a leaf key with a rest of n bytes.
@@ -171,13 +167,10 @@ pub struct HistRef {
 
 // The front of a value: its history, whether its bytes are remote, and the place behind.
 #[derive(Clone, Copy)]
-pub enum FrontRead {
-    Front {
-        hist: HistRef,
-        remote: bool,
-        next: usize,
-    },
-    Bad,
+pub struct Front {
+    pub hist: HistRef,
+    pub remote: bool,
+    pub next: usize,
 }
 
 // A value: its history, where its bytes stand or its remote's address, its size, and the place behind it.
@@ -195,7 +188,6 @@ pub enum Val {
         size: usize,
         next: usize,
     },
-    Bad,
 }
 
 fn flag_of(count: u32, remote: bool) -> u8
@@ -248,40 +240,40 @@ fn store_front(buf: &mut [u8], at: usize, h: HistRef, remote: bool, n: u32) -> u
 }
 
 // The fourteen bytes of a history reference.
-fn ref_at(s: &[u8], at: usize, remote: bool) -> FrontRead
+fn ref_at(s: &[u8], at: usize, remote: bool) -> Option<Front>
     ensures { result ≡ ref_at s.now at remote }
 {
     if spans::room(s.len(), at, 14) {
         let count = numbers::read_u32(s, at + 10);
         if count == 0 {
-            return FrontRead::Bad;
+            return None;
         }
-        return FrontRead::Front {
+        return Some(Front {
             hist: HistRef {
                 page: Addr(numbers::read_u64(s, at)),
                 slot: numbers::read_u16(s, at + 8),
-                count: count,
+                count,
             },
-            remote: remote,
+            remote,
             next: at + 14,
-        };
+        });
     }
-    FrontRead::Bad
+    None
 }
 
 // Flag and history at a place; only a head has history.
-fn front_at(s: &[u8], at: usize, head: bool) -> FrontRead
+fn front_at(s: &[u8], at: usize, head: bool) -> Option<Front>
     ensures { result ≡ front_at s.now at head }
 {
     if s.len() <= at {
-        return FrontRead::Bad;
+        return None;
     }
     let f = s[at];
     if 3 < f {
-        return FrontRead::Bad;
+        return None;
     }
     if (f == 0) | (f == 2) {
-        return FrontRead::Front {
+        return Some(Front {
             hist: HistRef {
                 page: NULL_ADDR,
                 slot: 0,
@@ -289,49 +281,49 @@ fn front_at(s: &[u8], at: usize, head: bool) -> FrontRead
             },
             remote: f == 2,
             next: at + 1,
-        };
+        });
     }
     if head {
         return ref_at(s, at + 1, f == 3);
     }
-    FrontRead::Bad
+    None
 }
 
 impl Val {
     // The value at a place of a page that ends where s ends; head says whether it may have history.
-    pub fn decode_from(s: &[u8], at: usize, head: bool) -> Val
+    pub fn decode_from(s: &[u8], at: usize, head: bool) -> Option<Val>
         ensures { result ≡ val_at s.now at head }
     {
-        let FrontRead::Front { hist, remote, next } = front_at(s, at, head) else {
-            return Val::Bad;
+        let Some(front) = front_at(s, at, head) else {
+            return None;
         };
-        if spans::room(s.len(), next, 4) {
-            let n = numbers::read_u32(s, next) as usize;
+        if spans::room(s.len(), front.next, 4) {
+            let n = numbers::read_u32(s, front.next) as usize;
             if BaseHeader::MAX_VALUE < n {
-                return Val::Bad;
+                return None;
             }
-            if remote {
-                if spans::room(s.len(), next, 12) {
-                    return Val::Remote {
-                        hist: hist,
-                        addr: Addr(numbers::read_u64(s, next + 4)),
+            if front.remote {
+                if spans::room(s.len(), front.next, 12) {
+                    return Some(Val::Remote {
+                        hist: front.hist,
+                        addr: Addr(numbers::read_u64(s, front.next + 4)),
                         size: n,
-                        next: next + 12,
-                    };
+                        next: front.next + 12,
+                    });
                 }
-                return Val::Bad;
+                return None;
             }
-            let p = next + 4;
+            let p = front.next + 4;
             if spans::room(s.len(), p, n) {
-                return Val::Inline {
-                    hist: hist,
+                return Some(Val::Inline {
+                    hist: front.hist,
                     at: p,
                     size: n,
                     next: p + n,
-                };
+                });
             }
         }
-        Val::Bad
+        None
     }
 
     // The whole size of a value of n bytes at an inline limit: 5 + n or 13, with history 14 more.

@@ -9,18 +9,12 @@ use denote.Triple.Clauses.{AtExit}
 use Rattle.spans.specs.Span.{part_or}
 use Rattle.spans.specs.Only.{Decides, decides}
 use Rattle.frames.specs.declared.Addr.{Addr}
-use Rattle.frames.specs.declared.Opened.{Opened}
 use Rattle.values.specs.declared.HistRef.{HistRef}
-use Rattle.records.specs.declared.RecRead.{RecRead}
 use Rattle.walks.specs.declared.Sheet.{Sheet}
 use Rattle.walks.specs.declared.OldPlace.{OldPlace}
-use Rattle.walks.specs.declared.Entered.{Entered}
 use Rattle.walks.specs.declared.Walk.{Walk}
 use Rattle.walks.specs.declared.Item.{Item}
 use Rattle.walks.specs.declared.Branch.{Branch}
-use Rattle.walks.specs.declared.Begun.{Begun}
-use Rattle.walks.specs.declared.Step.{Step}
-use Rattle.walks.specs.declared.Aged.{Aged}
 use Rattle.walks.specs.Walk.{forward_at, backward_at, body_of, read_at, enter_at, step_at}
 use Rattle.walks.specs.Aged.{aged_at}
 use Rattle.walks.specs.contracts.forward as forward_fn
@@ -43,28 +37,34 @@ use Rattle.walks.specs.contracts.value_of as value_fn
 use Rattle.walks.proofs.value_of.Reads as value-at
 use Rattle.walks.specs.contracts.branch_rest_of as branch_fn
 use Rattle.walks.proofs.branch_rest_of.Reads as branch_at
+use Rattle.std.proofs.Common.{Option, Result}
+use Rattle.frames.specs.declared.Body.{Body}
+use Rattle.frames.specs.declared.Refusal.{Refusal}
+use Rattle.records.specs.declared.Rec.{Rec}
+use Rattle.walks.specs.declared.Aged.{Aged}
+use Rattle.walks.specs.declared.Step.{Step}
 
 module _ (κs : Lfts 1) (s : Bor (List ℕ)) where
-  pub forward_decided : (a : Addr) (i j : ℕ) (x : AtExit forward_fn.ended κs) → Decides (λ (r : Begun). forward_at_lem.Post κs (s, (a, (i, (j, tt)))) r x) (λ (r : Begun). r)
-  forward_decided a i j x = decides (λ (r : Begun). r) (forward_at s.now a i j)
+  pub forward_decided : (a : Addr) (i j : ℕ) (x : AtExit forward_fn.ended κs) → Decides (λ (r : Result Walk Refusal). forward_at_lem.Post κs (s, (a, (i, (j, tt)))) r x) (λ (r : Result Walk Refusal). r)
+  forward_decided a i j x = decides (λ (r : Result Walk Refusal). r) (forward_at s.now a i j)
 
-  pub backward_decided : (a : Addr) (i j : ℤ) (x : AtExit backward_fn.ended κs) → Decides (λ (r : Begun). backward_at_lem.Post κs (s, (a, (i, (j, tt)))) r x) (λ (r : Begun). r)
-  backward_decided a i j x = decides (λ (r : Begun). r) (backward_at s.now a i j)
+  pub backward_decided : (a : Addr) (i j : ℤ) (x : AtExit backward_fn.ended κs) → Decides (λ (r : Result Walk Refusal). backward_at_lem.Post κs (s, (a, (i, (j, tt)))) r x) (λ (r : Result Walk Refusal). r)
+  backward_decided a i j x = decides (λ (r : Result Walk Refusal). r) (backward_at s.now a i j)
 
-  pub body_decided : (v : Sheet) (kind : ℕ) (x : AtExit body_fn.ended κs) → Decides (λ (r : Opened). body_at.Post κs (s, (v, (kind, tt))) r x) (λ (r : Opened). r)
-  body_decided v kind x = decides (λ (r : Opened). r) (body_of s.now v kind)
+  pub body_decided : (v : Sheet) (kind : ℕ) (x : AtExit body_fn.ended κs) → Decides (λ (r : Option Body). body_at.Post κs (s, (v, (kind, tt))) r x) (λ (r : Option Body). r)
+  body_decided v kind x = decides (λ (r : Option Body). r) (body_of s.now v kind)
 
-  pub enter_decided : (h : HistRef) (was : OldPlace) (x : AtExit enter_fn.ended κs) → Decides (λ (r : Entered). enter_at_lem.Post κs (s, (h, (was, tt))) r x) (λ (r : Entered). r)
-  enter_decided h was x = decides (λ (r : Entered). r) (enter_at s.now h was)
+  pub enter_decided : (h : HistRef) (was : OldPlace) (x : AtExit enter_fn.ended κs) → Decides (λ (r : Option OldPlace). enter_at_lem.Post κs (s, (h, (was, tt))) r x) (λ (r : Option OldPlace). r)
+  enter_decided h was x = decides (λ (r : Option OldPlace). r) (enter_at s.now h was)
 
-  pub step_decided : (w : Walk) (x : AtExit step_fn.ended κs) → Decides (λ (r : Step). step_at_lem.Post κs (w, (s, tt)) r x) (λ (r : Step). r)
-  step_decided w x = decides (λ (r : Step). r) (step_at s.now w)
+  pub step_decided : (w : Walk) (x : AtExit step_fn.ended κs) → Decides (λ (r : Result Step Refusal). step_at_lem.Post κs (w, (s, tt)) r x) (λ (r : Result Step Refusal). r)
+  step_decided w x = decides (λ (r : Result Step Refusal). r) (step_at s.now w)
 
-  pub read_decided : (v : Sheet) (kind i : ℕ) (x : AtExit read_fn.ended κs) → Decides (λ (r : RecRead). read_at.Post κs (s, (v, (kind, (i, tt)))) r x) (λ (r : RecRead). r)
-  read_decided v kind i x = decides (λ (r : RecRead). r) (read_at s.now v kind i)
+  pub read_decided : (v : Sheet) (kind i : ℕ) (x : AtExit read_fn.ended κs) → Decides (λ (r : Option Rec). read_at.Post κs (s, (v, (kind, (i, tt)))) r x) (λ (r : Option Rec). r)
+  read_decided v kind i x = decides (λ (r : Option Rec). r) (read_at s.now v kind i)
 
-  pub aged_decided : (p : OldPlace) (x : AtExit aged_fn.ended κs) → Decides (λ (r : Aged). aged-at.Post κs (p, (s, tt)) r x) (λ (r : Aged). r)
-  aged_decided p x = decides (λ (r : Aged). r) (aged_at s.now p)
+  pub aged_decided : (p : OldPlace) (x : AtExit aged_fn.ended κs) → Decides (λ (r : Option Aged). aged-at.Post κs (p, (s, tt)) r x) (λ (r : Option Aged). r)
+  aged_decided p x = decides (λ (r : Option Aged). r) (aged_at s.now p)
 
 -- the bytes of a part are decided
 module _ (κs : Lfts 1) (s : Bor (List ℕ)) where

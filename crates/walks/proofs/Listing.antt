@@ -12,10 +12,8 @@ use Rattle.numbers.specs.Number.{le_at}
 use Rattle.order.specs.declared.Ver.{Ver}
 use Rattle.frames.specs.declared.Addr.{Addr}
 use Rattle.frames.specs.declared.Body.{Body}
-use Rattle.frames.specs.declared.Opened.{Opened}
 use Rattle.frames.specs.Layout.{page_id, Inside}
 use Rattle.records.specs.declared.Rec.{Rec}
-use Rattle.records.specs.declared.RecRead.{RecRead}
 use Rattle.values.specs.Keys.{ver_in}
 use Rattle.records.specs.Records.{rec_at}
 use Rattle.records.proofs.Inside.{rest_part, val-part}
@@ -27,15 +25,15 @@ use Rattle.pages.proofs.Olds.{history-inside}
 use Rattle.pages.proofs.Given.{head_given, link_given}
 use Rattle.pages.proofs.Rows.{Good}
 use Rattle.walks.specs.declared.OldPlace.{OldPlace}
-use Rattle.walks.specs.declared.Entered.{Entered}
 use Rattle.walks.specs.Walk.{sheet_of, older_on, walk_of, kind_of_way, moved_of, behind_of, item_of, rest_of, enter_at}
 use Rattle.walks.specs.Listed.{Entry, entry_of, older_entries, entries_of, WalksTo, lead_of, LeadsTo}
 use Rattle.walks.proofs.Steps.{step_end, step_old, next-old, enter_none, enter_in, step_head, step_branch}
+use Rattle.std.proofs.Common.{Some}
 
 -- ---- what an item says
 
 -- a record of a page: the value that is lent is the whole one
-module _ (s : List ℕ) (pre : List ℕ) (b : Body) (i : Inside s b) (j : ℕ) (r : Rec) (e : rec_at s b j ≡ RecRead.Is r) where
+module _ (s : List ℕ) (pre : List ℕ) (b : Body) (i : Inside s b) (j : ℕ) (r : Rec) (e : rec_at s b j ≡ Some r) where
   old-entry : (key : Place) (n : Addr) → entry_of s pre (item_of s key r n) ≡ record { key = pre ++ part_in s key; ver = ver_in s r.ver_at; value = part s r.val_at r.val_len }
   unfolding entry_of item_of
   old-entry key n = rw (val-part s b i j r e)
@@ -46,7 +44,7 @@ module _ (s : List ℕ) (pre : List ℕ) (b : Body) (i : Inside s b) (j : ℕ) (
 -- ---- the old versions of a head, and then what follows
 
 module _ (s : List ℕ) (pre : List ℕ) (b : Body) (way : ℕ) (at n : ℕ) (key : Place) (es : List Entry) (f : (p : OldPlace) → p.left ≡ 0 → WalksTo s pre (walk_of (sheet_of b) way at n key p) es) where
-  olds-walk : (k : ℕ) (h : Addr) (d : Body) (i : ℕ) (t : Ver) → history_at s h ≡ Opened.Is d → chain_from s k h i t ≡ true → WalksTo s pre (walk_of (sheet_of b) way at n key (older_on d i k)) (older_entries (pre ++ part_in s key) (olds_from s k h i) ++ es)
+  olds-walk : (k : ℕ) (h : Addr) (d : Body) (i : ℕ) (t : Ver) → history_at s h ≡ Some d → chain_from s k h i t ≡ true → WalksTo s pre (walk_of (sheet_of b) way at n key (older_on d i k)) (older_entries (pre ++ part_in s key) (olds_from s k h i) ++ es)
   unfolding olds_from older_entries WalksTo behind_of
   olds-walk zero h d i t o c = f (older_on d i 0) refl
   olds-walk (suc k) h d i t o c =
@@ -65,12 +63,12 @@ module _ (s : List ℕ) (pre : List ℕ) (b : Body) (way : ℕ) (at n : ℕ) (ke
 -- ---- heads, either way
 
 -- one head, and then what follows
-module _ (s : List ℕ) (b : Body) (i : Inside s b) (way p n : ℕ) (k : kind_of_way way ≡ b.kind) (t2 : way ≡ 2 → ⊥) (key : Place) (was : OldPlace) (z : was.left ≡ 0) (r : Rec) (e : rec_at s b p ≡ RecRead.Is r) (es : List Entry) (f : (q : OldPlace) → q.left ≡ 0 → WalksTo s (prefix_of s b) (walk_of (sheet_of b) way (moved_of way p) n (rest_of r) q) es) where
+module _ (s : List ℕ) (b : Body) (i : Inside s b) (way p n : ℕ) (k : kind_of_way way ≡ b.kind) (t2 : way ≡ 2 → ⊥) (key : Place) (was : OldPlace) (z : was.left ≡ 0) (r : Rec) (e : rec_at s b p ≡ Some r) (es : List Entry) (f : (q : OldPlace) → q.left ≡ 0 → WalksTo s (prefix_of s b) (walk_of (sheet_of b) way (moved_of way p) n (rest_of r) q) es) where
   abbrev head_first : List Entry → List Entry
   head_first rest = (record { key = key_of s b r; ver = ver_in s r.ver_at; value = part s r.val_at r.val_len }) ∷ rest
 
   -- the head's own step
-  first : (q : OldPlace) → enter_at s r.hist was ≡ Entered.Is q → (rest : List Entry) → WalksTo s (prefix_of s b) (walk_of (sheet_of b) way (moved_of way p) n (rest_of r) q) rest → WalksTo s (prefix_of s b) (walk_of (sheet_of b) way p (suc n) key was) (head_first rest)
+  first : (q : OldPlace) → enter_at s r.hist was ≡ Some q → (rest : List Entry) → WalksTo s (prefix_of s b) (walk_of (sheet_of b) way (moved_of way p) n (rest_of r) q) rest → WalksTo s (prefix_of s b) (walk_of (sheet_of b) way p (suc n) key was) (head_first rest)
   unfolding WalksTo
   first q o rest w = (
     item_of s (rest_of r) r r.hist.page,
@@ -151,9 +149,9 @@ unfolding moved_of
 down_within e zero p l h = tt
 down_within e (suc n) p l h = (h, down_within e n (p - 1) (omega arith) (omega arith))
 
-module _ {A : Type 0} (f : Rec → A) (s : List ℕ) (b : Body) (every : (j : ℕ) → j < b.elems → (r : Rec) × (rec_at s b j ≡ RecRead.Is r)) where
+module _ {A : Type 0} (f : Rec → A) (s : List ℕ) (b : Body) (every : (j : ℕ) → j < b.elems → (r : Rec) × (rec_at s b j ≡ Some r)) where
   -- the last row
-  rows_last : (n j : ℕ) (r : Rec) → j + n < b.elems → rec_at s b (j + n) ≡ RecRead.Is r → rows_from f s b (suc n) j ≡ rows_from f s b n j ++ (f r ∷ [])
+  rows_last : (n j : ℕ) (r : Rec) → j + n < b.elems → rec_at s b (j + n) ≡ Some r → rows_from f s b (suc n) j ≡ rows_from f s b n j ++ (f r ∷ [])
   unfolding rows_from
   rows_last zero j r h e = let z : j + 0 ≡ j = omega arith in rw (rw z at e)
   rows_last (suc n) j r h e =

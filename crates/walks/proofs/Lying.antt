@@ -10,19 +10,17 @@ use lib.ListN.{length, take}
 use lib.Dec.{leb}
 use Rattle.spans.proofs.Tests.{ask, leb_same}
 use Rattle.frames.specs.declared.Body.{Body}
-use Rattle.frames.specs.declared.Opened.{Opened}
 use Rattle.frames.specs.Layout.{base_len, addr, Inside}
 use Rattle.frames.proofs.Frames.{and_l, and_r}
-use Rattle.values.specs.declared.KeyRead.{KeyRead}
 use Rattle.values.specs.Keys.{key_at}
 use Rattle.values.specs.Vals.{no_hist}
-use Rattle.records.specs.declared.SlotRead.{SlotRead}
 use Rattle.records.specs.declared.Rec.{Rec}
-use Rattle.records.specs.declared.RecRead.{RecRead}
 use Rattle.records.specs.Records.{slot_at, key_whole, key_in, key_at_slot, val_in, rec_of, rec_key, rec_in, rec_slot, rec_at}
 use Rattle.walks.specs.declared.Sheet.{Sheet}
 use Rattle.walks.specs.Walk.{sheet_of, body_in, body_of, fits_in, read_at}
 use Rattle.walks.specs.Aged.{key_old}
+use Rattle.std.proofs.Common.{Option, Some, None}
+use Rattle.values.specs.declared.KeyParts.{KeyParts}
 
 -- ---- the test
 
@@ -65,10 +63,10 @@ fits-inside s v k e =
     }
 
 -- a page that a walk carries, once asked for
-module _ (s : List ℕ) (v : Sheet) (k : ℕ) (b : Body) (e : body_of s v k ≡ Opened.Is b) where
-  asked : (fits_in (length s) v ≡ true) × (Opened.Is (body_in v k) ≡ Opened.Is b)
+module _ (s : List ℕ) (v : Sheet) (k : ℕ) (b : Body) (e : body_of s v k ≡ Some b) where
+  asked : (fits_in (length s) v ≡ true) × (Some (body_in v k) ≡ Some b)
   unfolding body_of
-  asked = ask (fits_in (length s) v) (Opened.Is (body_in v k)) Opened.Bad (Opened.Is b) (λ z. absurd (let y : ◌≡◌ {A = ℕ} 0 1 = cc in omega arith)) e
+  asked = ask (fits_in (length s) v) (Some (body_in v k)) None (Some b) (λ z. absurd (let y : ◌≡◌ {A = ℕ} 0 1 = cc in omega arith)) e
 
   pub body_is : body_in v k ≡ b
   body_is = let y = asked.1 in cc
@@ -78,11 +76,11 @@ module _ (s : List ℕ) (v : Sheet) (k : ℕ) (b : Body) (e : body_of s v k ≡ 
 
   pub body_reads : (i : ℕ) → read_at s v k i ≡ rec_at s b i
   unfolding read_at
-  body_reads i = ap (λ (t : Bool). cond t (rec_at s (body_in v k) i) RecRead.Bad) asked.0 ∙ ap (λ (z : Body). rec_at s z i) body_is
+  body_reads i = ap (λ (t : Bool). cond t (rec_at s (body_in v k) i) None) asked.0 ∙ ap (λ (z : Body). rec_at s z i) body_is
 
-pub body-keys : (s : List ℕ) (v : Sheet) (b : Body) → body_of s v 2 ≡ Opened.Is b → (i : ℕ) → key_old s v i ≡ key_at_slot s b i
+pub body-keys : (s : List ℕ) (v : Sheet) (b : Body) → body_of s v 2 ≡ Some b → (i : ℕ) → key_old s v i ≡ key_at_slot s b i
 unfolding key_old
-body-keys s v b e i = ap (λ (t : Bool). cond t (key_at_slot s (body_in v 2) i) KeyRead.Bad) (asked s v 2 b e).0 ∙ ap (λ (z : Body). key_at_slot s z i) (body_is s v 2 b e)
+body-keys s v b e i = ap (λ (t : Bool). cond t (key_at_slot s (body_in v 2) i) None) (asked s v 2 b e).0 ∙ ap (λ (z : Body). key_at_slot s z i) (body_is s v 2 b e)
 
 -- ---- a page that was opened
 
@@ -109,25 +107,25 @@ module _ (s : List ℕ) (b : Body) (i : Inside s b) where
   unfolding key_in
   same_key_lem at = go (key_at (take b.end s) at b.kind)
     where
-      go : (k : KeyRead) → key_whole (body_in (sheet_of b) b.kind) k ≡ key_whole b k
-      go (KeyRead.Key v r n) = refl
-      go KeyRead.Bad = refl
+      go : (k : Option KeyParts) → key_whole (body_in (sheet_of b) b.kind) k ≡ key_whole b k
+      go (Some k) = refl
+      go None = refl
 
   same_in : (p : ℕ) → rec_in s (body_in (sheet_of b) b.kind) p ≡ rec_in s b p
   unfolding rec_in val_in
   same_in p = rw (same_key_lem p) (go (key_in s b p))
     where
-      go : (k : KeyRead) → rec_key s (body_in (sheet_of b) b.kind) p k ≡ rec_key s b p k
-      go (KeyRead.Key v r n) = refl
-      go KeyRead.Bad = refl
+      go : (k : Option KeyParts) → rec_key s (body_in (sheet_of b) b.kind) p k ≡ rec_key s b p k
+      go (Some k) = refl
+      go None = refl
 
   same-rec : (j : ℕ) → rec_at s (body_in (sheet_of b) b.kind) j ≡ rec_at s b j
   unfolding rec_at
   same-rec j = rw (same-slot j) (go (slot_at s b j))
     where
-      go : (x : SlotRead) → rec_slot s (body_in (sheet_of b) b.kind) x ≡ rec_slot s b x
-      go (SlotRead.At p) = same_in p
-      go SlotRead.Bad = refl
+      go : (x : Option ℕ) → rec_slot s (body_in (sheet_of b) b.kind) x ≡ rec_slot s b x
+      go (Some p) = same_in p
+      go None = refl
 
   -- what a walk reads of it is what it says
   pub read_is : (k j : ℕ) → k ≡ b.kind → read_at s (sheet_of b) k j ≡ rec_at s b j
@@ -135,28 +133,28 @@ module _ (s : List ℕ) (b : Body) (i : Inside s b) where
   read_is k j e = rw (inside-fits, e) (same-rec j)
 
 -- a record that a walk read stands in a page in the arena
-pub read-inside : (s : List ℕ) (v : Sheet) (k j : ℕ) (r : Rec) → read_at s v k j ≡ RecRead.Is r → Inside s (body_in v k) × (rec_at s (body_in v k) j ≡ RecRead.Is r)
+pub read-inside : (s : List ℕ) (v : Sheet) (k j : ℕ) (r : Rec) → read_at s v k j ≡ Some r → Inside s (body_in v k) × (rec_at s (body_in v k) j ≡ Some r)
 unfolding read_at
 read-inside s v k j r e =
-    let a1 = ask (fits_in (length s) v) (rec_at s (body_in v k) j) RecRead.Bad (RecRead.Is r) (λ z. absurd (let y : ◌≡◌ {A = ℕ} 0 1 = cc in omega arith)) e in
+    let a1 = ask (fits_in (length s) v) (rec_at s (body_in v k) j) None (Some r) (λ z. absurd (let y : ◌≡◌ {A = ℕ} 0 1 = cc in omega arith)) e in
     (fits-inside s v k a1.0, a1.1)
 
 -- the value of an index page's record has 8 bytes (it belongs to `records`' Inside)
-pub index_value : (s : List ℕ) (b : Body) (i : ℕ) (r : Rec) → b.kind ≡ 1 → rec_at s b i ≡ RecRead.Is r → r.val_len ≡ 8
+pub index_value : (s : List ℕ) (b : Body) (i : ℕ) (r : Rec) → b.kind ≡ 1 → rec_at s b i ≡ Some r → r.val_len ≡ 8
 unfolding rec_at rec_in
 index_value s b i r k e = go (slot_at s b i) e
   where
-    no : RecRead.Bad ≡ RecRead.Is r → ⊥
+    no : None ≡ Some r → ⊥
     no z = let y : ◌≡◌ {A = ℕ} 0 1 = cc in omega arith
 
-    key : (p : ℕ) (x : KeyRead) → rec_key s b p x ≡ RecRead.Is r → r.val_len ≡ 8
-    key p (KeyRead.Key v ra rn) q =
-        let q' : cond (leb (ra + rn + 8) b.end) (RecRead.Is (rec_of p v ra rn no_hist (ra + rn) 8 (addr 0) (ra + rn + 8))) RecRead.Bad ≡ RecRead.Is r = rw (eq-eqb b.kind 1 k) at q in
-        let a1 = ask (leb (ra + rn + 8) b.end) _ RecRead.Bad (RecRead.Is r) no q' in
-        let x : rec_of p v ra rn no_hist (ra + rn) 8 (addr 0) (ra + rn + 8) ≡ r = cc in
+    key : (p : ℕ) (x : Option KeyParts) → rec_key s b p x ≡ Some r → r.val_len ≡ 8
+    key p (Some k') q =
+        let q' : cond (leb (k'.rest_at + k'.rest_len + 8) b.end) (Some (rec_of p k'.ver_at k'.rest_at k'.rest_len no_hist (k'.rest_at + k'.rest_len) 8 (addr 0) (k'.rest_at + k'.rest_len + 8))) None ≡ Some r = rw (eq-eqb b.kind 1 k) at q in
+        let a1 = ask (leb (k'.rest_at + k'.rest_len + 8) b.end) _ None (Some r) no q' in
+        let x : rec_of p k'.ver_at k'.rest_at k'.rest_len no_hist (k'.rest_at + k'.rest_len) 8 (addr 0) (k'.rest_at + k'.rest_len + 8) ≡ r = cc in
         rw (← x)
-    key p KeyRead.Bad q = absurd (no q)
+    key p None q = absurd (no q)
 
-    go : (w : SlotRead) → rec_slot s b w ≡ RecRead.Is r → r.val_len ≡ 8
-    go (SlotRead.At p) q = key p (key_in s b p) q
-    go SlotRead.Bad q = absurd (no q)
+    go : (w : Option ℕ) → rec_slot s b w ≡ Some r → r.val_len ≡ 8
+    go (Some p) q = key p (key_in s b p) q
+    go None q = absurd (no q)

@@ -11,25 +11,24 @@ use lib.Signed.{lt_z}
 use lib.ListN.{length, take, drop}
 use lib.Dec.{leb, eqb}
 use Rattle.frames.specs.declared.Addr.{Addr}
-use Rattle.frames.specs.declared.PageRead.{PageRead}
 use Rattle.frames.specs.declared.Body.{Body}
-use Rattle.frames.specs.declared.Opened.{Opened}
 use Rattle.frames.specs.declared.Refusal.{Refusal}
 use Rattle.frames.specs.Layout.{page_at, kind_of, body_of, open_of, open_at, Inside}
 use Rattle.frames.proofs.Frames.{open_inside}
 use Rattle.records.specs.declared.Rec.{Rec}
-use Rattle.records.specs.declared.RecRead.{RecRead}
 use Rattle.records.specs.Records.{rec_at}
 use Rattle.pages.specs.Boundaries.{place}
 use Rattle.pages.specs.Meaning.{Head, Child, leaf, index, Page, says, prefix_of, head_of, child_of, rows_from, heads_from, children_from, page_says, meaning}
 use Rattle.pages.proofs.Given.{Sound, sound_given, every_slot}
 use Rattle.pages.proofs.Rows.{Good, slot_good, rows-many, rows_drop, rows_take}
 use Rattle.walks.specs.declared.Walk.{Walk}
-use Rattle.walks.specs.declared.Begun.{Begun}
 use Rattle.walks.specs.Walk.{sheet_of, older_on, walk_of, up_way, kind_of_way, up_range, down_range, forward_at, backward_at}
 use Rattle.walks.specs.Listed.{Entry, entries_of, WalksTo, LeadsTo, Lists, Leads}
 use Rattle.walks.proofs.Steps.{step_end}
 use Rattle.walks.proofs.Listing.{rows_way, heads-walk, branches_walk, up_within, up_rows, down_within, down_rows}
+use Rattle.std.proofs.Common.{Option, Some, None, Ok, Err}
+use Rattle.frames.specs.declared.BaseHeader.{BaseHeader}
+use Rattle.frames.specs.declared.BoxHeader.{BoxHeader}
 
 -- ---- the kind of a page that was opened (they belong to `frames`)
 
@@ -42,13 +41,13 @@ kind-few f i = go (eqb f 1) (eqb i 1)
     go false true = omega arith
     go false false = omega arith
 
-open_kind : (s : List ℕ) (a : Addr) (b : Body) → open_at s a ≡ Opened.Is b → b.kind ≤ 2
+open_kind : (s : List ℕ) (a : Addr) (b : Body) → open_at s a ≡ Some b → b.kind ≤ 2
 unfolding open_at body_of
 open_kind s a b e = go (page_at s a) e
   where
-    go : (p : PageRead) → open_of a p ≡ Opened.Is b → b.kind ≤ 2
-    go (PageRead.Page x h) q = let i : body_of a x h ≡ b = cc in subst (λ (y : Body). y.kind ≤ 2) i (kind-few x.flag h.is_index)
-    go PageRead.Bad q = absurd (let z : ◌≡◌ {A = ℕ} 0 1 = cc in omega arith)
+    go : (p : Option (BoxHeader × BaseHeader)) → open_of a p ≡ Some b → b.kind ≤ 2
+    go (Some (x, h)) q = let i : body_of a x h ≡ b = cc in subst (λ (y : Body). y.kind ≤ 2) i (kind-few x.flag h.is_index)
+    go None q = absurd (let z : ◌≡◌ {A = ℕ} 0 1 = cc in omega arith)
 
 -- ---- what a leaf and an index page with a meaning are
 
@@ -88,7 +87,7 @@ module _ (s : List ℕ) (a : Addr) (p : Page) (m : meaning s a ≡ says p) where
       go g false t q = absurd (let z : ◌≡◌ {A = ℕ} 0 1 = cc in omega arith)
 
 -- a stretch of the rows is the rows of that stretch
-module _ {A : Type 0} (f : Rec → A) (s : List ℕ) (b : Body) (every : (j : ℕ) → j < b.elems → (r : Rec) × (rec_at s b j ≡ RecRead.Is r)) where
+module _ {A : Type 0} (f : Rec → A) (s : List ℕ) (b : Body) (every : (j : ℕ) → j < b.elems → (r : Rec) × (rec_at s b j ≡ Some r)) where
   stretch : (i k : ℕ) → i + k ≤ b.elems → take k (drop i (rows_from f s b b.elems 0)) ≡ rows_from f s b k i
   stretch i k l =
       let n = b.elems in
@@ -112,37 +111,37 @@ up_index k e = rw e
 begins : Body → ℕ → ℕ → ℕ → Walk
 begins b way at n = walk_of (sheet_of b) way at n (place 0 0) (older_on b 0 0)
 
-module _ (s : List ℕ) (a : Addr) (b : Body) (o : open_at s a ≡ Opened.Is b) where
-  up_begins : (b.kind ≡ 2 → ⊥) → (i j : ℕ) → j ≤ b.elems → forward_at s a i j ≡ Begun.Is (begins b (up_way b.kind) i (j - i))
+module _ (s : List ℕ) (a : Addr) (b : Body) (o : open_at s a ≡ Some b) where
+  up_begins : (b.kind ≡ 2 → ⊥) → (i j : ℕ) → j ≤ b.elems → forward_at s a i j ≡ Ok (begins b (up_way b.kind) i (j - i))
   unfolding forward_at up_range begins
   up_begins k i j l = rw (o, ne_eqb b.kind 2 k, le-leb j b.elems l)
 
-  up_refused : (i j : ℕ) → b.elems < j → forward_at s a i j ≡ Begun.Refused Refusal.BadFrame
+  up_refused : (i j : ℕ) → b.elems < j → forward_at s a i j ≡ Err Refusal.BadFrame
   unfolding forward_at up_range
   up_refused i j l = go (eqb b.kind 2) refl
     where
-      go : (t : Bool) → eqb b.kind 2 ≡ t → forward_at s a i j ≡ Begun.Refused Refusal.BadFrame
+      go : (t : Bool) → eqb b.kind 2 ≡ t → forward_at s a i j ≡ Err Refusal.BadFrame
       go true e = rw (o, e)
       go false e = rw (o, e, lt-leb j b.elems l)
 
-  down_other : (b.kind ≡ 0 → ⊥) → (x y : ℤ) → backward_at s a x y ≡ Begun.Refused Refusal.BadFrame
+  down_other : (b.kind ≡ 0 → ⊥) → (x y : ℤ) → backward_at s a x y ≡ Err Refusal.BadFrame
   unfolding backward_at
   down_other n x y = rw (o, ne_eqb b.kind 0 n)
 
   module _ (k : b.kind ≡ 0) where
-    down_begins : (i j : ℕ) → j ≤ i → i < b.elems → backward_at s a (pos i) (pos j) ≡ Begun.Is (begins b 1 i (i - j + 1))
+    down_begins : (i j : ℕ) → j ≤ i → i < b.elems → backward_at s a (pos i) (pos j) ≡ Ok (begins b 1 i (i - j + 1))
     unfolding backward_at down_range begins
     down_begins i j l h = rw (o, eq-eqb b.kind 0 k, le-ltb i j l, le-ltb j 0 (omega arith), lt-leb b.elems i h)
 
-    down_nothing : (x y : ℤ) → lt_z x y ≡ true → backward_at s a x y ≡ Begun.Is (begins b 1 0 0)
+    down_nothing : (x y : ℤ) → lt_z x y ≡ true → backward_at s a x y ≡ Ok (begins b 1 0 0)
     unfolding backward_at down_range begins
     down_nothing x y e = rw (o, eq-eqb b.kind 0 k, e)
 
-    down_refused : (x y : ℤ) → lt_z x y ≡ false → lt_z y (pos 0) ≡ true → backward_at s a x y ≡ Begun.Refused Refusal.BadFrame
+    down_refused : (x y : ℤ) → lt_z x y ≡ false → lt_z y (pos 0) ≡ true → backward_at s a x y ≡ Err Refusal.BadFrame
     unfolding backward_at down_range
     down_refused x y e f = rw (o, eq-eqb b.kind 0 k, e, f)
 
-    down_above : (i j : ℕ) → j ≤ i → b.elems ≤ i → backward_at s a (pos i) (pos j) ≡ Begun.Refused Refusal.BadFrame
+    down_above : (i j : ℕ) → j ≤ i → b.elems ≤ i → backward_at s a (pos i) (pos j) ≡ Err Refusal.BadFrame
     unfolding backward_at down_range
     down_above i j l h = rw (o, eq-eqb b.kind 0 k, le-ltb i j l, le-ltb j 0 (omega arith), le-leb b.elems i h)
 
@@ -160,7 +159,7 @@ module _ (s : List ℕ) (a : Addr) (p : Page) (g : Sound s a p) where
   inside : Inside s g.body
   inside = (open_inside s a g.body g.opened).0
 
-  every : (j : ℕ) → j < g.body.elems → (r : Rec) × (rec_at s g.body j ≡ RecRead.Is r)
+  every : (j : ℕ) → j < g.body.elems → (r : Rec) × (rec_at s g.body j ≡ Some r)
   every = every_slot s g.body g.slots
 
   good : (j : ℕ) → j < g.body.elems → Good s g.body j
@@ -232,7 +231,7 @@ module _ (s : List ℕ) (a : Addr) (p : Page) (m : meaning s a ≡ says p) where
             subst (λ (x : List Entry). WalksTo s p.prefix (begins g.sound.body 0 i (j - i)) x) (sym (none_taken (drop i hs) (j - i) z)) (none_listed s a p g.sound 0 i (j - i) z)
 
     -- an end above the page's is refused at any begin
-    pub forward_above : (i j : ℕ) → length hs < j → forward_at s a i j ≡ Begun.Refused Refusal.BadFrame
+    pub forward_above : (i j : ℕ) → length hs < j → forward_at s a i j ≡ Err Refusal.BadFrame
     forward_above i j l = let g = is_leaf s a p m hs e in up_refused s a g.sound.body g.sound.opened i j (omega (arith, many g))
 
     -- from i down to j: heads i, i - 1, .., j, each with its older versions behind it, newest first
@@ -250,10 +249,10 @@ module _ (s : List ℕ) (a : Addr) (p : Page) (m : meaning s a ≡ says p) where
         record { walk = begins g.sound.body 1 0 0; begun = down_nothing s a g.sound.body g.sound.opened g.kind x y t; lists = none_listed s a p g.sound 1 0 0 refl }
 
     -- otherwise an end below 0 or a start at or above the page's end is refused
-    pub backward_below : (x y : ℤ) → lt_z x y ≡ false → lt_z y (pos 0) ≡ true → backward_at s a x y ≡ Begun.Refused Refusal.BadFrame
+    pub backward_below : (x y : ℤ) → lt_z x y ≡ false → lt_z y (pos 0) ≡ true → backward_at s a x y ≡ Err Refusal.BadFrame
     backward_below x y t u = let g = is_leaf s a p m hs e in down_refused s a g.sound.body g.sound.opened g.kind x y t u
 
-    pub backward_above : (i j : ℕ) → j ≤ i → length hs ≤ i → backward_at s a (pos i) (pos j) ≡ Begun.Refused Refusal.BadFrame
+    pub backward_above : (i j : ℕ) → j ≤ i → length hs ≤ i → backward_at s a (pos i) (pos j) ≡ Err Refusal.BadFrame
     backward_above i j l h = let g = is_leaf s a p m hs e in down_above s a g.sound.body g.sound.opened g.kind i j l (omega (arith, many g))
 
   -- an index page
@@ -275,9 +274,9 @@ module _ (s : List ℕ) (a : Addr) (p : Page) (m : meaning s a ≡ says p) where
             let z : j - i ≡ 0 = omega arith in
             subst (λ (x : List Child). LeadsTo s p.prefix (begins g.sound.body 2 i (j - i)) x) (sym (no_child-taken (drop i cs) (j - i) z)) (none_led s a p g.sound 2 i (j - i) z)
 
-    pub forward_above_index : (i j : ℕ) → length cs < j → forward_at s a i j ≡ Begun.Refused Refusal.BadFrame
+    pub forward_above_index : (i j : ℕ) → length cs < j → forward_at s a i j ≡ Err Refusal.BadFrame
     forward_above_index i j l = let g = is_index_lem s a p m cs e in up_refused s a g.sound.body g.sound.opened i j (omega (arith, many_index g))
 
     -- "Backward (leaves only)"
-    pub backward_index : (x y : ℤ) → backward_at s a x y ≡ Begun.Refused Refusal.BadFrame
+    pub backward_index : (x y : ℤ) → backward_at s a x y ≡ Err Refusal.BadFrame
     backward_index x y = let g = is_index_lem s a p m cs e in down_other s a g.sound.body g.sound.opened (λ k. omega (arith, k, g.kind)) x y

@@ -1,6 +1,6 @@
 -- P7 walked forward and backward, over the whole arena as it is; and walks that are refused.
 -- Assumes nothing.
-use Rattle.std.specs.Prelude.{ℕ, zero, suc, ◌≡◌, refl, List, [], ◌∷◌, ◌++◌, pos, negsuc, set}
+use Rattle.std.specs.Prelude.{ℕ, zero, suc, ◌≡◌, refl, List, [], ◌∷◌, ◌++◌, pos, negsuc, set, Result, Ok, Err}
 use Rattle.spans.specs.Span.{part, part_or}
 use Rattle.numbers.specs.Number.{of_le, le_at}
 use Rattle.order.specs.Version.{ver_of}
@@ -12,11 +12,12 @@ use Rattle.values.specs.Keys.{ver_in, skip_of, key_at}
 use Rattle.values.specs.Vals.{ref_at, front_at, val_at}
 use Rattle.records.specs.Records.{slot_at, key_in, val_in, rec_in, rec_at}
 use Rattle.pages.specs.Sound.{history_at}
-use Rattle.walks.specs.declared.Begun.{Begun}
-use Rattle.walks.specs.declared.Step.{Step}
 use Rattle.walks.specs.Walk.{up_range, down_range, up_way, kind_of_way, forward_at, backward_at, fits_in, read_at, moved_of, on_of, behind_of, item_of, next_in, next_old, enter_at, head_step, step_at}
 use Rattle.walks.specs.Refused.{begun_number, step_number}
 use Rattle.walks.specs.Listed.{Entry, entry_of}
+use Rattle.frames.specs.declared.Refusal.{Refusal}
+use Rattle.walks.specs.declared.Step.{Step}
+use Rattle.walks.specs.declared.Walk.{Walk}
 
 -- a walk's first n steps: what each lists, the history page that it names, and the number of the step that ends it
 pub record Told : Type 0 where
@@ -29,19 +30,19 @@ pub data StepsTold : Type 0 where
   refused : ℕ → StepsTold
   then : Told → StepsTold → StepsTold
 
-abbrev run_of : List ℕ → (Step → StepsTold) → Step → StepsTold
-run_of s go (Step.Found x w) = then (record { entry = entry_of s [] x; names = x.named }) (go (step_at s w))
-run_of s go (Step.Leads x w) = open_still
-run_of s go Step.End = ended
-run_of s go (Step.Refused r) = refused (step_number (Step.Refused r))
+abbrev run_of : List ℕ → (Result Step Refusal → StepsTold) → Result Step Refusal → StepsTold
+run_of s go (Ok (Step.Found x w)) = then (record { entry = entry_of s [] x; names = x.named }) (go (step_at s w))
+run_of s go (Ok (Step.Leads x w)) = open_still
+run_of s go (Ok Step.End) = ended
+run_of s go (Err r) = refused (step_number (Err r))
 
-unfoldable pub run_from : ℕ → List ℕ → Step → StepsTold
+unfoldable pub run_from : ℕ → List ℕ → Result Step Refusal → StepsTold
 run_from zero s x = open_still
 run_from (suc n) s x = run_of s (run_from n s) x
 
-abbrev pub begun_run : List ℕ → Begun → StepsTold
-begun_run s (Begun.Is w) = run_from 4 s (step_at s w)
-begun_run s (Begun.Refused r) = refused (begun_number (Begun.Refused r))
+abbrev pub begun_run : List ℕ → Result Walk Refusal → StepsTold
+begun_run s (Ok w) = run_from 4 s (step_at s w)
+begun_run s (Err r) = refused (begun_number (Err r))
 
 -- "a", version (5,0), "xy", which names the history page at 8, and then (3,0) "z"
 abbrev head7 : Told

@@ -9,11 +9,11 @@ ghost use Rattle.walks.specs.Turned.{turned_at};
 ghost use Rattle.walks.specs.Aged.{key_old, aged_in, aged_at};
 ghost use Rattle.walks.specs.Walk.{sheet_of, older_of, older_on, no_older, up_way, fits_in, body_in, body_of, read_at, kind_of_way, up_range, down_range, begun_of, forward_at, backward_at, on_of, behind_of, item_of, next_in, next_old, enter_at, head_step, step_at};
 
-use frames::{Addr, BaseHeader, Body, NULL_ADDR, NULL_PID, Opened, PageId, Refusal};
+use frames::{Addr, BaseHeader, Body, NULL_ADDR, NULL_PID, PageId, Refusal};
 use order::Ver;
 use pages::Place;
-use records::{Rec, RecRead};
-use values::{HistRef, KeyRead};
+use records::Rec;
+use values::{HistRef, KeyParts};
 
 // A page as a walk carries it: where it stands, its slots, the boundaries behind them, its end.
 #[derive(Clone, Copy)]
@@ -62,55 +62,41 @@ pub struct Branch {
     pub page: PageId,
 }
 
-#[derive(Clone, Copy)]
-pub enum Begun {
-    Is(Walk),
-    Refused(Refusal),
-}
-
 // A record with the walk moved on.
 #[derive(Clone, Copy)]
 pub enum Step {
     Found(Item, Walk),
     Leads(Branch, Walk),
     End,
-    Refused(Refusal),
 }
 
 // ---- beginning
 
-// The first head and how many there are to walk.
-#[derive(Clone, Copy)]
-enum Range {
-    Heads(usize, usize),
-    Outside,
-}
-
 // The positions from begin to end, end not included.
-fn up(begin: usize, end: usize, elems: usize) -> Range
+fn up(begin: usize, end: usize, elems: usize) -> Option<(usize, usize)>
     ensures { result ≡ up_range begin end elems }
 {
     if elems < end {
-        return Range::Outside;
+        return None;
     }
-    Range::Heads(begin, spans::less(end, begin))
+    Some((begin, spans::less(end, begin)))
 }
 
 // The positions from start down to end, both included.
-fn down(start: i64, end: i64, elems: usize) -> Range
+fn down(start: i64, end: i64, elems: usize) -> Option<(usize, usize)>
     ensures { result ≡ down_range start end elems }
 {
     if start < end {
-        return Range::Heads(0, 0);
+        return Some((0, 0));
     }
     if end < 0 {
-        return Range::Outside;
+        return None;
     }
     let from = start as usize;
     if elems <= from {
-        return Range::Outside;
+        return None;
     }
-    Range::Heads(from, spans::less(from, end as usize) + 1)
+    Some((from, spans::less(from, end as usize) + 1))
 }
 
 fn sheet_of(b: Body) -> Sheet
@@ -133,9 +119,9 @@ fn older_on(b: Body, slot: usize, left: usize) -> OldPlace
     let link = b.link;
     OldPlace {
         page: sheet_of(b),
-        link: link,
-        slot: slot,
-        left: left,
+        link,
+        slot,
+        left,
     }
 }
 
@@ -157,18 +143,18 @@ pub fn no_older() -> OldPlace
     }
 }
 
-fn walk_over(b: Body, way: usize, r: Range) -> Begun
+fn walk_over(b: Body, way: usize, r: Option<(usize, usize)>) -> Result<Walk, Refusal>
     requires { b.lo_len + b.hi_len < 2 ^ 64 }
     ensures { result ≡ begun_of b way r }
 {
-    let Range::Heads(pos, heads) = r else {
-        return Begun::Refused(Refusal::BadFrame);
+    let Some((pos, heads)) = r else {
+        return Err(Refusal::BadFrame);
     };
-    Begun::Is(Walk {
+    Ok(Walk {
         page: sheet_of(b),
-        way: way,
-        pos: pos,
-        heads: heads,
+        way,
+        pos,
+        heads,
         key: Place { at: 0, len: 0 },
         older: older_on(b, 0, 0),
     })
@@ -186,27 +172,27 @@ fn up_way(kind: u8) -> usize
 }
 
 // A walk over the positions from begin to end of a leaf or index page.
-pub fn forward(s: &[u8], a: Addr, begin: usize, end: usize) -> Begun
+pub fn forward(s: &[u8], a: Addr, begin: usize, end: usize) -> Result<Walk, Refusal>
     ensures { result ≡ forward_at s.now a begin end }
 {
-    let Opened::Is(b) = frames::open_at(s, a) else {
-        return Begun::Refused(Refusal::BadFrame);
+    let Some(b) = frames::open_at(s, a) else {
+        return Err(Refusal::BadFrame);
     };
     if b.kind == Body::HISTORY {
-        return Begun::Refused(Refusal::BadFrame);
+        return Err(Refusal::BadFrame);
     }
     walk_over(b, up_way(b.kind), up(begin, end, b.elems))
 }
 
 // A walk from a signed start down to a signed end, both included, of a leaf.
-pub fn backward(s: &[u8], a: Addr, start: i64, end: i64) -> Begun
+pub fn backward(s: &[u8], a: Addr, start: i64, end: i64) -> Result<Walk, Refusal>
     ensures { result ≡ backward_at s.now a start end }
 {
-    let Opened::Is(b) = frames::open_at(s, a) else {
-        return Begun::Refused(Refusal::BadFrame);
+    let Some(b) = frames::open_at(s, a) else {
+        return Err(Refusal::BadFrame);
     };
     if b.kind != Body::LEAF {
-        return Begun::Refused(Refusal::BadFrame);
+        return Err(Refusal::BadFrame);
     }
     walk_over(b, Walk::DOWN, down(start, end, b.elems))
 }
@@ -242,7 +228,7 @@ fn body_in(v: Sheet, kind: u8) -> Body
         tail: v.end,
         elems: v.elems,
         first: v.at + BaseHeader::HDR_LEN + 4 * v.elems + v.front,
-        kind: kind,
+        kind,
         prefix_len: v.prefix_len,
         lo_len: v.front,
         hi_len: 0,
@@ -253,23 +239,23 @@ fn body_in(v: Sheet, kind: u8) -> Body
 }
 
 // The page that a walk carries, where it still lies in the arena.
-pub fn body_of(s: &[u8], v: Sheet, kind: u8) -> Opened
+pub fn body_of(s: &[u8], v: Sheet, kind: u8) -> Option<Body>
     ensures { result ≡ body_of s.now v kind }
 {
     if fits(s.len(), v) {
-        return Opened::Is(body_in(v, kind));
+        return Some(body_in(v, kind));
     }
-    Opened::Bad
+    None
 }
 
 // The record of slot i of a page of this kind that a walk carries.
-pub fn read(s: &[u8], v: Sheet, kind: u8, i: usize) -> RecRead
+pub fn read(s: &[u8], v: Sheet, kind: u8, i: usize) -> Option<Rec>
     ensures { result ≡ read_at s.now v kind i }
 {
     if fits(s.len(), v) {
         return records::rec_at(s, body_in(v, kind), i);
     }
-    RecRead::Bad
+    None
 }
 
 fn kind_of(way: usize) -> u8
@@ -289,54 +275,33 @@ fn item_of(s: &[u8], key: Place, r: Rec, named: Addr) -> Item
 {
     let remote = r.remote;
     Item {
-        key: key,
+        key,
         ver: records::ver_at(s, r.ver_at),
         value: Place {
             at: r.val_at,
             len: r.val_len,
         },
-        remote: remote,
-        named: named,
+        remote,
+        named,
     }
-}
-
-// The next old version, with what is left behind it.
-#[derive(Clone, Copy)]
-enum OldStep {
-    Is(Item, OldPlace),
-    Bad,
-}
-
-// What a head's history leaves to walk: its page is entered.
-#[derive(Clone, Copy)]
-pub enum Entered {
-    Is(OldPlace),
-    Bad,
 }
 
 // Without history the walk's past stays; its page is judged otherwise.
-pub fn enter(s: &[u8], h: HistRef, was: OldPlace) -> Entered
+pub fn enter(s: &[u8], h: HistRef, was: OldPlace) -> Option<OldPlace>
     ensures { result ≡ enter_at s.now h was }
 {
     if h.count == 0 {
-        return Entered::Is(was);
+        return Some(was);
     }
     let page = h.page;
-    let Opened::Is(b) = pages::history_at(s, page) else {
-        return Entered::Bad;
+    let Some(b) = pages::history_at(s, page) else {
+        return None;
     };
     let slot = h.slot as usize;
     if slot < b.elems {
-        return Entered::Is(older_on(b, slot, h.count as usize));
+        return Some(older_on(b, slot, h.count as usize));
     }
-    Entered::Bad
-}
-
-// Where the next old version stands, and the history page entered, or 0.
-#[derive(Clone, Copy)]
-enum Turned {
-    Is(OldPlace, Addr),
-    Bad,
+    None
 }
 
 impl OldPlace {
@@ -349,47 +314,47 @@ impl OldPlace {
         let page = self.page;
         let link = self.link;
         OldPlace {
-            page: page,
-            link: link,
+            page,
+            link,
             slot: self.slot + 1,
             left: self.left - 1,
         }
     }
 
     // The old version at the slot.
-    fn here(self, s: &[u8], key: Place, named: Addr) -> OldStep
+    fn here(self, s: &[u8], key: Place, named: Addr) -> Option<(Item, OldPlace)>
         requires { 0 < self.left }
         ensures { result ≡ next_in s.now key self named }
     {
         let page = self.page;
-        let RecRead::Is(r) = read(s, page, Body::HISTORY, self.slot) else {
-            return OldStep::Bad;
+        let Some(r) = read(s, page, Body::HISTORY, self.slot) else {
+            return None;
         };
-        OldStep::Is(item_of(s, key, r, named), self.after())
+        Some((item_of(s, key, r, named), self.after()))
     }
 
     // Where the next old version stands: here, or, behind the page's last, first in the page that it links to, which is then named.
-    fn turned(self, s: &[u8]) -> Turned
+    fn turned(self, s: &[u8]) -> Option<(OldPlace, Addr)>
         ensures { result ≡ turned_at s.now self }
     {
         let page = self.page;
         if self.slot != page.elems {
-            return Turned::Is(self, NULL_ADDR);
+            return Some((self, NULL_ADDR));
         }
         let link = self.link;
-        let Opened::Is(d) = pages::history_at(s, link) else {
-            return Turned::Bad;
+        let Some(d) = pages::history_at(s, link) else {
+            return None;
         };
-        Turned::Is(older_on(d, 0, self.left), link)
+        Some((older_on(d, 0, self.left), link))
     }
 
     // The old version there: what `pages::old_at` reads (`next-old`, proofs/Steps.antt), without judging the headers again.
-    fn next(self, s: &[u8], key: Place) -> OldStep
+    fn next(self, s: &[u8], key: Place) -> Option<(Item, OldPlace)>
         requires { 0 < self.left }
         ensures { result ≡ next_old s.now key self }
     {
-        let Turned::Is(older, named) = self.turned(s) else {
-            return OldStep::Bad;
+        let Some((older, named)) = self.turned(s) else {
+            return None;
         };
         older.here(s, key, named)
     }
@@ -410,12 +375,12 @@ impl Walk {
     {
         let page = self.page;
         Walk {
-            page: page,
+            page,
             way: self.way,
             pos: spans::onward(self.way == Walk::DOWN, self.pos),
             heads: self.heads - 1,
-            key: key,
-            older: older,
+            key,
+            older,
         }
     }
 
@@ -426,24 +391,24 @@ impl Walk {
         let page = self.page;
         let key = self.key;
         Walk {
-            page: page,
+            page,
             way: self.way,
             pos: self.pos,
             heads: self.heads,
-            key: key,
-            older: older,
+            key,
+            older,
         }
     }
 
     // The head at the walk's position: on a leaf its history page is entered with it.
-    fn head(self, s: &[u8]) -> Step
+    fn head(self, s: &[u8]) -> Result<Step, Refusal>
         requires { 0 < self.heads }
         ensures { result ≡ head_step s.now self }
     {
         let page = self.page;
         let was = self.older;
-        let RecRead::Is(r) = read(s, page, kind_of(self.way), self.pos) else {
-            return Step::Refused(Refusal::BadFrame);
+        let Some(r) = read(s, page, kind_of(self.way), self.pos) else {
+            return Err(Refusal::BadFrame);
         };
         let key = Place {
             at: r.rest_at,
@@ -451,38 +416,32 @@ impl Walk {
         };
         if self.way == Walk::INDEX {
             let page = PageId(numbers::read_u64(s, r.val_at));
-            return Step::Leads(
-                Branch {
-                    key: key,
-                    page: page,
-                },
-                self.on(key, was),
-            );
+            return Ok(Step::Leads(Branch { key, page }, self.on(key, was)));
         }
         let h = r.hist;
-        let Entered::Is(older) = enter(s, h, was) else {
-            return Step::Refused(Refusal::BadFrame);
+        let Some(older) = enter(s, h, was) else {
+            return Err(Refusal::BadFrame);
         };
         let named = h.page;
-        Step::Found(item_of(s, key, r, named), self.on(key, older))
+        Ok(Step::Found(item_of(s, key, r, named), self.on(key, older)))
     }
 
     // The record at the walk, with the walk moved on.
-    pub fn step(self, s: &[u8]) -> Step
+    pub fn step(self, s: &[u8]) -> Result<Step, Refusal>
         ensures { result ≡ step_at s.now self }
     {
         let older = self.older;
         if 0 < older.left {
             let key = self.key;
-            let OldStep::Is(item, rest) = older.next(s, key) else {
-                return Step::Refused(Refusal::BadFrame);
+            let Some((item, rest)) = older.next(s, key) else {
+                return Err(Refusal::BadFrame);
             };
-            return Step::Found(item, self.behind(rest));
+            return Ok(Step::Found(item, self.behind(rest)));
         }
         if self.heads != 0 {
             return self.head(s);
         }
-        Step::End
+        Ok(Step::End)
     }
 }
 
@@ -497,49 +456,43 @@ pub enum Aged {
         rest: OldPlace,
     },
     End,
-    Bad,
 }
 
 // The key of slot i of a history page that a walk carries.
-fn key_old(s: &[u8], v: Sheet, i: usize) -> KeyRead
+fn key_old(s: &[u8], v: Sheet, i: usize) -> Option<KeyParts>
     ensures { result ≡ key_old s.now v i }
 {
     if fits(s.len(), v) {
         return records::key_at(s, body_in(v, Body::HISTORY), i);
     }
-    KeyRead::Bad
+    None
 }
 
 impl OldPlace {
-    fn aged_here(self, s: &[u8]) -> Aged
+    fn aged_here(self, s: &[u8]) -> Option<Aged>
         requires { 0 < self.left }
         ensures { result ≡ aged_in s.now self }
     {
         let page = self.page;
-        let KeyRead::Key {
-            ver_at,
-            rest_at: _,
-            rest_len: _,
-        } = key_old(s, page, self.slot)
-        else {
-            return Aged::Bad;
+        let Some(k) = key_old(s, page, self.slot) else {
+            return None;
         };
-        Aged::Is {
-            ver: records::ver_at(s, ver_at),
+        Some(Aged::Is {
+            ver: records::ver_at(s, k.ver_at),
             slot: self.slot,
             rest: self.after(),
-        }
+        })
     }
 
     // The version that the walk would list next: its value stays unread, and so does its remote frame.
-    pub fn aged(self, s: &[u8]) -> Aged
+    pub fn aged(self, s: &[u8]) -> Option<Aged>
         ensures { result ≡ aged_at s.now self }
     {
         if self.left == 0 {
-            return Aged::End;
+            return Some(Aged::End);
         }
-        let Turned::Is(older, _) = self.turned(s) else {
-            return Aged::Bad;
+        let Some((older, _)) = self.turned(s) else {
+            return None;
         };
         older.aged_here(s)
     }

@@ -6,25 +6,25 @@ use Rattle.asof.specs.AsOf.{head_pick, as_of_head}
 use Rattle.asof.proofs.as_of.Goals as goal
 
 pub older_as_of-requires : goal.older_as_of-requires
-older_as_of-requires c = head_inside c.args.s.now c.args.a c.args.probe.now _ _ _ _ _ (sym c.head_at.ensures ∙ c.in-Is.is)
+older_as_of-requires c = head_inside c.args.s.now c.args.a c.args.probe.now _ _ _ _ _ (sym c.head_at.ensures ∙ c.in-Ok-Is.is)
 
 pub returns-then-newer : goal.returns-then-newer
 unfolding as_of_at
 returns-then-newer c = let n = sym c.newer.ensures ∙ c.if-newer.true in
-    c.older_as_of.ensures ∙ ap (head_pick c.args.s.now c.args.v _ _ _ _ _) (sym n) ∙ ap (as_of_head c.args.s.now c.args.v) (sym (sym c.head_at.ensures ∙ c.in-Is.is))
+    c.older_as_of.ensures ∙ ap (head_pick c.args.s.now c.args.v _ _ _ _ _) (sym n) ∙ ap (as_of_head c.args.s.now c.args.v) (sym (sym c.head_at.ensures ∙ c.in-Ok-Is.is))
 
 pub rec_at-requires : goal.rec_at-requires
-rec_at-requires c = head_inside c.args.s.now c.args.a c.args.probe.now _ _ _ _ _ (sym c.head_at.ensures ∙ c.in-Is.is)
+rec_at-requires c = head_inside c.args.s.now c.args.a c.args.probe.now _ _ _ _ _ (sym c.head_at.ensures ∙ c.in-Ok-Is.is)
 
-pub returns-in-Refused : goal.returns-in-Refused
+pub returns-in-Err : goal.returns-in-Err
 unfolding as_of_at
-returns-in-Refused c = ap (as_of_head c.args.s.now c.args.v) (sym (sym c.head_at.ensures ∙ c.in-Refused.is))
+returns-in-Err c = ap (as_of_head c.args.s.now c.args.v) (sym (sym c.head_at.ensures ∙ c.in-Err.is))
 
-pub returns-in-Nothing : goal.returns-in-Nothing
+pub returns-in-Ok-Nothing : goal.returns-in-Ok-Nothing
 unfolding as_of_at
-returns-in-Nothing c = ap (as_of_head c.args.s.now c.args.v) (sym (sym c.head_at.ensures ∙ c.in-Nothing.is))
+returns-in-Ok-Nothing c = ap (as_of_head c.args.s.now c.args.v) (sym (sym c.head_at.ensures ∙ c.in-Ok-Nothing.is))
 
 pub returns-else-newer : goal.returns-else-newer
 unfolding as_of_at
 returns-else-newer c = let n = sym c.newer.ensures ∙ c.if-newer.false in
-    c.handed.ensures ∙ ap (handed_of _ _ _) c.rec_at.ensures ∙ ap (head_pick c.args.s.now c.args.v _ _ _ _ _) (sym n) ∙ ap (as_of_head c.args.s.now c.args.v) (sym (sym c.head_at.ensures ∙ c.in-Is.is))
+    c.handed.ensures ∙ ap (handed_of _ _ _) c.rec_at.ensures ∙ ap (head_pick c.args.s.now c.args.v _ _ _ _ _) (sym n) ∙ ap (as_of_head c.args.s.now c.args.v) (sym (sym c.head_at.ensures ∙ c.in-Ok-Is.is))

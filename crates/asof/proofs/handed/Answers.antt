@@ -5,4 +5,4 @@ pub returns-in_default : goal.returns-in_default
 returns-in_default c = simp c.in_default.is
 
 pub returns : goal.returns
-returns c = simp c.in-Is.is
+returns c = simp c.in-Some.is

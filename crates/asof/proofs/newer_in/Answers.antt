@@ -23,19 +23,19 @@ pub returns-in_default : goal.returns-in_default
 returns-in_default c = c.loop-n.invariant
 
 pub overflow_sub-b : goal.overflow_sub-b
-overflow_sub-b c = omega (arith, (slot-inside c.args.s.now c.args.b (c.args.from.slot + c.loop-n.n) c.in-At.p (sym c.slot_at.ensures ∙ c.in-At.is)).1)
+overflow_sub-b c = omega (arith, (slot-inside c.args.s.now c.args.b (c.args.from.slot + c.loop-n.n) c.in-Some.p (sym c.slot_at.ensures ∙ c.in-Some.is)).1)
 
 pub returns-then-b-p-lt12 : goal.returns-then-b-p-lt12
 returns-then-b-p-lt12 c = c.loop-n.invariant
 
 pub ver_at-requires : goal.ver_at-requires
 ver_at-requires c = let i = body-inside c.args.s.now c.args.from.page 2 c.args.b c.requires in
-    let k = slot-inside c.args.s.now c.args.b (c.args.from.slot + c.loop-n.n) c.in-At.p (sym c.slot_at.ensures ∙ c.in-At.is) in
+    let k = slot-inside c.args.s.now c.args.b (c.args.from.slot + c.loop-n.n) c.in-Some.p (sym c.slot_at.ensures ∙ c.in-Some.is) in
     omega (arith, c.if-b-p-lt12.false, k.1, i.payload, i.arena)
 
 pub loop-n-preserved : goal.loop-n-preserved
-loop-n-preserved c = let k = slot-inside c.args.s.now c.args.b (c.args.from.slot + c.loop-n.n) c.in-At.p (sym c.slot_at.ensures ∙ c.in-At.is) in
-    passes_more c.args.s.now c.args.v c.args.from c.args.b c.requires c.loop-n.n c.loop-n.invariant (omega (arith, c.well_formed)) c.loop-n-test.true c.in-At.p (sym c.slot_at.ensures ∙ c.in-At.is) (omega (arith, c.if-b-p-lt12.false, k.1)) (omega (arith, c.if-b-gt-MAX_KEY.false)) c.ver_at.ensures (sym c.newer.ensures ∙ c.if-newer.true)
+loop-n-preserved c = let k = slot-inside c.args.s.now c.args.b (c.args.from.slot + c.loop-n.n) c.in-Some.p (sym c.slot_at.ensures ∙ c.in-Some.is) in
+    passes_more c.args.s.now c.args.v c.args.from c.args.b c.requires c.loop-n.n c.loop-n.invariant (omega (arith, c.well_formed)) c.loop-n-test.true c.in-Some.p (sym c.slot_at.ensures ∙ c.in-Some.is) (omega (arith, c.if-b-p-lt12.false, k.1)) (omega (arith, c.if-b-gt-MAX_KEY.false)) c.ver_at.ensures (sym c.newer.ensures ∙ c.if-newer.true)
 
 pub returns-else-newer : goal.returns-else-newer
 returns-else-newer c = c.loop-n.invariant

@@ -6,12 +6,12 @@ use Rattle.walks.specs.Walk.{enter_at}
 use Rattle.asof.specs.AsOf.{old_in}
 use Rattle.asof.proofs.old_enter.Goals as goal
 
-pub returns-in-Is : goal.returns-in-Is
+pub returns-in-Some : goal.returns-in-Some
 unfolding old_enter
-returns-in-Is c = let e = sym (ap (λ (p : OldPlace). enter_at c.args.s.now c.args.h p) c.no_older.ensures) ∙ sym c.enter.ensures ∙ c.in-Is.is in
+returns-in-Some c = let e = sym (ap (λ (p : OldPlace). enter_at c.args.s.now c.args.h p) c.no_older.ensures) ∙ sym c.enter.ensures ∙ c.in-Some.is in
     c.old_as_of.ensures ∙ ap (old_in c.args.s.now c.args.v c.args.slot c.args.reads) (sym e)
 
-pub returns-in-Bad : goal.returns-in-Bad
+pub returns-in-None : goal.returns-in-None
 unfolding old_enter
-returns-in-Bad c = let e = sym (ap (λ (p : OldPlace). enter_at c.args.s.now c.args.h p) c.no_older.ensures) ∙ sym c.enter.ensures ∙ c.in-Bad.is in
+returns-in-None c = let e = sym (ap (λ (p : OldPlace). enter_at c.args.s.now c.args.h p) c.no_older.ensures) ∙ sym c.enter.ensures ∙ c.in-None.is in
     ap (old_in c.args.s.now c.args.v c.args.slot c.args.reads) (sym e)

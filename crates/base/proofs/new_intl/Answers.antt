@@ -26,14 +26,14 @@ returns-in_default c = let all = index_three _ _ _ (call_of 0 0 c.args.group c.a
 
 pub build_index_list-requires : goal.build_index_list-requires
 build_index_list-requires c = record {
-  from_value = at_first _ [] _ _ c.open_index-b.ensures _ c.in-From.is;
+  from_value = at_first _ [] _ _ c.open_index-b.ensures _ c.in-Some.is;
   lo_value = (c.boundary_of-x.ensures, c.boundary_of-y.ensures);
   next_in_bounds = next-footing _ _ _ c.next_ok.ensures (c.if-not-next_ok.false);
   held = held c.args.lo.now c.args.hi.now _ _ _ _ _ c.boundary_of-x.ensures c.boundary_of-y.ensures c.calc_prefix-p.ensures _ c.bounds_ok.ensures (c.if-not-bounds_ok.false);
 }
 
 pub returns : goal.returns
-returns c = let all = index_list _ _ _ (call_of 0 0 c.args.group c.args.txid c.args.lsn c.args.checkpoint) (bounds_from c.args.lo.now c.args.hi.now c.args.sibling.0) _ c.bounds_ok.ensures (c.if-not-bounds_ok.false) _ c.next_ok.ensures (c.if-not-next_ok.false) (list-opens c.args.list.now _ _ _ c.open_index-b.ensures _ c.in-From.is) _ _ _ _ c.call_of-m.ensures (bounds_are c.args.lo.now c.args.hi.now _ _ _ _ _ c.boundary_of-x.ensures c.boundary_of-y.ensures c.calc_prefix-p.ensures) c.build_index_list.ensures.value c.build_index_list.ensures.a_after in record {
+returns c = let all = index_list _ _ _ (call_of 0 0 c.args.group c.args.txid c.args.lsn c.args.checkpoint) (bounds_from c.args.lo.now c.args.hi.now c.args.sibling.0) _ c.bounds_ok.ensures (c.if-not-bounds_ok.false) _ c.next_ok.ensures (c.if-not-next_ok.false) (list-opens c.args.list.now _ _ _ c.open_index-b.ensures _ c.in-Some.is) _ _ _ _ c.call_of-m.ensures (bounds_are c.args.lo.now c.args.hi.now _ _ _ _ _ c.boundary_of-x.ensures c.boundary_of-y.ensures c.calc_prefix-p.ensures) c.build_index_list.ensures.value c.build_index_list.ensures.a_after in record {
   value = all.0;
   a_after = all.1;
 }

@@ -25,14 +25,14 @@ pub returns-in_default : goal.returns-in_default
 returns-in_default c = finished _ _ _ _ _ _ c.loop-k.invariant (frames_nil _ _ (take_nil c.loop-k.k _ (no_one _ _ _ _ _ _ c.loop-k.invariant.same c.next_of-st.ensures c.in_default.is)))
 
 pub remote_frame_of-to-requires : goal.remote_frame_of-to-requires
-remote_frame_of-to-requires c = let all = frames_asks _ _ _ _ _ _ _ (one _ _ _ _ _ _ c.loop-k.invariant.same c.next_of-st.ensures _ _ c.in-One.is) _ c.loop-k-test.true _ _ _ _ c.loop-k.invariant in record {
+remote_frame_of-to-requires c = let all = frames_asks _ _ _ _ _ _ _ (one _ _ _ _ _ _ c.loop-k.invariant.same c.next_of-st.ensures _ _ c.in-Some.is) _ c.loop-k-test.true _ _ _ _ c.loop-k.invariant in record {
   footing_le_at = all.0;
   placed = all.1.0;
   i_in_bounds = all.1.1;
 }
 
 pub loop-k-preserved : goal.loop-k-preserved
-loop-k-preserved c = frames_turn _ _ _ _ _ _ _ (one _ _ _ _ _ _ c.loop-k.invariant.same c.next_of-st.ensures _ _ c.in-One.is) _ c.loop-k-test.true _ _ _ _ c.loop-k.invariant _ _ c.remote_frame_of-to.ensures.value c.remote_frame_of-to.ensures.a_after
+loop-k-preserved c = frames_turn _ _ _ _ _ _ _ (one _ _ _ _ _ _ c.loop-k.invariant.same c.next_of-st.ensures _ _ c.in-Some.is) _ c.loop-k-test.true _ _ _ _ c.loop-k.invariant _ _ c.remote_frame_of-to.ensures.value c.remote_frame_of-to.ensures.a_after
 
 pub shape_of-a : goal.shape_of-a
 shape_of-a c = c.loop-k.invariant.long

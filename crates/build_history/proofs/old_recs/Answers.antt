@@ -25,31 +25,31 @@ pub returns-in_default : goal.returns-in_default
 returns-in_default c = finished _ _ _ _ _ _ c.loop-k.invariant.0 (recs_nil _ _ _ (take_nil c.loop-k.k _ (no_one _ _ _ _ _ _ c.loop-k.invariant.0.same c.next_of-st.ensures c.in_default.is)))
 
 pub overflow_cast-i : goal.overflow_cast-i
-overflow_cast-i c = let z = (one _ _ _ _ _ _ c.loop-k.invariant.0.same c.next_of-st.ensures _ _ c.in-One.is).placed.vsmall in omega arith
+overflow_cast-i c = let z = (one _ _ _ _ _ _ c.loop-k.invariant.0.same c.next_of-st.ensures _ _ c.in-Some.is).placed.vsmall in omega arith
 
 pub overflow_add-past : goal.overflow_add-past
-overflow_add-past c = let z = recs-room _ _ _ _ _ _ _ (one _ _ _ _ _ _ c.loop-k.invariant.0.same c.next_of-st.ensures _ _ c.in-One.is) _ c.loop-k-test.true _ _ _ _ _ c.loop-k.invariant.0 in omega (arith, c.well_formed.0, c.loop-k.invariant.0.long, c.calc_size.ensures)
+overflow_add-past c = let z = recs-room _ _ _ _ _ _ _ (one _ _ _ _ _ _ c.loop-k.invariant.0.same c.next_of-st.ensures _ _ c.in-Some.is) _ c.loop-k-test.true _ _ _ _ _ c.loop-k.invariant.0 in omega (arith, c.well_formed.0, c.loop-k.invariant.0.long, c.calc_size.ensures)
 
 pub overflow_add-past-in-loop-k : goal.overflow_add-past-in-loop-k
-overflow_add-past-in-loop-k c = let z = recs-room _ _ _ _ _ _ _ (one _ _ _ _ _ _ c.loop-k.invariant.0.same c.next_of-st.ensures _ _ c.in-One.is) _ c.loop-k-test.true _ _ _ _ _ c.loop-k.invariant.0 in omega (arith, c.well_formed.0, c.loop-k.invariant.0.long, c.calc_size.ensures)
+overflow_add-past-in-loop-k c = let z = recs-room _ _ _ _ _ _ _ (one _ _ _ _ _ _ c.loop-k.invariant.0.same c.next_of-st.ensures _ _ c.in-Some.is) _ c.loop-k-test.true _ _ _ _ _ c.loop-k.invariant.0 in omega (arith, c.well_formed.0, c.loop-k.invariant.0.long, c.calc_size.ensures)
 
 pub remote_len-requires : goal.remote_len-requires
-remote_len-requires c = (one _ _ _ _ _ _ c.loop-k.invariant.0.same c.next_of-st.ensures _ _ c.in-One.is).placed.vsmall
+remote_len-requires c = (one _ _ _ _ _ _ c.loop-k.invariant.0.same c.next_of-st.ensures _ _ c.in-Some.is).placed.vsmall
 
 pub overflow_add-beyond : goal.overflow_add-beyond
-overflow_add-beyond c = let z = remotes-found _ _ _ _ _ _ (one _ _ _ _ _ _ c.loop-k.invariant.0.same c.next_of-st.ensures _ _ c.in-One.is) _ c.loop-k-test.true c.args.limit in let v = c.loop-k.invariant.1 in omega (arith, c.well_formed.0, c.remote_len.ensures)
+overflow_add-beyond c = let z = remotes-found _ _ _ _ _ _ (one _ _ _ _ _ _ c.loop-k.invariant.0.same c.next_of-st.ensures _ _ c.in-Some.is) _ c.loop-k-test.true c.args.limit in let v = c.loop-k.invariant.1 in omega (arith, c.well_formed.0, c.remote_len.ensures)
 
 pub old_rec-requires : goal.old_rec-requires
-old_rec-requires c = let all = recs_asks _ _ _ _ _ _ _ (one _ _ _ _ _ _ c.loop-k.invariant.0.same c.next_of-st.ensures _ _ c.in-One.is) _ c.loop-k-test.true _ _ _ _ _ c.loop-k.invariant.0 in record {
+old_rec-requires c = let all = recs_asks _ _ _ _ _ _ _ (one _ _ _ _ _ _ c.loop-k.invariant.0.same c.next_of-st.ensures _ _ c.in-Some.is) _ c.loop-k-test.true _ _ _ _ _ c.loop-k.invariant.0 in record {
   footing_le_at = all.0;
   placed = all.1.0;
   i_in_bounds = all.1.1;
 }
 
 pub loop-k-preserved : goal.loop-k-preserved
-loop-k-preserved c = let z = remotes-found _ _ _ _ _ _ (one _ _ _ _ _ _ c.loop-k.invariant.0.same c.next_of-st.ensures _ _ c.in-One.is) _ c.loop-k-test.true c.args.limit in
+loop-k-preserved c = let z = remotes-found _ _ _ _ _ _ (one _ _ _ _ _ _ c.loop-k.invariant.0.same c.next_of-st.ensures _ _ c.in-Some.is) _ c.loop-k-test.true c.args.limit in
     let v = c.loop-k.invariant.1 in
-    (recs_turn _ _ _ _ _ _ _ (one _ _ _ _ _ _ c.loop-k.invariant.0.same c.next_of-st.ensures _ _ c.in-One.is) _ c.loop-k-test.true _ _ _ _ _ c.loop-k.invariant.0 _ _ _ c.old_rec.ensures c.calc_size.ensures c.remote_len.ensures, omega (arith, c.remote_len.ensures, z, v))
+    (recs_turn _ _ _ _ _ _ _ (one _ _ _ _ _ _ c.loop-k.invariant.0.same c.next_of-st.ensures _ _ c.in-Some.is) _ c.loop-k-test.true _ _ _ _ _ c.loop-k.invariant.0 _ _ _ c.old_rec.ensures c.calc_size.ensures c.remote_len.ensures, omega (arith, c.remote_len.ensures, z, v))
 
 pub shape_of-a : goal.shape_of-a
 shape_of-a c = c.loop-k.invariant.0.long

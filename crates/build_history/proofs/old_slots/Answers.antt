@@ -29,24 +29,24 @@ pub overflow_cast-off : goal.overflow_cast-off
 overflow_cast-off c = let v = c.loop-k.invariant.1 in omega arith
 
 pub put_u32-requires : goal.put_u32-requires
-put_u32-requires c = slot-room _ _ _ _ _ _ (one _ _ _ _ _ _ c.loop-k.invariant.0.same c.next_of-st.ensures _ _ c.in-One.is) _ c.loop-k-test.true _ _ _ _ _ _ _ c.loop-k.invariant.0
+put_u32-requires c = slot-room _ _ _ _ _ _ (one _ _ _ _ _ _ c.loop-k.invariant.0.same c.next_of-st.ensures _ _ c.in-Some.is) _ c.loop-k-test.true _ _ _ _ _ _ _ c.loop-k.invariant.0
 
 pub overflow_add-to : goal.overflow_add-to
-overflow_add-to c = let z = slot-room _ _ _ _ _ _ (one _ _ _ _ _ _ c.loop-k.invariant.0.same c.next_of-st.ensures _ _ c.in-One.is) _ c.loop-k-test.true _ _ _ _ _ _ _ c.loop-k.invariant.0 in omega arith
+overflow_add-to c = let z = slot-room _ _ _ _ _ _ (one _ _ _ _ _ _ c.loop-k.invariant.0.same c.next_of-st.ensures _ _ c.in-Some.is) _ c.loop-k-test.true _ _ _ _ _ _ _ c.loop-k.invariant.0 in omega arith
 
 pub overflow_cast-i : goal.overflow_cast-i
-overflow_cast-i c = let z = (one _ _ _ _ _ _ c.loop-k.invariant.0.same c.next_of-st.ensures _ _ c.in-One.is).placed.vsmall in omega arith
+overflow_cast-i c = let z = (one _ _ _ _ _ _ c.loop-k.invariant.0.same c.next_of-st.ensures _ _ c.in-Some.is).placed.vsmall in omega arith
 
 pub overflow_add-off : goal.overflow_add-off
-overflow_add-off c = let z = costs_found _ _ _ _ _ _ (one _ _ _ _ _ _ c.loop-k.invariant.0.same c.next_of-st.ensures _ _ c.in-One.is) _ c.loop-k-test.true c.args.limit in let v = c.loop-k.invariant.1 in omega (arith, c.calc_size.ensures)
+overflow_add-off c = let z = costs_found _ _ _ _ _ _ (one _ _ _ _ _ _ c.loop-k.invariant.0.same c.next_of-st.ensures _ _ c.in-Some.is) _ c.loop-k-test.true c.args.limit in let v = c.loop-k.invariant.1 in omega (arith, c.calc_size.ensures)
 
 pub overflow_add-off-in-loop-k : goal.overflow_add-off-in-loop-k
-overflow_add-off-in-loop-k c = let z = costs_found _ _ _ _ _ _ (one _ _ _ _ _ _ c.loop-k.invariant.0.same c.next_of-st.ensures _ _ c.in-One.is) _ c.loop-k-test.true c.args.limit in let v = c.loop-k.invariant.1 in omega (arith, c.calc_size.ensures)
+overflow_add-off-in-loop-k c = let z = costs_found _ _ _ _ _ _ (one _ _ _ _ _ _ c.loop-k.invariant.0.same c.next_of-st.ensures _ _ c.in-Some.is) _ c.loop-k-test.true c.args.limit in let v = c.loop-k.invariant.1 in omega (arith, c.calc_size.ensures)
 
 pub loop-k-preserved : goal.loop-k-preserved
-loop-k-preserved c = let z = costs_found _ _ _ _ _ _ (one _ _ _ _ _ _ c.loop-k.invariant.0.same c.next_of-st.ensures _ _ c.in-One.is) _ c.loop-k-test.true c.args.limit in
+loop-k-preserved c = let z = costs_found _ _ _ _ _ _ (one _ _ _ _ _ _ c.loop-k.invariant.0.same c.next_of-st.ensures _ _ c.in-Some.is) _ c.loop-k-test.true c.args.limit in
     let v = c.loop-k.invariant.1 in
-    (slot_turn _ _ _ _ _ _ (one _ _ _ _ _ _ c.loop-k.invariant.0.same c.next_of-st.ensures _ _ c.in-One.is) _ c.loop-k-test.true _ _ _ _ _ _ _ c.loop-k.invariant.0 _ _ c.put_u32.ensures c.calc_size.ensures, omega (arith, c.calc_size.ensures, z, v))
+    (slot_turn _ _ _ _ _ _ (one _ _ _ _ _ _ c.loop-k.invariant.0.same c.next_of-st.ensures _ _ c.in-Some.is) _ c.loop-k-test.true _ _ _ _ _ _ _ c.loop-k.invariant.0 _ _ c.put_u32.ensures c.calc_size.ensures, omega (arith, c.calc_size.ensures, z, v))
 
 pub shape_of-a : goal.shape_of-a
 shape_of-a c = c.loop-k.invariant.0.long

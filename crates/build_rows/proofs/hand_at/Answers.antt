@@ -14,6 +14,6 @@ returns-in_default c = absurd (opens-some c.args.s.now c.args.a c.requires.opens
 
 pub returns : goal.returns
 returns c = record {
-  holds = hold_new c.args.s.now c.args.a c.in-Is.b (sym c.history_at.ensures ∙ c.in-Is.is);
+  holds = hold_new c.args.s.now c.args.a c.in-Some.b (sym c.history_at.ensures ∙ c.in-Some.is);
   page_value = refl;
 }

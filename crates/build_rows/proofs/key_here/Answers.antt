@@ -36,10 +36,10 @@ pub returns-in_default : goal.returns-in_default
 returns-in_default c = absurd (not_bad c.args.s.now c.args.b c.args.i c.requires (sym c.rec_at.ensures ∙ c.in_default.is))
 
 pub overflow_sub-result : goal.overflow_sub-result
-overflow_sub-result c = (rec-room c.args.s.now c.args.b c.args.i c.requires c.in-Is.r (sym c.rec_at.ensures ∙ c.in-Is.is)).0
+overflow_sub-result c = (rec-room c.args.s.now c.args.b c.args.i c.requires c.in-Some.r (sym c.rec_at.ensures ∙ c.in-Some.is)).0
 
 pub overflow_add-result-2 : goal.overflow_add-result-2
-overflow_add-result-2 c = omega (arith, c.well_formed, c.ranges, rec-room c.args.s.now c.args.b c.args.i c.requires c.in-Is.r (sym c.rec_at.ensures ∙ c.in-Is.is))
+overflow_add-result-2 c = omega (arith, c.well_formed, c.ranges, rec-room c.args.s.now c.args.b c.args.i c.requires c.in-Some.r (sym c.rec_at.ensures ∙ c.in-Some.is))
 
 pub returns : goal.returns
-returns c = long-here c.args.s.now c.args.b c.args.i c.requires c.in-Is.r (sym c.rec_at.ensures ∙ c.in-Is.is)
+returns c = long-here c.args.s.now c.args.b c.args.i c.requires c.in-Some.r (sym c.rec_at.ensures ∙ c.in-Some.is)

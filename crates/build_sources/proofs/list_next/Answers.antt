@@ -13,4 +13,4 @@ returns-in_default c = rw (lt-leb _ _ c.if-list-at.false) (ap (step_of c.args.c)
 
 pub returns : goal.returns
 unfolding list_next step_of
-returns c = rw (lt-leb _ _ c.if-list-at.false) (ap (step_of c.args.c) (sym c.in-At.is ∙ c.spot_at.ensures))
+returns c = rw (lt-leb _ _ c.if-list-at.false) (ap (step_of c.args.c) (sym c.in-Some.is ∙ c.spot_at.ensures))

@@ -15,4 +15,4 @@ returns-in_default c = ap (step_of c.args.c) (sym c.in_default.is ∙ c.record_a
 
 pub returns : goal.returns
 unfolding step_of
-returns c = walk_kept c.args.c _ _ _ c.apart-walk.ensures ∙ ap (step_of c.args.c) (sym c.in-At.is ∙ c.record_at.ensures ∙ record_bare c.args.list.now c.args.c) ∙ record_on c.args.list.now c.args.footing.now c.args.c c.if-c-ne-RECORDS.false c.if-list-c.false
+returns c = walk_kept c.args.c _ _ _ c.apart-walk.ensures ∙ ap (step_of c.args.c) (sym c.in-Some.is ∙ c.record_at.ensures ∙ record_bare c.args.list.now c.args.c) ∙ record_on c.args.list.now c.args.footing.now c.args.c c.if-c-ne-RECORDS.false c.if-list-c.false

@@ -12,4 +12,4 @@ returns-in_default c = simp (ne_eqb _ _ c.if-then-eq0.false, ← c.page_first.en
 
 pub returns : goal.returns
 unfolding turned
-returns c = simp (ne_eqb _ _ c.if-then-eq0.false, ← c.page_first.ensures, c.in-From.is, c.walk_next.ensures)
+returns c = simp (ne_eqb _ _ c.if-then-eq0.false, ← c.page_first.ensures, c.in-Some.is, c.walk_next.ensures)

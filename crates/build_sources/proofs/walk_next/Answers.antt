@@ -11,18 +11,18 @@ pub returns-then-w-gt4294967295 : goal.returns-then-w-gt4294967295
 unfolding walked
 returns-then-w-gt4294967295 c = simp (le-leb _ _ c.if-w-gt-MAX_ENTRIES.false, lt-leb _ _ c.if-w-gt4294967295.true)
 
-pub returns-in-Found : goal.returns-in-Found
+pub returns-in-Ok-Found : goal.returns-in-Ok-Found
 unfolding walked
-returns-in-Found c = rw (le-leb _ _ c.if-w-gt-MAX_ENTRIES.false, le-leb _ _ c.if-w-gt4294967295.false) (c.item_at.ensures ∙ ap (walked_of _ _) (sym c.in-Found.is ∙ c.step-st.ensures))
+returns-in-Ok-Found c = rw (le-leb _ _ c.if-w-gt-MAX_ENTRIES.false, le-leb _ _ c.if-w-gt4294967295.false) (c.item_at.ensures ∙ ap (walked_of _ _) (sym c.in-Ok-Found.is ∙ c.step-st.ensures))
 
-pub returns-in-Leads : goal.returns-in-Leads
+pub returns-in-Ok-Leads : goal.returns-in-Ok-Leads
 unfolding walked
-returns-in-Leads c = rw (le-leb _ _ c.if-w-gt-MAX_ENTRIES.false, le-leb _ _ c.if-w-gt4294967295.false) (rw c.new.ensures at c.item_at-in-Leads.ensures ∙ ap (walked_of _ _) (sym c.in-Leads.is ∙ c.step-st.ensures))
+returns-in-Ok-Leads c = rw (le-leb _ _ c.if-w-gt-MAX_ENTRIES.false, le-leb _ _ c.if-w-gt4294967295.false) (rw c.new.ensures at c.item_at-in-Ok-Leads.ensures ∙ ap (walked_of _ _) (sym c.in-Ok-Leads.is ∙ c.step-st.ensures))
 
-pub returns-in-End : goal.returns-in-End
+pub returns-in-Ok-End : goal.returns-in-Ok-End
 unfolding walked
-returns-in-End c = rw (le-leb _ _ c.if-w-gt-MAX_ENTRIES.false, le-leb _ _ c.if-w-gt4294967295.false) (ap (walked_of _ _) (sym c.in-End.is ∙ c.step-st.ensures))
+returns-in-Ok-End c = rw (le-leb _ _ c.if-w-gt-MAX_ENTRIES.false, le-leb _ _ c.if-w-gt4294967295.false) (ap (walked_of _ _) (sym c.in-Ok-End.is ∙ c.step-st.ensures))
 
-pub returns-in-Refused : goal.returns-in-Refused
+pub returns-in-Err : goal.returns-in-Err
 unfolding walked
-returns-in-Refused c = rw (le-leb _ _ c.if-w-gt-MAX_ENTRIES.false, le-leb _ _ c.if-w-gt4294967295.false) (ap (walked_of _ _) (sym c.in-Refused.is ∙ c.step-st.ensures))
+returns-in-Err c = rw (le-leb _ _ c.if-w-gt-MAX_ENTRIES.false, le-leb _ _ c.if-w-gt4294967295.false) (ap (walked_of _ _) (sym c.in-Err.is ∙ c.step-st.ensures))

@@ -8,4 +8,4 @@ returns-in_default c = ap (whole_of _ _) (sym c.in_default.is ∙ c.open_at.ensu
 
 pub returns : goal.returns
 unfolding whole_at
-returns c = c.forward.ensures ∙ ap (whole_of _ _) (sym c.in-Is.is ∙ c.open_at.ensures)
+returns c = c.forward.ensures ∙ ap (whole_of _ _) (sym c.in-Some.is ∙ c.open_at.ensures)

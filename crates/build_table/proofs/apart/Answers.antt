@@ -23,4 +23,4 @@ outside-requires c = record {
 }
 
 pub returns : goal.returns
-returns c = c.outside.ensures ∙ sym (ap (λ (t : Bool). cond t (outside_of (take c.args.e.prefix (boundary_bytes c.args.lo.now c.args.footing.now c.args.e.lo)) (entries c.args.list.now c.args.footing.now c.args.from)) OutOfOrder) (risen_up _ _ _ _ _ (sym c.in-Up.is ∙ c.rises.ensures)).up)
+returns c = c.outside.ensures ∙ sym (ap (λ (t : Bool). cond t (outside_of (take c.args.e.prefix (boundary_bytes c.args.lo.now c.args.footing.now c.args.e.lo)) (entries c.args.list.now c.args.footing.now c.args.from)) OutOfOrder) (risen_up _ _ _ _ _ (sym c.in-Some.is ∙ c.rises.ensures)).up)

@@ -21,24 +21,24 @@ judge_index_list-v-requires c = record {
 
 pub write_list-requires : goal.write_list-requires
 write_list-requires c = record {
-  first_of_value = index_fit_well c.args.a.now c.args.list.now c.args.next c.args.m c.args.lo.now c.args.hi.now c.args.e c.requires.next_in_bounds c.requires.held _ c.judge_index_list-v.ensures _ _ c.in-Fits.is;
-  ready = index_fit_ready c.args.a.now c.args.list.now c.args.next c.args.m c.args.lo.now c.args.hi.now c.args.e c.requires.next_in_bounds c.requires.held _ c.judge_index_list-v.ensures _ _ c.in-Fits.is;
+  first_of_value = index_fit_well c.args.a.now c.args.list.now c.args.next c.args.m c.args.lo.now c.args.hi.now c.args.e c.requires.next_in_bounds c.requires.held _ c.judge_index_list-v.ensures _ _ c.in-Ok.is;
+  ready = index_fit_ready c.args.a.now c.args.list.now c.args.next c.args.m c.args.lo.now c.args.hi.now c.args.e c.requires.next_in_bounds c.requires.held _ c.judge_index_list-v.ensures _ _ c.in-Ok.is;
 }
 
 pub overflow_cast-size : goal.overflow_cast-size
-overflow_cast-size c = let z = (index_fit_ready c.args.a.now c.args.list.now c.args.next c.args.m c.args.lo.now c.args.hi.now c.args.e c.requires.next_in_bounds c.requires.held _ c.judge_index_list-v.ensures _ _ c.in-Fits.is).small in omega (arith, z)
+overflow_cast-size c = let z = (index_fit_ready c.args.a.now c.args.list.now c.args.next c.args.m c.args.lo.now c.args.hi.now c.args.e c.requires.next_in_bounds c.requires.held _ c.judge_index_list-v.ensures _ _ c.in-Ok.is).small in omega (arith, z)
 
 pub overflow_add-result : goal.overflow_add-result
-overflow_add-result c = let z = (index_fit_ready c.args.a.now c.args.list.now c.args.next c.args.m c.args.lo.now c.args.hi.now c.args.e c.requires.next_in_bounds c.requires.held _ c.judge_index_list-v.ensures _ _ c.in-Fits.is).room in omega (arith, z, c.frame_len.ensures, c.well_formed.0)
+overflow_add-result c = let z = (index_fit_ready c.args.a.now c.args.list.now c.args.next c.args.m c.args.lo.now c.args.hi.now c.args.e c.requires.next_in_bounds c.requires.held _ c.judge_index_list-v.ensures _ _ c.in-Ok.is).room in omega (arith, z, c.frame_len.ensures, c.well_formed.0)
 
-pub returns-in-No : goal.returns-in-No
-returns-in-No c = let all = index_list_refused c.args.a.now c.args.list.now c.args.next c.args.m c.args.lo.now c.args.hi.now c.args.e c.requires.next_in_bounds c.requires.held _ c.judge_index_list-v.ensures _ c.in-No.is in record {
+pub returns-in-Err : goal.returns-in-Err
+returns-in-Err c = let all = index_list_refused c.args.a.now c.args.list.now c.args.next c.args.m c.args.lo.now c.args.hi.now c.args.e c.requires.next_in_bounds c.requires.held _ c.judge_index_list-v.ensures _ c.in-Err.is in record {
   value = all.0;
   a_after = all.1;
 }
 
-pub returns-in-Fits : goal.returns-in-Fits
-returns-in-Fits c = let all = index_fit_built c.args.a.now c.args.list.now c.args.next c.args.m c.args.lo.now c.args.hi.now c.args.e c.requires.next_in_bounds c.requires.held _ c.judge_index_list-v.ensures _ _ c.in-Fits.is _ _ c.write_list.ensures c.frame_len.ensures in record {
+pub returns-in-Ok : goal.returns-in-Ok
+returns-in-Ok c = let all = index_fit_built c.args.a.now c.args.list.now c.args.next c.args.m c.args.lo.now c.args.hi.now c.args.e c.requires.next_in_bounds c.requires.held _ c.judge_index_list-v.ensures _ _ c.in-Ok.is _ _ c.write_list.ensures c.frame_len.ensures in record {
   value = all.0;
   a_after = all.1;
 }

@@ -25,23 +25,23 @@ pub write_pages-requires : goal.write_pages-requires
 write_pages-requires c = record {
   judged = c.requires.judged;
   from_le_end = c.requires.from_le_end;
-  ready = index_ready _ _ c.args.m _ _ _ _ c.requires.next_in_bounds c.requires.held _ c.judge_indexes-v.ensures _ _ c.in-Fits.is;
+  ready = index_ready _ _ c.args.m _ _ _ _ c.requires.next_in_bounds c.requires.held _ c.judge_indexes-v.ensures _ _ c.in-Ok.is;
 }
 
 pub overflow_cast-size : goal.overflow_cast-size
-overflow_cast-size c = omega (arith, index_small _ _ c.args.m _ _ _ _ c.requires.next_in_bounds c.requires.held _ c.judge_indexes-v.ensures _ _ c.in-Fits.is)
+overflow_cast-size c = omega (arith, index_small _ _ c.args.m _ _ _ _ c.requires.next_in_bounds c.requires.held _ c.judge_indexes-v.ensures _ _ c.in-Ok.is)
 
 pub overflow_add-result : goal.overflow_add-result
-overflow_add-result c = omega (arith, (index_ready _ _ c.args.m _ _ _ _ c.requires.next_in_bounds c.requires.held _ c.judge_indexes-v.ensures _ _ c.in-Fits.is).room, c.frame_len.ensures, c.well_formed.0)
+overflow_add-result c = omega (arith, (index_ready _ _ c.args.m _ _ _ _ c.requires.next_in_bounds c.requires.held _ c.judge_indexes-v.ensures _ _ c.in-Ok.is).room, c.frame_len.ensures, c.well_formed.0)
 
-pub returns-in-No : goal.returns-in-No
-returns-in-No c = let all = index_refused _ _ c.args.m _ _ _ _ c.requires.next_in_bounds c.requires.held _ c.judge_indexes-v.ensures _ c.in-No.is in record {
+pub returns-in-Err : goal.returns-in-Err
+returns-in-Err c = let all = index_refused _ _ c.args.m _ _ _ _ c.requires.next_in_bounds c.requires.held _ c.judge_indexes-v.ensures _ c.in-Err.is in record {
   value = all.0;
   a_after = all.1;
 }
 
-pub returns-in-Fits : goal.returns-in-Fits
-returns-in-Fits c = let all = index_built_lem _ _ c.args.m _ _ _ _ c.requires.next_in_bounds c.requires.held _ c.judge_indexes-v.ensures _ _ c.in-Fits.is _ _ c.write_pages.ensures c.frame_len.ensures in record {
+pub returns-in-Ok : goal.returns-in-Ok
+returns-in-Ok c = let all = index_built_lem _ _ c.args.m _ _ _ _ c.requires.next_in_bounds c.requires.held _ c.judge_indexes-v.ensures _ _ c.in-Ok.is _ _ c.write_pages.ensures c.frame_len.ensures in record {
   value = all.0;
   a_after = all.1;
 }

@@ -24,24 +24,24 @@ pub write_leaves-leaf-requires : goal.write_leaves-leaf-requires
 write_leaves-leaf-requires c = record {
   footing_le_at = omega arith;
   sane = c.requires.sane;
-  small = leaf_small c.args.a.now c.args.next c.args.m c.args.none.now c.args.none.now c.args.e c.requires.leaves.held (in_leaves (take c.args.next c.args.a.now) c.args.b c.args.from c.args.end c.args.d c.args.n) _ c.judge_leaves-v.ensures _ c.in-Fits.is;
+  small = leaf_small c.args.a.now c.args.next c.args.m c.args.none.now c.args.none.now c.args.e c.requires.leaves.held (in_leaves (take c.args.next c.args.a.now) c.args.b c.args.from c.args.end c.args.d c.args.n) _ c.judge_leaves-v.ensures _ c.in-Ok.is;
   both_within = c.requires.leaves.held.inside;
   judged = (c.requires.leaves.left, c.requires.leaves.right);
   end_le_elems = (c.requires.leaves.end_in, c.requires.leaves.n_in);
-  long = leaf_long c.args.a.now c.args.next c.args.m c.args.none.now c.args.none.now c.args.e c.requires.leaves.held (in_leaves (take c.args.next c.args.a.now) c.args.b c.args.from c.args.end c.args.d c.args.n) _ c.judge_leaves-v.ensures _ c.in-Fits.is;
-  n_len_bound = leaf_few c.args.a.now c.args.next c.args.m c.args.none.now c.args.none.now c.args.e c.requires.leaves.held (in_leaves (take c.args.next c.args.a.now) c.args.b c.args.from c.args.end c.args.d c.args.n) _ c.judge_leaves-v.ensures _ c.in-Fits.is;
-  t_value = leaf_totals c.args.a.now c.args.next c.args.m c.args.none.now c.args.none.now c.args.e c.requires.leaves.held (in_leaves (take c.args.next c.args.a.now) c.args.b c.args.from c.args.end c.args.d c.args.n) _ c.judge_leaves-v.ensures _ c.in-Fits.is;
-  end_in_bounds = leaf_room_lem c.args.a.now c.args.next c.args.m c.args.none.now c.args.none.now c.args.e c.requires.leaves.held (in_leaves (take c.args.next c.args.a.now) c.args.b c.args.from c.args.end c.args.d c.args.n) _ c.judge_leaves-v.ensures _ c.in-Fits.is;
+  long = leaf_long c.args.a.now c.args.next c.args.m c.args.none.now c.args.none.now c.args.e c.requires.leaves.held (in_leaves (take c.args.next c.args.a.now) c.args.b c.args.from c.args.end c.args.d c.args.n) _ c.judge_leaves-v.ensures _ c.in-Ok.is;
+  n_len_bound = leaf_few c.args.a.now c.args.next c.args.m c.args.none.now c.args.none.now c.args.e c.requires.leaves.held (in_leaves (take c.args.next c.args.a.now) c.args.b c.args.from c.args.end c.args.d c.args.n) _ c.judge_leaves-v.ensures _ c.in-Ok.is;
+  t_value = leaf_totals c.args.a.now c.args.next c.args.m c.args.none.now c.args.none.now c.args.e c.requires.leaves.held (in_leaves (take c.args.next c.args.a.now) c.args.b c.args.from c.args.end c.args.d c.args.n) _ c.judge_leaves-v.ensures _ c.in-Ok.is;
+  end_in_bounds = leaf_room_lem c.args.a.now c.args.next c.args.m c.args.none.now c.args.none.now c.args.e c.requires.leaves.held (in_leaves (take c.args.next c.args.a.now) c.args.b c.args.from c.args.end c.args.d c.args.n) _ c.judge_leaves-v.ensures _ c.in-Ok.is;
 }
 
-pub returns-in-No : goal.returns-in-No
-returns-in-No c = let all = leaf_refused c.args.a.now c.args.next c.args.m c.args.none.now c.args.none.now c.args.e c.requires.leaves.held (in_leaves (take c.args.next c.args.a.now) c.args.b c.args.from c.args.end c.args.d c.args.n) _ c.judge_leaves-v.ensures _ c.in-No.is in record {
+pub returns-in-Err : goal.returns-in-Err
+returns-in-Err c = let all = leaf_refused c.args.a.now c.args.next c.args.m c.args.none.now c.args.none.now c.args.e c.requires.leaves.held (in_leaves (take c.args.next c.args.a.now) c.args.b c.args.from c.args.end c.args.d c.args.n) _ c.judge_leaves-v.ensures _ c.in-Err.is in record {
   value = all.0;
   a_after = all.1;
 }
 
-pub returns-in-Fits : goal.returns-in-Fits
-returns-in-Fits c = let all = leaf_built_lem c.args.a.now c.args.next c.args.m c.args.none.now c.args.none.now c.args.e c.requires.leaves.held (in_leaves (take c.args.next c.args.a.now) c.args.b c.args.from c.args.end c.args.d c.args.n) _ c.judge_leaves-v.ensures _ c.in-Fits.is _ _ c.write_leaves-leaf.ensures.value c.write_leaves-leaf.ensures.a_after in record {
+pub returns-in-Ok : goal.returns-in-Ok
+returns-in-Ok c = let all = leaf_built_lem c.args.a.now c.args.next c.args.m c.args.none.now c.args.none.now c.args.e c.requires.leaves.held (in_leaves (take c.args.next c.args.a.now) c.args.b c.args.from c.args.end c.args.d c.args.n) _ c.judge_leaves-v.ensures _ c.in-Ok.is _ _ c.write_leaves-leaf.ensures.value c.write_leaves-leaf.ensures.a_after in record {
   value = all.0;
   a_after = all.1;
 }

@@ -24,23 +24,23 @@ pub write_list-leaf-requires : goal.write_list-leaf-requires
 write_list-leaf-requires c = record {
   footing_le_at = omega arith;
   sane = c.requires.sane;
-  small = fit_small c.args.a.now c.args.list.now c.args.next c.args.m c.args.lo.now c.args.hi.now c.args.e c.requires.held _ c.judge_list-v.ensures _ c.in-Fits.is;
+  small = fit_small c.args.a.now c.args.list.now c.args.next c.args.m c.args.lo.now c.args.hi.now c.args.e c.requires.held _ c.judge_list-v.ensures _ c.in-Ok.is;
   both_within = c.requires.held.inside;
-  well = fit_well c.args.a.now c.args.list.now c.args.next c.args.m c.args.lo.now c.args.hi.now c.args.e c.requires.held _ c.judge_list-v.ensures _ c.in-Fits.is;
-  long = fit_long c.args.a.now c.args.list.now c.args.next c.args.m c.args.lo.now c.args.hi.now c.args.e c.requires.held _ c.judge_list-v.ensures _ c.in-Fits.is;
-  list_len_bound = fit_few c.args.a.now c.args.list.now c.args.next c.args.m c.args.lo.now c.args.hi.now c.args.e c.requires.held _ c.judge_list-v.ensures _ c.in-Fits.is;
-  t_value = fit_totals c.args.a.now c.args.list.now c.args.next c.args.m c.args.lo.now c.args.hi.now c.args.e c.requires.held _ c.judge_list-v.ensures _ c.in-Fits.is;
-  end_in_bounds = fit_room c.args.a.now c.args.list.now c.args.next c.args.m c.args.lo.now c.args.hi.now c.args.e c.requires.held _ c.judge_list-v.ensures _ c.in-Fits.is;
+  well = fit_well c.args.a.now c.args.list.now c.args.next c.args.m c.args.lo.now c.args.hi.now c.args.e c.requires.held _ c.judge_list-v.ensures _ c.in-Ok.is;
+  long = fit_long c.args.a.now c.args.list.now c.args.next c.args.m c.args.lo.now c.args.hi.now c.args.e c.requires.held _ c.judge_list-v.ensures _ c.in-Ok.is;
+  list_len_bound = fit_few c.args.a.now c.args.list.now c.args.next c.args.m c.args.lo.now c.args.hi.now c.args.e c.requires.held _ c.judge_list-v.ensures _ c.in-Ok.is;
+  t_value = fit_totals c.args.a.now c.args.list.now c.args.next c.args.m c.args.lo.now c.args.hi.now c.args.e c.requires.held _ c.judge_list-v.ensures _ c.in-Ok.is;
+  end_in_bounds = fit_room c.args.a.now c.args.list.now c.args.next c.args.m c.args.lo.now c.args.hi.now c.args.e c.requires.held _ c.judge_list-v.ensures _ c.in-Ok.is;
 }
 
-pub returns-in-No : goal.returns-in-No
-returns-in-No c = let all = leaf_list_refused c.args.a.now c.args.list.now c.args.next c.args.m c.args.lo.now c.args.hi.now c.args.e c.requires.held _ c.judge_list-v.ensures _ c.in-No.is in record {
+pub returns-in-Err : goal.returns-in-Err
+returns-in-Err c = let all = leaf_list_refused c.args.a.now c.args.list.now c.args.next c.args.m c.args.lo.now c.args.hi.now c.args.e c.requires.held _ c.judge_list-v.ensures _ c.in-Err.is in record {
   value = all.0;
   a_after = all.1;
 }
 
-pub returns-in-Fits : goal.returns-in-Fits
-returns-in-Fits c = let all = fit_built c.args.a.now c.args.list.now c.args.next c.args.m c.args.lo.now c.args.hi.now c.args.e c.requires.held _ c.judge_list-v.ensures _ c.in-Fits.is _ _ c.write_list-leaf.ensures.value c.write_list-leaf.ensures.a_after in record {
+pub returns-in-Ok : goal.returns-in-Ok
+returns-in-Ok c = let all = fit_built c.args.a.now c.args.list.now c.args.next c.args.m c.args.lo.now c.args.hi.now c.args.e c.requires.held _ c.judge_list-v.ensures _ c.in-Ok.is _ _ c.write_list-leaf.ensures.value c.write_list-leaf.ensures.a_after in record {
   value = all.0;
   a_after = all.1;
 }

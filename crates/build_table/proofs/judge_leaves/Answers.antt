@@ -19,21 +19,21 @@ sweep_page-y-requires c = record {
   limit_le_max_limit = (c.requires.sane.limit, c.requires.sane.budget);
   judged = c.requires.leaves.right;
   end_le_elems = c.requires.leaves.n_in;
-  due = due-second c.args.none.now c.args.footing.now c.args.b c.args.from c.args.end c.args.d c.args.n c.args.len c.args.next c.args.m c.args.e c.requires.leaves (omega (arith, c.requires.next_le_len.0, c.requires.next_le_len.1)) _ _ (swept_fits _ _ _ _ _ _ _ _ _ _ _ _ c.sweep_page-x.ensures c.in-Fits.is);
+  due = due-second c.args.none.now c.args.footing.now c.args.b c.args.from c.args.end c.args.d c.args.n c.args.len c.args.next c.args.m c.args.e c.requires.leaves (omega (arith, c.requires.next_le_len.0, c.requires.next_le_len.1)) _ _ (swept_fits _ _ _ _ _ _ _ _ _ _ _ _ c.sweep_page-x.ensures c.in-Some.is);
 }
 
 pub returns-in_default-y : goal.returns-in_default-y
-returns-in_default-y c = many-second c.args.none.now c.args.footing.now c.args.b c.args.from c.args.end c.args.d c.args.n c.args.len c.args.next c.args.m c.args.e c.requires.leaves (omega (arith, c.requires.next_le_len.0, c.requires.next_le_len.1)) _ _ (swept_fits _ _ _ _ _ _ _ _ _ _ _ _ c.sweep_page-x.ensures c.in-Fits.is) (swept_many _ _ _ _ _ _ _ _ _ _ c.sweep_page-y.ensures c.in_default-y.is)
+returns-in_default-y c = many-second c.args.none.now c.args.footing.now c.args.b c.args.from c.args.end c.args.d c.args.n c.args.len c.args.next c.args.m c.args.e c.requires.leaves (omega (arith, c.requires.next_le_len.0, c.requires.next_le_len.1)) _ _ (swept_fits _ _ _ _ _ _ _ _ _ _ _ _ c.sweep_page-x.ensures c.in-Some.is) (swept_many _ _ _ _ _ _ _ _ _ _ c.sweep_page-y.ensures c.in_default-y.is)
 
 pub closed-requires : goal.closed-requires
-closed-requires c = third_slim c.args.none.now c.args.footing.now c.args.b c.args.from c.args.end c.args.d c.args.n c.args.len c.args.next c.args.m c.args.e c.requires.leaves (omega (arith, c.requires.next_le_len.0, c.requires.next_le_len.1)) _ _ (swept_fits _ _ _ _ _ _ _ _ _ _ _ _ c.sweep_page-x.ensures c.in-Fits.is) _ _ (swept_fits _ _ _ _ _ _ _ _ _ _ _ _ c.sweep_page-y.ensures c.in-Fits-y.is)
+closed-requires c = third_slim c.args.none.now c.args.footing.now c.args.b c.args.from c.args.end c.args.d c.args.n c.args.len c.args.next c.args.m c.args.e c.requires.leaves (omega (arith, c.requires.next_le_len.0, c.requires.next_le_len.1)) _ _ (swept_fits _ _ _ _ _ _ _ _ _ _ _ _ c.sweep_page-x.ensures c.in-Some.is) _ _ (swept_fits _ _ _ _ _ _ _ _ _ _ _ _ c.sweep_page-y.ensures c.in-Some-y.is)
 
 pub weigh-requires : goal.weigh-requires
-weigh-requires c = let z = summed c.args.none.now c.args.footing.now c.args.b c.args.from c.args.end c.args.d c.args.n c.args.len c.args.next c.args.m c.args.e c.requires.leaves (omega (arith, c.requires.next_le_len.0, c.requires.next_le_len.1)) _ _ (swept_fits _ _ _ _ _ _ _ _ _ _ _ _ c.sweep_page-x.ensures c.in-Fits.is) _ _ (swept_fits _ _ _ _ _ _ _ _ _ _ _ _ c.sweep_page-y.ensures c.in-Fits-y.is) _ c.closed.ensures in record {
+weigh-requires c = let z = summed c.args.none.now c.args.footing.now c.args.b c.args.from c.args.end c.args.d c.args.n c.args.len c.args.next c.args.m c.args.e c.requires.leaves (omega (arith, c.requires.next_le_len.0, c.requires.next_le_len.1)) _ _ (swept_fits _ _ _ _ _ _ _ _ _ _ _ _ c.sweep_page-x.ensures c.in-Some.is) _ _ (swept_fits _ _ _ _ _ _ _ _ _ _ _ _ c.sweep_page-y.ensures c.in-Some-y.is) _ c.closed.ensures in record {
   x_le_max_key = (c.requires.leaves.held.footing, c.requires.leaves.held.high);
   bounded = z.bounded;
   end_bound = (omega (arith, z.end, c.requires.next_le_len.0, c.requires.next_le_len.1), z.count);
 }
 
 pub returns : goal.returns
-returns c = leaves-weighed c.args.none.now c.args.footing.now c.args.b c.args.from c.args.end c.args.d c.args.n c.args.len c.args.next c.args.m c.args.e c.requires.leaves (omega (arith, c.requires.next_le_len.0, c.requires.next_le_len.1)) _ _ (swept_fits _ _ _ _ _ _ _ _ _ _ _ _ c.sweep_page-x.ensures c.in-Fits.is) _ _ (swept_fits _ _ _ _ _ _ _ _ _ _ _ _ c.sweep_page-y.ensures c.in-Fits-y.is) _ c.closed.ensures _ c.weigh.ensures
+returns c = leaves-weighed c.args.none.now c.args.footing.now c.args.b c.args.from c.args.end c.args.d c.args.n c.args.len c.args.next c.args.m c.args.e c.requires.leaves (omega (arith, c.requires.next_le_len.0, c.requires.next_le_len.1)) _ _ (swept_fits _ _ _ _ _ _ _ _ _ _ _ _ c.sweep_page-x.ensures c.in-Some.is) _ _ (swept_fits _ _ _ _ _ _ _ _ _ _ _ _ c.sweep_page-y.ensures c.in-Some-y.is) _ c.closed.ensures _ c.weigh.ensures

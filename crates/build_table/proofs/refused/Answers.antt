@@ -17,7 +17,7 @@ pub returns-in_default : goal.returns-in_default
 returns-in_default c = why_falls c.args.list.now c.args.footing.now c.args.from (bounds_of c.args.lo.now c.args.hi.now c.args.footing.now c.args.e) _ c.well.ensures (c.if-not-well.false) (risen_not _ _ _ (sym c.in_default.is ∙ c.rises.ensures))
 
 pub returns-then-inside : goal.returns-then-inside
-returns-then-inside c = let z = risen_up _ _ _ _ _ (sym c.in-Up.is ∙ c.rises.ensures) in why_many c.args.list.now c.args.footing.now c.args.from (bounds_of c.args.lo.now c.args.hi.now c.args.footing.now c.args.e) _ c.well.ensures (c.if-not-well.false) z.up _ z.inside c.if-inside.true
+returns-then-inside c = let z = risen_up _ _ _ _ _ (sym c.in-Some.is ∙ c.rises.ensures) in why_many c.args.list.now c.args.footing.now c.args.from (bounds_of c.args.lo.now c.args.hi.now c.args.footing.now c.args.e) _ c.well.ensures (c.if-not-well.false) z.up _ z.inside c.if-inside.true
 
 pub outside-requires : goal.outside-requires
 outside-requires c = record {
@@ -26,4 +26,4 @@ outside-requires c = record {
 }
 
 pub returns : goal.returns
-returns c = let z = risen_up _ _ _ _ _ (sym c.in-Up.is ∙ c.rises.ensures) in why_outside c.args.list.now c.args.footing.now c.args.from (bounds_of c.args.lo.now c.args.hi.now c.args.footing.now c.args.e) _ c.well.ensures (c.if-not-well.false) z.up _ z.inside c.if-inside.false _ c.outside.ensures
+returns c = let z = risen_up _ _ _ _ _ (sym c.in-Some.is ∙ c.rises.ensures) in why_outside c.args.list.now c.args.footing.now c.args.from (bounds_of c.args.lo.now c.args.hi.now c.args.footing.now c.args.e) _ c.well.ensures (c.if-not-well.false) z.up _ z.inside c.if-inside.false _ c.outside.ensures

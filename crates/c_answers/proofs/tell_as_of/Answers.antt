@@ -7,22 +7,22 @@ use Rattle.c_answers.specs.Answers.{as_of_words}
 use Rattle.c_words.proofs.Laws.{written_none, told}
 use Rattle.c_answers.proofs.tell_as_of.Goals as goal
 
-pub returns-in-Is : goal.returns-in-Is
+pub returns-in-Ok-Is : goal.returns-in-Ok-Is
 unfolding written
-returns-in-Is c = let all = told as_of_number as_of_words _ (sym c.in-Is.is) (refl, put_chain _ 0 _ _ c.store_five.ensures c.store_two.ensures refl) in record {
+returns-in-Ok-Is c = let all = told as_of_number as_of_words _ (sym c.in-Ok-Is.is) (refl, put_chain _ 0 _ _ c.store_five.ensures c.store_two.ensures refl) in record {
   value = all.0;
   out_after = all.1;
 }
 
-pub returns-in-Nothing : goal.returns-in-Nothing
+pub returns-in-Ok-Nothing : goal.returns-in-Ok-Nothing
 unfolding written
-returns-in-Nothing c = let all = told as_of_number as_of_words _ (sym c.in-Nothing.is) (refl, put_chain _ 0 _ _ c.store_five-in-Nothing.ensures c.store_two-in-Nothing.ensures refl) in record {
+returns-in-Ok-Nothing c = let all = told as_of_number as_of_words _ (sym c.in-Ok-Nothing.is) (refl, put_chain _ 0 _ _ c.store_five-in-Ok-Nothing.ensures c.store_two-in-Ok-Nothing.ensures refl) in record {
   value = all.0;
   out_after = all.1;
 }
 
-pub returns-in-Refused : goal.returns-in-Refused
-returns-in-Refused c = let all = told as_of_number as_of_words _ (sym c.in-Refused.is) (c.no.ensures, sym (written_none _)) in record {
+pub returns-in-Err : goal.returns-in-Err
+returns-in-Err c = let all = told as_of_number as_of_words _ (sym c.in-Err.is) (c.no.ensures, sym (written_none _)) in record {
   value = all.0;
   out_after = all.1;
 }

@@ -6,15 +6,15 @@ use Rattle.c_answers.specs.Answers.{begun_words}
 use Rattle.c_words.proofs.Laws.{written_none, told}
 use Rattle.c_answers.proofs.tell_begun.Goals as goal
 
-pub returns-in-Is : goal.returns-in-Is
+pub returns-in-Ok : goal.returns-in-Ok
 unfolding written
-returns-in-Is c = let all = told begun_number begun_words _ (sym c.in-Is.is) (refl, c.store_walk.ensures) in record {
+returns-in-Ok c = let all = told begun_number begun_words _ (sym c.in-Ok.is) (refl, c.store_walk.ensures) in record {
   value = all.0;
   walk_after = all.1;
 }
 
-pub returns-in-Refused : goal.returns-in-Refused
-returns-in-Refused c = let all = told begun_number begun_words _ (sym c.in-Refused.is) (c.no.ensures, sym (written_none _)) in record {
+pub returns-in-Err : goal.returns-in-Err
+returns-in-Err c = let all = told begun_number begun_words _ (sym c.in-Err.is) (c.no.ensures, sym (written_none _)) in record {
   value = all.0;
   walk_after = all.1;
 }

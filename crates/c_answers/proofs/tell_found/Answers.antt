@@ -7,22 +7,22 @@ use Rattle.c_answers.specs.Answers.{found_words}
 use Rattle.c_words.proofs.Laws.{written_none, told}
 use Rattle.c_answers.proofs.tell_found.Goals as goal
 
-pub returns-in-Is : goal.returns-in-Is
+pub returns-in-Ok-Is : goal.returns-in-Ok-Is
 unfolding written
-returns-in-Is c = let all = told found_number found_words _ (sym c.in-Is.is) (refl, put_chain _ 0 _ _ c.store_nine.ensures c.store.ensures refl) in record {
+returns-in-Ok-Is c = let all = told found_number found_words _ (sym c.in-Ok-Is.is) (refl, put_chain _ 0 _ _ c.store_nine.ensures c.store.ensures refl) in record {
   value = all.0;
   out_after = all.1;
 }
 
-pub returns-in-Nothing : goal.returns-in-Nothing
+pub returns-in-Ok-Nothing : goal.returns-in-Ok-Nothing
 unfolding written
-returns-in-Nothing c = let all = told found_number found_words _ (sym c.in-Nothing.is) (refl, put_chain _ 0 _ _ c.store_five.ensures c.store_five-in-Nothing.ensures refl) in record {
+returns-in-Ok-Nothing c = let all = told found_number found_words _ (sym c.in-Ok-Nothing.is) (refl, put_chain _ 0 _ _ c.store_five.ensures c.store_five-in-Ok-Nothing.ensures refl) in record {
   value = all.0;
   out_after = all.1;
 }
 
-pub returns-in-Refused : goal.returns-in-Refused
-returns-in-Refused c = let all = told found_number found_words _ (sym c.in-Refused.is) (c.no.ensures, sym (written_none _)) in record {
+pub returns-in-Err : goal.returns-in-Err
+returns-in-Err c = let all = told found_number found_words _ (sym c.in-Err.is) (c.no.ensures, sym (written_none _)) in record {
   value = all.0;
   out_after = all.1;
 }

@@ -6,22 +6,22 @@ use Rattle.c_answers.specs.Answers.{hints_words}
 use Rattle.c_words.proofs.Laws.{written_none, told}
 use Rattle.c_answers.proofs.tell_hints.Goals as goal
 
-pub returns-in-Are : goal.returns-in-Are
+pub returns-in-Ok-Some : goal.returns-in-Ok-Some
 unfolding written
-returns-in-Are c = let all = told hints_number hints_words _ (sym c.in-Are.is) (refl, c.store_two.ensures) in record {
+returns-in-Ok-Some c = let all = told hints_number hints_words _ (sym c.in-Ok-Some.is) (refl, c.store_two.ensures) in record {
   value = all.0;
   out_after = all.1;
 }
 
-pub returns-in-Nothing : goal.returns-in-Nothing
+pub returns-in-Ok-None : goal.returns-in-Ok-None
 unfolding written
-returns-in-Nothing c = let all = told hints_number hints_words _ (sym c.in-Nothing.is) (refl, c.store_two-in-Nothing.ensures) in record {
+returns-in-Ok-None c = let all = told hints_number hints_words _ (sym c.in-Ok-None.is) (refl, c.store_two-in-Ok-None.ensures) in record {
   value = all.0;
   out_after = all.1;
 }
 
-pub returns-in-Refused : goal.returns-in-Refused
-returns-in-Refused c = let all = told hints_number hints_words _ (sym c.in-Refused.is) (c.no.ensures, sym (written_none _)) in record {
+pub returns-in-Err : goal.returns-in-Err
+returns-in-Err c = let all = told hints_number hints_words _ (sym c.in-Err.is) (c.no.ensures, sym (written_none _)) in record {
   value = all.0;
   out_after = all.1;
 }

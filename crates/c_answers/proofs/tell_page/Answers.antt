@@ -7,15 +7,15 @@ use Rattle.c_answers.specs.Answers.{bounds_words}
 use Rattle.c_words.proofs.Laws.{written_none, told}
 use Rattle.c_answers.proofs.tell_page.Goals as goal
 
-pub returns-in-Is : goal.returns-in-Is
+pub returns-in-Ok : goal.returns-in-Ok
 unfolding written
-returns-in-Is c = let all = told bounds_number (bounds_words c.args.kind c.args.elems) _ (sym c.in-Is.is) (refl, put_chain _ 0 _ _ (put_chain _ 0 _ _ c.store_three.ensures c.store_three-in-Is.ensures refl) c.store_three-in-Is-2.ensures refl) in record {
+returns-in-Ok c = let all = told bounds_number (bounds_words c.args.kind c.args.elems) _ (sym c.in-Ok.is) (refl, put_chain _ 0 _ _ (put_chain _ 0 _ _ c.store_three.ensures c.store_three-in-Ok.ensures refl) c.store_three-in-Ok-2.ensures refl) in record {
   value = all.0;
   out_after = all.1;
 }
 
-pub returns-in-Refused : goal.returns-in-Refused
-returns-in-Refused c = let all = told bounds_number (bounds_words c.args.kind c.args.elems) _ (sym c.in-Refused.is) (c.no.ensures, sym (written_none _)) in record {
+pub returns-in-Err : goal.returns-in-Err
+returns-in-Err c = let all = told bounds_number (bounds_words c.args.kind c.args.elems) _ (sym c.in-Err.is) (c.no.ensures, sym (written_none _)) in record {
   value = all.0;
   out_after = all.1;
 }

@@ -10,4 +10,4 @@ pub returns-in_default : goal.returns-in_default
 returns-in_default c = enters_not _ _ _
 
 pub returns : goal.returns
-returns c = enters_is c.args.s.now c.args.walk.now c.args.h c.in-Is.older c.requires.was_value (sym c.enter.ensures ∙ c.in-Is.is) c.put_entered.ensures
+returns c = enters_is c.args.s.now c.args.walk.now c.args.h c.in-Some.older c.requires.was_value (sym c.enter.ensures ∙ c.in-Some.is) c.put_entered.ensures

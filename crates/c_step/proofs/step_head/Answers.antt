@@ -18,21 +18,21 @@ enter_in-requires c = record {
 pub tell_rec-requires : goal.tell_rec-requires
 tell_rec-requires c = record {
   k_in_bounds = omega (arith, c.requires.in_bounds_2);
-  ver_at_in_bounds = (c.head_read.ensures c.in-Is.r c.in-Is.is).ver;
+  ver_at_in_bounds = (c.head_read.ensures c.in-Some.r c.in-Some.is).ver;
 }
 
 pub onward-requires : goal.onward-requires
-onward-requires c = omega (arith, (c.head_read.ensures c.in-Is.r c.in-Is.is).below, c.well_formed)
+onward-requires c = omega (arith, (c.head_read.ensures c.in-Some.r c.in-Some.is).below, c.well_formed)
 
 pub overflow_sub-w : goal.overflow_sub-w
-overflow_sub-w c = omega (arith, (c.head_read.ensures c.in-Is.r c.in-Is.is).some)
+overflow_sub-w c = omega (arith, (c.head_read.ensures c.in-Some.r c.in-Some.is).some)
 
 pub put_on-requires : goal.put_on-requires
-put_on-requires c = within-long c.args.s.now c.args.walk.now c.in-Is.r.hist (c.enter_in.ensures.took c.if-enter_in.true) c.requires.in_bounds
+put_on-requires c = within-long c.args.s.now c.args.walk.now c.in-Some.r.hist (c.enter_in.ensures.took c.if-enter_in.true) c.requires.in_bounds
 
 pub returns-then-enter_in : goal.returns-then-enter_in
 unfolding moved_of
-returns-then-enter_in c = took_head c.args.s.now c.args.walk.now c.args.out.now c.requires.in_bounds c.requires.w_value c.in-Is.r (c.head_read.ensures c.in-Is.r c.in-Is.is) (c.enter_in.ensures.took c.if-enter_in.true) c.onward.ensures c.put_on.ensures c.tell_rec.ensures
+returns-then-enter_in c = took_head c.args.s.now c.args.walk.now c.args.out.now c.requires.in_bounds c.requires.w_value c.in-Some.r (c.head_read.ensures c.in-Some.r c.in-Some.is) (c.enter_in.ensures.took c.if-enter_in.true) c.onward.ensures c.put_on.ensures c.tell_rec.ensures
 
 pub returns : goal.returns
 returns c = takes_left c.args.s.now c.args.walk.now c.args.out.now (c.enter_in.ensures.left c.if-enter_in.false)

@@ -1,7 +1,8 @@
 -- `c_steps::behind` meets its contract. Assumes nothing.
+use Rattle.walks.specs.declared.OldPlace.{OldPlace}
+use Rattle.std.proofs.Common.{Option, Some}
 use native.Mathlib.Omega.{arith}
 use mathlib.Core.Path.{subst}
-use Rattle.c_steps.specs.declared.Reached.{Reached}
 use Rattle.c_steps.specs.Turns.{Reaches}
 use Rattle.walks.specs.Walk.{on_of, moved_of}
 use Rattle.c_steps.proofs.behind.Goals as goal
@@ -17,5 +18,5 @@ overflow_sub-result c = omega (arith, c.requires.ahead.some)
 
 pub returns : goal.returns
 unfolding moved_of on_of
-returns c = (let q : Reaches c.args.s.now c.args.r.hist c.args.w.older (Reached.Is c.in-Is.older c.in-Is.seen) = subst (λ (z : Reached). Reaches c.args.s.now c.args.r.hist c.args.w.older z) c.in-Is.is c.reach.ensures in
-    (rw c.onward.ensures (c.requires.ahead.steps c.in-Is.older q.0), (q.1, c.requires.ahead.ver)))
+returns c = (let q : Reaches c.args.s.now c.args.r.hist c.args.w.older (Some (c.in-Some.older, c.in-Some.seen)) = subst (λ (z : Option (OldPlace × ℕ)). Reaches c.args.s.now c.args.r.hist c.args.w.older z) c.in-Some.is c.reach.ensures in
+    (rw c.onward.ensures (c.requires.ahead.steps c.in-Some.older q.0), (q.1, c.requires.ahead.ver)))

@@ -1,8 +1,10 @@
 -- `c_steps::quick` meets its contract. Assumes nothing.
+use Rattle.walks.specs.declared.Walk.{Walk}
+use Rattle.records.specs.declared.Rec.{Rec}
+use Rattle.std.proofs.Common.{Option, Some}
 use native.Mathlib.Omega.{arith}
 use Prim.Native.Nat.{◌-◌, ◌<◌}
 use mathlib.Core.Path.{subst}
-use Rattle.c_steps.specs.declared.HeadRead.{HeadRead}
 use Rattle.c_steps.specs.Turns.{Heads}
 use Rattle.c_steps.proofs.Heading.{plains_head}
 use Rattle.c_steps.proofs.Ways.{known_at}
@@ -39,7 +41,7 @@ pub returns-in_default : goal.returns-in_default
 returns-in_default c = rw c.headed-u.ensures (c.plains-x.ensures.plains.fills, (c.requires.known_older, omega (arith, c.if-n-eq0-2.false)))
 
 pub behind-requires : goal.behind-requires
-behind-requires c = record { known_older = rw c.headed-u.ensures c.requires.known_older; ahead = rw c.headed-u.ensures ((c.plains-x.ensures.plains.next c.in-Is.h c.in-Is.is).1) }
+behind-requires c = record { known_older = rw c.headed-u.ensures c.requires.known_older; ahead = rw c.headed-u.ensures ((c.plains-x.ensures.plains.next c.in-Some.h c.in-Some.is).1) }
 
 pub returns-then-n-eq0-3 : goal.returns-then-n-eq0-3
 returns-then-n-eq0-3 c = c.plains-x.ensures.plains.fresh c.if-n-eq0-3.true
@@ -54,9 +56,9 @@ pub overflow_add-at : goal.overflow_add-at
 overflow_add-at c = omega (arith, c.plains-x.ensures.plains.fills.few, c.requires.room_bound)
 
 pub tell_rec-requires : goal.tell_rec-requires
-tell_rec-requires c = let q : Heads c.args.s.now c.headed-u.result (HeadRead.Is c.in-Is-behind.r c.in-Is-behind.v c.in-Is-behind.seen) = subst (λ (z : HeadRead). Heads c.args.s.now c.headed-u.result z) c.in-Is-behind.is c.behind.ensures in
+tell_rec-requires c = let q : Heads c.args.s.now c.headed-u.result (Some (c.in-Some-behind.r, c.in-Some-behind.v, c.in-Some-behind.seen)) = subst (λ (z : Option (Rec × Walk × ℕ)). Heads c.args.s.now c.headed-u.result z) c.in-Some-behind.is c.behind.ensures in
     record {
-      k_in_bounds = omega (arith, c.plains-x.ensures.count_lt_fit c.in-Is.h c.in-Is.is, c.plains-x.ensures.plains.fills.long, c.requires.fit_le_room.1);
+      k_in_bounds = omega (arith, c.plains-x.ensures.count_lt_fit c.in-Some.h c.in-Some.is, c.plains-x.ensures.plains.fills.long, c.requires.fit_le_room.1);
       ver_at_in_bounds = q.1.1;
     }
 
@@ -64,5 +66,5 @@ pub overflow_add-result : goal.overflow_add-result
 overflow_add-result c = omega (arith, c.plains-x.ensures.plains.fills.few, c.requires.room_bound)
 
 pub returns : goal.returns
-returns c = (let q : Heads c.args.s.now c.headed-u.result (HeadRead.Is c.in-Is-behind.r c.in-Is-behind.v c.in-Is-behind.seen) = subst (λ (z : HeadRead). Heads c.args.s.now c.headed-u.result z) c.in-Is-behind.is c.behind.ensures in
-    (plains_head c.args.s.now c.args.room c.args.at c.args.w c.args.out.now c.plains-x.result _ c.plains-x.ensures.plains c.in-Is.h c.in-Is.is c.headed-u.ensures c.in-Is-behind.r c.in-Is-behind.v c.in-Is-behind.seen q c.tell_rec.ensures, (q.1.0, omega arith)))
+returns c = (let q : Heads c.args.s.now c.headed-u.result (Some (c.in-Some-behind.r, c.in-Some-behind.v, c.in-Some-behind.seen)) = subst (λ (z : Option (Rec × Walk × ℕ)). Heads c.args.s.now c.headed-u.result z) c.in-Some-behind.is c.behind.ensures in
+    (plains_head c.args.s.now c.args.room c.args.at c.args.w c.args.out.now c.plains-x.result _ c.plains-x.ensures.plains c.in-Some.h c.in-Some.is c.headed-u.ensures c.in-Some-behind.r c.in-Some-behind.v c.in-Some-behind.seen q c.tell_rec.ensures, (q.1.0, omega arith)))

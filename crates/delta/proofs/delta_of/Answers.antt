@@ -9,8 +9,8 @@ returns-in_default c = simp (← c.delta_at.ensures, c.in_default.is)
 
 pub returns-then-d-node : goal.returns-then-d-node
 unfolding delta_is
-returns-then-d-node c = simp (← c.delta_at.ensures, c.in-Is.is, eq-eqb _ _ c.if-d-node.true)
+returns-then-d-node c = simp (← c.delta_at.ensures, c.in-Some.is, eq-eqb _ _ c.if-d-node.true)
 
 pub returns : goal.returns
 unfolding delta_is
-returns c = simp (← c.delta_at.ensures, c.in-Is.is, ne_eqb _ _ c.if-d-node.false)
+returns c = simp (← c.delta_at.ensures, c.in-Some.is, ne_eqb _ _ c.if-d-node.false)

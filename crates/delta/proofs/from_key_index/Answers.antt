@@ -1,4 +1,5 @@
 -- `delta::from_key_index` meets its contract. Assumes nothing.
+use Rattle.std.proofs.Common.{Ok}
 use native.Mathlib.Omega.{arith}
 use Prim.Native.Nat.{ℕ, ◌+◌, ◌≤◌}
 use mathlib.Core.Path.{◌≡◌, sym, ap, ◌∙◌}
@@ -12,7 +13,6 @@ use Rattle.delta.proofs.Verdict.{lengths_true, address-some, address_zero, index
 use borrow.Author.Tests.{not-true, not-false}
 use mathlib.Core.Path.{ap₂}
 use Rattle.frames.specs.Layout.{addr}
-use Rattle.build_image.specs.declared.Built.{Built}
 use Rattle.delta.proofs.from_key_index.Goals as goal
 
 pub returns-then-not-next_ok : goal.returns-then-not-next_ok
@@ -56,6 +56,6 @@ returns c = let s = address-some c.args.next (length c.args.a.now) 0 c.index_len
     let at : c.placed-at.result ≡ c.args.next = omega (arith, s.0) in
     let f = index_fits (call_of 0 0 c.args.group c.args.txid c.args.lsn c.args.ckpt) c.args.a.now c.args.next c.args.key.now c.args.page (sym c.next_ok.ensures ∙ c.if-not-next_ok.false) (sym c.lengths_ok.ensures ∙ c.if-not-lengths_ok.false) q in
     record {
-      value = ap₂ (λ (i n : ℕ). Built.At (addr i) (i + n)) at c.index_len-len.ensures ∙ f.0;
+      value = ap₂ (λ (i n : ℕ). Ok (addr i, i + n)) at c.index_len-len.ensures ∙ f.0;
       a_after = (rw c.call_of-m.ensures at c.put_index.ensures) ∙ ap (λ (i : ℕ). put c.args.a.now i (index_frame (call_of 0 0 c.args.group c.args.txid c.args.lsn c.args.ckpt) c.args.key.now c.args.page)) at ∙ f.1;
     }

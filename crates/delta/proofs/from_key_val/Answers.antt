@@ -1,4 +1,5 @@
 -- `delta::from_key_val` meets its contract. Assumes nothing.
+use Rattle.std.proofs.Common.{Ok}
 use native.Mathlib.Omega.{arith}
 use Prim.Native.Nat.{ℕ, ◌+◌, ◌≤◌}
 use mathlib.Core.Path.{◌≡◌, refl, sym, ap, ◌∙◌}
@@ -13,7 +14,6 @@ use Rattle.delta.proofs.Verdict.{lengths_true, address-some, address_zero, leaf_
 use borrow.Author.Tests.{not-true, not-false}
 use mathlib.Core.Path.{ap₂}
 use Rattle.frames.specs.Layout.{addr}
-use Rattle.build_image.specs.declared.Built.{Built}
 use Rattle.delta.proofs.from_key_val.Goals as goal
 
 pub returns-then-not-limit_ok : goal.returns-then-not-limit_ok
@@ -74,6 +74,6 @@ returns c = let s = address-some c.args.next (length c.args.a.now) c.remote_len-
     let at : c.placed-at.result ≡ c.args.next + remote_len c.args.limit (length c.args.value.now) 0 = s.0 ∙ ap (λ (k : ℕ). c.args.next + k) c.remote_len-remote.ensures in
     let f = leaf_fits (call_of c.args.limit 0 c.args.group c.args.ver.txid c.args.lsn c.args.ckpt) c.args.a.now c.args.next c.args.ver c.args.key.now c.args.value.now (sym c.limit_ok.ensures ∙ c.if-not-limit_ok.false) (sym c.next_ok.ensures ∙ c.if-not-next_ok.false) (sym c.lengths_ok.ensures ∙ c.if-not-lengths_ok.false) q in
     record {
-      value = ap₂ (λ (i n : ℕ). Built.At (addr i) (i + n)) at c.leaf_len-len.ensures ∙ f.0;
+      value = ap₂ (λ (i n : ℕ). Ok (addr i, i + n)) at c.leaf_len-len.ensures ∙ f.0;
       a_after = leaf_stored (call_of c.args.limit 0 c.args.group c.args.ver.txid c.args.lsn c.args.ckpt) c.args.a.now c.args.next c.args.ver c.args.key.now c.args.value.now c.placed-at.result at q _ _ (rw c.call_of-m.ensures at c.put_remote.ensures) (rw c.call_of-m.ensures at c.put_leaf.ensures) ∙ f.1;
     }

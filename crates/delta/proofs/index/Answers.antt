@@ -11,15 +11,15 @@ unfolding child_at
 returns-in_default c = simp (← c.delta_of.ensures, c.in_default.is)
 
 pub overflow_add-p : goal.overflow_add-p
-overflow_add-p c = omega (arith, key-ends c.args.s.now c.args.a 2 c.in-Is.d (sym c.delta_of.ensures ∙ c.in-Is.is), c.well_formed)
+overflow_add-p c = omega (arith, key-ends c.args.s.now c.args.a 2 c.in-Some.d (sym c.delta_of.ensures ∙ c.in-Some.is), c.well_formed)
 
 pub read_u64-requires : goal.read_u64-requires
-read_u64-requires c = omega (arith, val-ends c.args.s.now c.args.a 2 c.in-Is.d (sym c.delta_of.ensures ∙ c.in-Is.is), c.if-d-p.true)
+read_u64-requires c = omega (arith, val-ends c.args.s.now c.args.a 2 c.in-Some.d (sym c.delta_of.ensures ∙ c.in-Some.is), c.if-d-p.true)
 
 pub returns-then-d-p : goal.returns-then-d-p
 unfolding child_at
-returns-then-d-p c = simp (← c.delta_of.ensures, c.in-Is.is, eq-eqb _ _ c.if-d-p.true, c.read_u64.ensures)
+returns-then-d-p c = simp (← c.delta_of.ensures, c.in-Some.is, eq-eqb _ _ c.if-d-p.true, c.read_u64.ensures)
 
 pub returns : goal.returns
 unfolding child_at
-returns c = simp (← c.delta_of.ensures, c.in-Is.is, ne_eqb _ _ c.if-d-p.false)
+returns c = simp (← c.delta_of.ensures, c.in-Some.is, ne_eqb _ _ c.if-d-p.false)

@@ -9,12 +9,12 @@ unfolding index_key_at
 returns-in_default c = simp (← c.delta_of.ensures, c.in_default.is)
 
 pub key_in-requires : goal.key_in-requires
-key_in-requires c = key-ends c.args.s.now c.args.a 2 c.in-Is.d (sym c.delta_of.ensures ∙ c.in-Is.is)
+key_in-requires c = key-ends c.args.s.now c.args.a 2 c.in-Some.d (sym c.delta_of.ensures ∙ c.in-Some.is)
 
 pub returns-in_default-key_in : goal.returns-in_default-key_in
 unfolding index_key_at
-returns-in_default-key_in c = simp (← c.delta_of.ensures, c.in-Is.is, ← c.key_in.ensures, c.in_default-key_in.is)
+returns-in_default-key_in c = simp (← c.delta_of.ensures, c.in-Some.is, ← c.key_in.ensures, c.in_default-key_in.is)
 
 pub returns : goal.returns
 unfolding index_key_at
-returns c = simp (← c.delta_of.ensures, c.in-Is.is, ← c.key_in.ensures, c.in-Key.is)
+returns c = simp (← c.delta_of.ensures, c.in-Some.is, ← c.key_in.ensures, c.in-Some.is)

@@ -9,15 +9,15 @@ unfolding leaf_key_at
 returns-in_default c = simp (← c.delta_of.ensures, c.in_default.is)
 
 pub key_in-requires : goal.key_in-requires
-key_in-requires c = key-ends c.args.s.now c.args.a 1 c.in-Is.d (sym c.delta_of.ensures ∙ c.in-Is.is)
+key_in-requires c = key-ends c.args.s.now c.args.a 1 c.in-Some.d (sym c.delta_of.ensures ∙ c.in-Some.is)
 
 pub returns-in_default-key_in : goal.returns-in_default-key_in
 unfolding leaf_key_at
-returns-in_default-key_in c = simp (← c.delta_of.ensures, c.in-Is.is, ← c.key_in.ensures, c.in_default-key_in.is)
+returns-in_default-key_in c = simp (← c.delta_of.ensures, c.in-Some.is, ← c.key_in.ensures, c.in_default-key_in.is)
 
 pub ver_at-v-requires : goal.ver_at-v-requires
-ver_at-v-requires c = ver-ends c.args.s.now c.args.a c.in-Is.d (sym c.delta_of.ensures ∙ c.in-Is.is) c.in-Key.ver_at c.in-Key.rest_at c.in-Key.rest_len (sym c.key_in.ensures ∙ c.in-Key.is)
+ver_at-v-requires c = ver-ends c.args.s.now c.args.a c.in-Some.d (sym c.delta_of.ensures ∙ c.in-Some.is) c.in-Some.k.ver_at c.in-Some.k.rest_at c.in-Some.k.rest_len (sym c.key_in.ensures ∙ c.in-Some.is)
 
 pub returns : goal.returns
 unfolding leaf_key_at
-returns c = simp (← c.delta_of.ensures, c.in-Is.is, ← c.key_in.ensures, c.in-Key.is, c.ver_at-v.ensures)
+returns c = simp (← c.delta_of.ensures, c.in-Some.is, ← c.key_in.ensures, c.in-Some.is, c.ver_at-v.ensures)

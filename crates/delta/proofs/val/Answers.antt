@@ -9,8 +9,8 @@ unfolding value_at
 returns-in_default c = simp (← c.delta_of.ensures, c.in_default.is)
 
 pub val_in-requires : goal.val_in-requires
-val_in-requires c = val-ends c.args.s.now c.args.a 1 c.in-Is.d (sym c.delta_of.ensures ∙ c.in-Is.is)
+val_in-requires c = val-ends c.args.s.now c.args.a 1 c.in-Some.d (sym c.delta_of.ensures ∙ c.in-Some.is)
 
 pub returns : goal.returns
 unfolding value_at
-returns c = simp (← c.delta_of.ensures, c.in-Is.is, c.val_in.ensures)
+returns c = simp (← c.delta_of.ensures, c.in-Some.is, c.val_in.ensures)

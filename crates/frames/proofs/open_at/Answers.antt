@@ -1,10 +1,10 @@
 -- `frames::open_at` meets its contract. Assumes nothing.
+use Rattle.std.proofs.Common.{Some}
 use native.Mathlib.Omega.{arith}
 use Prim.Native.Nat.{◌+◌}
 use mathlib.Core.Path.{◌≡◌, sym, ◌∙◌}
 use lib.ListN.{length}
 use borrow.Author.Tests.{leb-true}
-use Rattle.frames.specs.declared.PageRead.{PageRead}
 use Rattle.frames.specs.Layout.{slots_at, page_at, open_at}
 use Rattle.frames.proofs.Frames.{page_sizes}
 use Rattle.frames.proofs.Judged.{plain-page}
@@ -25,7 +25,7 @@ plain-requires c = omega (arith, leb-true (c.args.a.0 + slots_at) (length c.args
 
 -- a page that `plain` lets pass is read
 
-page : (c : Then-plain) → page_at c.args.s.now c.args.a ≡ PageRead.Page c.fields-x.result c.fields-h.result
+page : (c : Then-plain) → page_at c.args.s.now c.args.a ≡ Some (c.fields-x.result, c.fields-h.result)
 page c = plain-page c.args.s.now c.args.a _ _ (sym c.room.ensures ∙ c.if-room.true) c.fields-x.ensures c.fields-h.ensures (c.plain.ensures c.if-plain.true)
 
 pub body_of-requires : goal.body_of-requires

@@ -41,15 +41,15 @@ returns-in_default-open_at-2 c = absurd (opens_always _ _ c.requires.sound.1 (sy
 pub build_indexes-requires : goal.build_indexes-requires
 build_indexes-requires c = record {
   next_in_bounds = c.requires.next_in_bounds;
-  judged = indexes-judged (take c.args.next c.args.a.now) c.args.left c.args.right c.requires.sound.0 c.requires.sound.1 _ _ (sym c.gather.ensures ∙ c.in-Is.is) c.args.none.now c.requires.none_value c.requires.right_value _ (sym c.open_at.ensures ∙ c.in-Is-open_at.is) _ (sym c.open_at-2.ensures ∙ c.in-Is-open_at-2.is) c.requires.left_value.0 c.requires.left_value.1;
+  judged = indexes-judged (take c.args.next c.args.a.now) c.args.left c.args.right c.requires.sound.0 c.requires.sound.1 _ _ (sym c.gather.ensures ∙ c.in-Some.is) c.args.none.now c.requires.none_value c.requires.right_value _ (sym c.open_at.ensures ∙ c.in-Some-open_at.is) _ (sym c.open_at-2.ensures ∙ c.in-Some-open_at-2.is) c.requires.left_value.0 c.requires.left_value.1;
   from_le_end = (omega arith, omega arith, omega arith);
-  held = indexes-held (take c.args.next c.args.a.now) c.args.left c.args.right c.requires.sound.0 c.requires.sound.1 _ _ (sym c.gather.ensures ∙ c.in-Is.is) c.args.none.now c.requires.none_value c.requires.right_value _ (sym c.open_at.ensures ∙ c.in-Is-open_at.is) _ (sym c.open_at-2.ensures ∙ c.in-Is-open_at-2.is) c.requires.left_value.0 c.requires.left_value.1;
-  count_value = indexes_rise (take c.args.next c.args.a.now) c.args.left c.args.right c.requires.sound.0 c.requires.sound.1 _ _ (sym c.gather.ensures ∙ c.in-Is.is) c.args.none.now c.requires.none_value c.requires.right_value _ (sym c.open_at.ensures ∙ c.in-Is-open_at.is) _ (sym c.open_at-2.ensures ∙ c.in-Is-open_at-2.is) c.requires.left_value.0 c.requires.left_value.1;
-  count_value_2 = indexes-inside (take c.args.next c.args.a.now) c.args.left c.args.right c.requires.sound.0 c.requires.sound.1 _ _ (sym c.gather.ensures ∙ c.in-Is.is) c.args.none.now c.requires.none_value c.requires.right_value _ (sym c.open_at.ensures ∙ c.in-Is-open_at.is) _ (sym c.open_at-2.ensures ∙ c.in-Is-open_at-2.is) c.requires.left_value.0 c.requires.left_value.1;
+  held = indexes-held (take c.args.next c.args.a.now) c.args.left c.args.right c.requires.sound.0 c.requires.sound.1 _ _ (sym c.gather.ensures ∙ c.in-Some.is) c.args.none.now c.requires.none_value c.requires.right_value _ (sym c.open_at.ensures ∙ c.in-Some-open_at.is) _ (sym c.open_at-2.ensures ∙ c.in-Some-open_at-2.is) c.requires.left_value.0 c.requires.left_value.1;
+  count_value = indexes_rise (take c.args.next c.args.a.now) c.args.left c.args.right c.requires.sound.0 c.requires.sound.1 _ _ (sym c.gather.ensures ∙ c.in-Some.is) c.args.none.now c.requires.none_value c.requires.right_value _ (sym c.open_at.ensures ∙ c.in-Some-open_at.is) _ (sym c.open_at-2.ensures ∙ c.in-Some-open_at-2.is) c.requires.left_value.0 c.requires.left_value.1;
+  count_value_2 = indexes-inside (take c.args.next c.args.a.now) c.args.left c.args.right c.requires.sound.0 c.requires.sound.1 _ _ (sym c.gather.ensures ∙ c.in-Some.is) c.args.none.now c.requires.none_value c.requires.right_value _ (sym c.open_at.ensures ∙ c.in-Some-open_at.is) _ (sym c.open_at-2.ensures ∙ c.in-Some-open_at-2.is) c.requires.left_value.0 c.requires.left_value.1;
 }
 
 pub returns : goal.returns
 returns c = record {
-  value = indexes-told (take c.args.next c.args.a.now) c.args.left c.args.right c.requires.sound.0 c.requires.sound.1 _ _ (sym c.gather.ensures ∙ c.in-Is.is) c.args.none.now c.requires.none_value c.requires.right_value _ (sym c.open_at.ensures ∙ c.in-Is-open_at.is) _ (sym c.open_at-2.ensures ∙ c.in-Is-open_at-2.is) c.requires.left_value.0 c.requires.left_value.1 (λ (b : Borders) (es : List Entry). index_answer c.args.a.now c.args.next c.args.m b es) _ c.build_indexes.ensures.value;
-  a_after = indexes-told (take c.args.next c.args.a.now) c.args.left c.args.right c.requires.sound.0 c.requires.sound.1 _ _ (sym c.gather.ensures ∙ c.in-Is.is) c.args.none.now c.requires.none_value c.requires.right_value _ (sym c.open_at.ensures ∙ c.in-Is-open_at.is) _ (sym c.open_at-2.ensures ∙ c.in-Is-open_at-2.is) c.requires.left_value.0 c.requires.left_value.1 (λ (b : Borders) (es : List Entry). index_arena c.args.a.now c.args.next c.args.m b es) _ c.build_indexes.ensures.a_after;
+  value = indexes-told (take c.args.next c.args.a.now) c.args.left c.args.right c.requires.sound.0 c.requires.sound.1 _ _ (sym c.gather.ensures ∙ c.in-Some.is) c.args.none.now c.requires.none_value c.requires.right_value _ (sym c.open_at.ensures ∙ c.in-Some-open_at.is) _ (sym c.open_at-2.ensures ∙ c.in-Some-open_at-2.is) c.requires.left_value.0 c.requires.left_value.1 (λ (b : Borders) (es : List Entry). index_answer c.args.a.now c.args.next c.args.m b es) _ c.build_indexes.ensures.value;
+  a_after = indexes-told (take c.args.next c.args.a.now) c.args.left c.args.right c.requires.sound.0 c.requires.sound.1 _ _ (sym c.gather.ensures ∙ c.in-Some.is) c.args.none.now c.requires.none_value c.requires.right_value _ (sym c.open_at.ensures ∙ c.in-Some-open_at.is) _ (sym c.open_at-2.ensures ∙ c.in-Some-open_at-2.is) c.requires.left_value.0 c.requires.left_value.1 (λ (b : Borders) (es : List Entry). index_arena c.args.a.now c.args.next c.args.m b es) _ c.build_indexes.ensures.a_after;
 }

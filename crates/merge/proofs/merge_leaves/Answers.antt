@@ -40,12 +40,12 @@ returns-in_default-open_at-2 c = absurd (opens_always _ _ c.requires.sound.1 (sy
 pub build_leaves-requires : goal.build_leaves-requires
 build_leaves-requires c = record {
   next_in_bounds = c.requires.next_in_bounds;
-  leaves = leaves_ready (take c.args.next c.args.a.now) c.args.left c.args.right c.requires.sound.0 c.requires.sound.1 _ _ (sym c.gather.ensures ∙ c.in-Is.is) c.args.none.now c.requires.none_value c.requires.right_value _ (sym c.open_at.ensures ∙ c.in-Is-open_at.is) _ (sym c.open_at-2.ensures ∙ c.in-Is-open_at-2.is) c.requires.left_value.0 c.requires.left_value.1;
+  leaves = leaves_ready (take c.args.next c.args.a.now) c.args.left c.args.right c.requires.sound.0 c.requires.sound.1 _ _ (sym c.gather.ensures ∙ c.in-Some.is) c.args.none.now c.requires.none_value c.requires.right_value _ (sym c.open_at.ensures ∙ c.in-Some-open_at.is) _ (sym c.open_at-2.ensures ∙ c.in-Some-open_at-2.is) c.requires.left_value.0 c.requires.left_value.1;
   sane = c.requires.sane;
 }
 
 pub returns : goal.returns
 returns c = record {
-  value = leaves-told (take c.args.next c.args.a.now) c.args.left c.args.right c.requires.sound.0 c.requires.sound.1 _ _ (sym c.gather.ensures ∙ c.in-Is.is) c.args.none.now c.requires.none_value c.requires.right_value _ (sym c.open_at.ensures ∙ c.in-Is-open_at.is) _ (sym c.open_at-2.ensures ∙ c.in-Is-open_at-2.is) c.requires.left_value.0 c.requires.left_value.1 (λ (b : Borders) (es : List Entry). leaf_answer c.args.a.now c.args.next c.args.m b es) _ c.build_leaves.ensures.value;
-  a_after = leaves-told (take c.args.next c.args.a.now) c.args.left c.args.right c.requires.sound.0 c.requires.sound.1 _ _ (sym c.gather.ensures ∙ c.in-Is.is) c.args.none.now c.requires.none_value c.requires.right_value _ (sym c.open_at.ensures ∙ c.in-Is-open_at.is) _ (sym c.open_at-2.ensures ∙ c.in-Is-open_at-2.is) c.requires.left_value.0 c.requires.left_value.1 (λ (b : Borders) (es : List Entry). leaf_arena c.args.a.now c.args.next c.args.m b es) _ c.build_leaves.ensures.a_after;
+  value = leaves-told (take c.args.next c.args.a.now) c.args.left c.args.right c.requires.sound.0 c.requires.sound.1 _ _ (sym c.gather.ensures ∙ c.in-Some.is) c.args.none.now c.requires.none_value c.requires.right_value _ (sym c.open_at.ensures ∙ c.in-Some-open_at.is) _ (sym c.open_at-2.ensures ∙ c.in-Some-open_at-2.is) c.requires.left_value.0 c.requires.left_value.1 (λ (b : Borders) (es : List Entry). leaf_answer c.args.a.now c.args.next c.args.m b es) _ c.build_leaves.ensures.value;
+  a_after = leaves-told (take c.args.next c.args.a.now) c.args.left c.args.right c.requires.sound.0 c.requires.sound.1 _ _ (sym c.gather.ensures ∙ c.in-Some.is) c.args.none.now c.requires.none_value c.requires.right_value _ (sym c.open_at.ensures ∙ c.in-Some-open_at.is) _ (sym c.open_at-2.ensures ∙ c.in-Some-open_at-2.is) c.requires.left_value.0 c.requires.left_value.1 (λ (b : Borders) (es : List Entry). leaf_arena c.args.a.now c.args.next c.args.m b es) _ c.build_leaves.ensures.a_after;
 }

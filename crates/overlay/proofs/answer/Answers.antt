@@ -2,10 +2,10 @@
 use Rattle.overlay.specs.Overlay.{laid_at}
 use Rattle.overlay.proofs.answer.Goals as goal
 
-pub returns-in-Refused : goal.returns-in-Refused
+pub returns-in-Err : goal.returns-in-Err
 unfolding laid_at
-returns-in-Refused c = simp (← c.key.ensures, c.in-Refused.is)
+returns-in-Err c = simp (← c.key.ensures, c.in-Err.is)
 
-pub returns-in-Is : goal.returns-in-Is
+pub returns-in-Ok : goal.returns-in-Ok
 unfolding laid_at
-returns-in-Is c = simp (← c.key.ensures, c.in-Is.is, c.laid_by.ensures, c.is_probe-mine.ensures)
+returns-in-Ok c = simp (← c.key.ensures, c.in-Ok.is, c.laid_by.ensures, c.is_probe-mine.ensures)

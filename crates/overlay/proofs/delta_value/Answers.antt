@@ -2,10 +2,10 @@
 use Rattle.overlay.specs.Overlay.{delta_value}
 use Rattle.overlay.proofs.delta_value.Goals as goal
 
-pub returns-in-Is : goal.returns-in-Is
+pub returns-in-Ok : goal.returns-in-Ok
 unfolding delta_value
-returns-in-Is c = simp (← c.val.ensures, c.in-Is.is)
+returns-in-Ok c = simp (← c.val.ensures, c.in-Ok.is)
 
-pub returns-in-Refused : goal.returns-in-Refused
+pub returns-in-Err : goal.returns-in-Err
 unfolding delta_value
-returns-in-Refused c = simp (← c.val.ensures, c.in-Refused.is)
+returns-in-Err c = simp (← c.val.ensures, c.in-Err.is)

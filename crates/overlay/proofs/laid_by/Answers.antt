@@ -6,23 +6,23 @@ use Rattle.overlay.proofs.laid_by.Goals as goal
 
 pub returns-then-mine : goal.returns-then-mine
 unfolding laid_by
-returns-then-mine c = simp (← c.head_at.ensures, c.in-Nothing.is, c.if-mine.true, c.delta_value.ensures)
+returns-then-mine c = simp (← c.head_at.ensures, c.in-Ok-Nothing.is, c.if-mine.true, c.delta_value.ensures)
 
 pub returns-then-mine-newer : goal.returns-then-mine-newer
 unfolding laid_by
-returns-then-mine-newer c = simp (← c.head_at.ensures, c.in-Is.is, ← c.newer.ensures, c.if-mine-newer.true, c.delta_value-then-mine-newer.ensures)
+returns-then-mine-newer c = simp (← c.head_at.ensures, c.in-Ok-Is.is, ← c.newer.ensures, c.if-mine-newer.true, c.delta_value-then-mine-newer.ensures)
 
 pub page_value-requires : goal.page_value-requires
-page_value-requires c = head_inside c.args.s.now c.args.a c.args.probe.now _ _ _ _ _ (sym c.head_at.ensures ∙ c.in-Is.is)
+page_value-requires c = head_inside c.args.s.now c.args.a c.args.probe.now _ _ _ _ _ (sym c.head_at.ensures ∙ c.in-Ok-Is.is)
 
-pub returns-in-Refused : goal.returns-in-Refused
+pub returns-in-Err : goal.returns-in-Err
 unfolding laid_by
-returns-in-Refused c = simp (← c.head_at.ensures, c.in-Refused.is)
+returns-in-Err c = simp (← c.head_at.ensures, c.in-Err.is)
 
 pub returns-else-mine : goal.returns-else-mine
 unfolding laid_by
-returns-else-mine c = simp (← c.head_at.ensures, c.in-Nothing.is, c.if-mine.false)
+returns-else-mine c = simp (← c.head_at.ensures, c.in-Ok-Nothing.is, c.if-mine.false)
 
 pub returns-else-mine-newer : goal.returns-else-mine-newer
 unfolding laid_by
-returns-else-mine-newer c = simp (← c.head_at.ensures, c.in-Is.is, ← c.newer.ensures, c.if-mine-newer.false, c.page_value.ensures)
+returns-else-mine-newer c = simp (← c.head_at.ensures, c.in-Ok-Is.is, ← c.newer.ensures, c.if-mine-newer.false, c.page_value.ensures)

@@ -18,4 +18,4 @@ pub returns-in_default-rec_at : goal.returns-in_default-rec_at
 returns-in_default-rec_at c = no_bad c.args.s.now c.args.b (c.args.b.elems - 1) c.requires.b_value (omega (arith, c.if-b-eq0.false)) (sym c.rec_at-2.ensures ∙ c.in_default-rec_at.is)
 
 pub returns : goal.returns
-returns c = bounds-some c.args.s.now c.args.b c.requires.inside _ _ c.part_of-lo.ensures c.part_of-hi.ensures c.requires.b_value c.requires.fact c.if-b-eq0.false c.in-Is.x c.in-Is-rec_at.y (sym c.rec_at.ensures ∙ c.in-Is.is) (sym c.rec_at-2.ensures ∙ c.in-Is-rec_at.is) _ _ _ c.part_of-p.ensures c.part_of.ensures c.part_of-2.ensures _ _ _ _ c.compare_joined-low.ensures c.compare_joined-high.ensures c.is_less.ensures c.below_by-2.ensures
+returns c = bounds-some c.args.s.now c.args.b c.requires.inside _ _ c.part_of-lo.ensures c.part_of-hi.ensures c.requires.b_value c.requires.fact c.if-b-eq0.false c.in-Some.x c.in-Some-rec_at.y (sym c.rec_at.ensures ∙ c.in-Some.is) (sym c.rec_at-2.ensures ∙ c.in-Some-rec_at.is) _ _ _ c.part_of-p.ensures c.part_of.ensures c.part_of-2.ensures _ _ _ _ c.compare_joined-low.ensures c.compare_joined-high.ensures c.is_less.ensures c.below_by-2.ensures

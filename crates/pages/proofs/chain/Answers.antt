@@ -21,7 +21,7 @@ returns-in_default c = record {
 }
 
 pub old_ver-v-requires : goal.old_ver-v-requires
-old_ver-v-requires c = let g = (turned-is c.args.s.now c.loop-left.hand c.loop-left.slot c.spot_at.result c.spot_at.ensures c.in-Is.p c.in-Is.is) in
+old_ver-v-requires c = let g = (turned-is c.args.s.now c.loop-left.hand c.loop-left.slot c.spot_at.result c.spot_at.ensures c.in-Some.p c.in-Some.is) in
     record {
       held = g.held;
       i_lt_elems = g.slot;
@@ -29,13 +29,13 @@ old_ver-v-requires c = let g = (turned-is c.args.s.now c.loop-left.hand c.loop-l
 
 pub returns-else-newer : goal.returns-else-newer
 returns-else-newer c = record {
-  ok_value = sym (c.loop-left.invariant.2 ∙ turn_young c.args.s.now c.loop-left.hand c.loop-left.slot c.loop-left.left c.loop-left.ver c.loop-left-test.true c.in-Is.p (turned-is c.args.s.now c.loop-left.hand c.loop-left.slot c.spot_at.result c.spot_at.ensures c.in-Is.p c.in-Is.is) _ c.old_ver-v.ensures (sym c.newer.ensures ∙ c.if-newer.false));
+  ok_value = sym (c.loop-left.invariant.2 ∙ turn_young c.args.s.now c.loop-left.hand c.loop-left.slot c.loop-left.left c.loop-left.ver c.loop-left-test.true c.in-Some.p (turned-is c.args.s.now c.loop-left.hand c.loop-left.slot c.spot_at.result c.spot_at.ensures c.in-Some.p c.in-Some.is) _ c.old_ver-v.ensures (sym c.newer.ensures ∙ c.if-newer.false));
   held_2 = c.loop-left.invariant.0;
 }
 
 pub overflow_add-slot : goal.overflow_add-slot
-overflow_add-slot c = let g = (turned-is c.args.s.now c.loop-left.hand c.loop-left.slot c.spot_at.result c.spot_at.ensures c.in-Is.p c.in-Is.is) in
-    omega (arith, (held-old c.args.s.now c.in-Is.p.hand c.in-Is.p.slot g.held g.slot).slot, c.well_formed)
+overflow_add-slot c = let g = (turned-is c.args.s.now c.loop-left.hand c.loop-left.slot c.spot_at.result c.spot_at.ensures c.in-Some.p c.in-Some.is) in
+    omega (arith, (held-old c.args.s.now c.in-Some.p.hand c.in-Some.p.slot g.held g.slot).slot, c.well_formed)
 
 pub overflow_sub-left : goal.overflow_sub-left
 overflow_sub-left c = omega (arith, c.loop-left-test.true)
@@ -44,8 +44,8 @@ pub loop-left-smaller : goal.loop-left-smaller
 loop-left-smaller c = omega (arith, c.loop-left-test.true)
 
 pub loop-left-preserved : goal.loop-left-preserved
-loop-left-preserved c = let g = (turned-is c.args.s.now c.loop-left.hand c.loop-left.slot c.spot_at.result c.spot_at.ensures c.in-Is.p c.in-Is.is) in
-    (g.held, omega (arith, g.slot), c.loop-left.invariant.2 ∙ turn_more c.args.s.now c.loop-left.hand c.loop-left.slot c.loop-left.left c.loop-left.ver c.loop-left-test.true c.in-Is.p g _ c.old_ver-v.ensures (sym c.newer.ensures ∙ c.if-newer.true))
+loop-left-preserved c = let g = (turned-is c.args.s.now c.loop-left.hand c.loop-left.slot c.spot_at.result c.spot_at.ensures c.in-Some.p c.in-Some.is) in
+    (g.held, omega (arith, g.slot), c.loop-left.invariant.2 ∙ turn_more c.args.s.now c.loop-left.hand c.loop-left.slot c.loop-left.left c.loop-left.ver c.loop-left-test.true c.in-Some.p g _ c.old_ver-v.ensures (sym c.newer.ensures ∙ c.if-newer.true))
 
 pub returns : goal.returns
 returns c = record {

@@ -20,18 +20,18 @@ returns-in_default c = record {
 
 pub chain-requires : goal.chain-requires
 chain-requires c = record {
-  held = judged-held c.args.s.now c.args.r.hist.page c.in-Is.x (sym c.in_hand.ensures ∙ c.in-Is.is);
+  held = judged-held c.args.s.now c.args.r.hist.page c.in-Some.x (sym c.in_hand.ensures ∙ c.in-Some.is);
   i_le_elems = omega (arith, c.if-h-x.true);
 }
 
 pub returns-then-h-x : goal.returns-then-h-x
 returns-then-h-x c = record {
-  ok_value = c.chain.ensures.ok_value ∙ head_held c.args.s.now c.args.r c.if-h-eq0.false c.in-Is.x (sym c.in_hand.ensures ∙ c.in-Is.is) _ c.ver_at.ensures c.if-h-x.true;
+  ok_value = c.chain.ensures.ok_value ∙ head_held c.args.s.now c.args.r c.if-h-eq0.false c.in-Some.x (sym c.in_hand.ensures ∙ c.in-Some.is) _ c.ver_at.ensures c.if-h-x.true;
   known_2 = inr c.chain.ensures.held_2;
 }
 
 pub returns : goal.returns
 returns c = record {
-  ok_value = sym (head_outside c.args.s.now c.args.r c.if-h-eq0.false c.in-Is.x (sym c.in_hand.ensures ∙ c.in-Is.is) c.if-h-x.false);
+  ok_value = sym (head_outside c.args.s.now c.args.r c.if-h-eq0.false c.in-Some.x (sym c.in_hand.ensures ∙ c.in-Some.is) c.if-h-x.false);
   known_2 = c.requires.known;
 }

@@ -8,4 +8,4 @@ returns-in_default c = simp (← c.bounds_at.ensures, c.in_default.is)
 
 pub returns : goal.returns
 unfolding hi_at
-returns c = simp (← c.bounds_at.ensures, c.in-Is.is, c.part_at.ensures)
+returns c = simp (← c.bounds_at.ensures, c.in-Ok.is, c.part_at.ensures)

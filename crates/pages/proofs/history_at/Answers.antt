@@ -5,8 +5,8 @@ use Rattle.pages.specs.Sound.{history_at}
 use Rattle.pages.proofs.Olds.{history-is}
 use Rattle.pages.proofs.history_at.Goals as goal
 
-pub returns-in-Is : goal.returns-in-Is
-returns-in-Is c = sym (history-is c.args.s.now c.args.a c.in-Is.d (c.quick_history.ensures c.in-Is.d c.in-Is.is))
+pub returns-in-Some : goal.returns-in-Some
+returns-in-Some c = sym (history-is c.args.s.now c.args.a c.in-Some.d (c.quick_history.ensures c.in-Some.d c.in-Some.is))
 
 pub returns-in_default-open_at : goal.returns-in_default-open_at
 unfolding history_at
@@ -14,8 +14,8 @@ returns-in_default-open_at c = simp (← c.open_at.ensures, c.in_default-open_at
 
 pub returns-then-b-ne-HISTORY : goal.returns-then-b-ne-HISTORY
 unfolding history_at
-returns-then-b-ne-HISTORY c = simp (← c.open_at.ensures, c.in-Is-open_at.is, ne_eqb _ _ c.if-b-ne-HISTORY.true)
+returns-then-b-ne-HISTORY c = simp (← c.open_at.ensures, c.in-Some-open_at.is, ne_eqb _ _ c.if-b-ne-HISTORY.true)
 
 pub returns : goal.returns
 unfolding history_at
-returns c = simp (← c.open_at.ensures, c.in-Is-open_at.is, eq-eqb _ _ c.if-b-ne-HISTORY.false)
+returns c = simp (← c.open_at.ensures, c.in-Some-open_at.is, eq-eqb _ _ c.if-b-ne-HISTORY.false)

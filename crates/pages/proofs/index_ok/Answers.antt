@@ -20,32 +20,32 @@ pub returns-in_default : goal.returns-in_default
 returns-in_default c = sym (c.loop-i.invariant.2 ∙ slots_bad c.args.s.now c.args.b c.args.b.elems _ _ _ _ c.loop-i-test.true (c.child_at.ensures ∙ ap child_of c.in_default.is))
 
 pub returns-then-from-want : goal.returns-then-from-want
-returns-then-from-want c = sym (c.loop-i.invariant.2 ∙ slots_gap c.args.s.now c.args.b c.args.b.elems _ _ _ _ c.loop-i-test.true _ (c.child_at.ensures ∙ ap child_of c.in-Is.is) c.if-from-want.true)
+returns-then-from-want c = sym (c.loop-i.invariant.2 ∙ slots_gap c.args.s.now c.args.b c.args.b.elems _ _ _ _ c.loop-i-test.true _ (c.child_at.ensures ∙ ap child_of c.in-Some.is) c.if-from-want.true)
 
 pub rises-requires : goal.rises-requires
-rises-requires c = let k = (at-inside c.args.s.now c.args.b c.loop-i.i _ c.requires.inside (c.child_at.ensures ∙ ap child_of c.in-Is.is)).0 in
+rises-requires c = let k = (at-inside c.args.s.now c.args.b c.loop-i.i _ c.requires.inside (c.child_at.ensures ∙ ap child_of c.in-Some.is)).0 in
     (c.loop-i.invariant.1, omega (arith, k.rest, c.requires.inside.payload, c.requires.inside.arena))
 
 pub overflow_add-i : goal.overflow_add-i
 overflow_add-i c = omega (arith, c.loop-i-test.true, c.requires.inside.slots, c.requires.inside.records, c.requires.inside.payload, c.requires.inside.arena, c.well_formed)
 
 pub overflow_add-want : goal.overflow_add-want
-overflow_add-want c = let k = (at-inside c.args.s.now c.args.b c.loop-i.i _ c.requires.inside (c.child_at.ensures ∙ ap child_of c.in-Is.is)).0 in
+overflow_add-want c = let k = (at-inside c.args.s.now c.args.b c.loop-i.i _ c.requires.inside (c.child_at.ensures ∙ ap child_of c.in-Some.is)).0 in
     omega (arith, k.rest, c.requires.inside.payload, c.requires.inside.arena, c.well_formed)
 
 pub overflow_add-want-then-rises : goal.overflow_add-want-then-rises
-overflow_add-want-then-rises c = let k = (at-inside c.args.s.now c.args.b c.loop-i.i _ c.requires.inside (c.child_at.ensures ∙ ap child_of c.in-Is.is)).0 in
+overflow_add-want-then-rises c = let k = (at-inside c.args.s.now c.args.b c.loop-i.i _ c.requires.inside (c.child_at.ensures ∙ ap child_of c.in-Some.is)).0 in
     omega (arith, k.next, c.requires.inside.payload, c.requires.inside.arena, c.well_formed)
 
 pub loop-i-smaller : goal.loop-i-smaller
 loop-i-smaller c = omega (arith, c.loop-i-test.true)
 
 pub loop-i-preserved : goal.loop-i-preserved
-loop-i-preserved c = let k = (at-inside c.args.s.now c.args.b c.loop-i.i _ c.requires.inside (c.child_at.ensures ∙ ap child_of c.in-Is.is)).0 in
-    (omega (arith, c.loop-i-test.true), omega (arith, k.rest, c.requires.inside.payload, c.requires.inside.arena), c.loop-i.invariant.2 ∙ slots_more c.args.s.now c.args.b c.args.b.elems _ _ _ _ c.loop-i-test.true _ (c.child_at.ensures ∙ ap child_of c.in-Is.is) c.if-from-want.false (sym c.rises.ensures ∙ c.if-rises.true))
+loop-i-preserved c = let k = (at-inside c.args.s.now c.args.b c.loop-i.i _ c.requires.inside (c.child_at.ensures ∙ ap child_of c.in-Some.is)).0 in
+    (omega (arith, c.loop-i-test.true), omega (arith, k.rest, c.requires.inside.payload, c.requires.inside.arena), c.loop-i.invariant.2 ∙ slots_more c.args.s.now c.args.b c.args.b.elems _ _ _ _ c.loop-i-test.true _ (c.child_at.ensures ∙ ap child_of c.in-Some.is) c.if-from-want.false (sym c.rises.ensures ∙ c.if-rises.true))
 
 pub returns-else-rises : goal.returns-else-rises
-returns-else-rises c = sym (c.loop-i.invariant.2 ∙ slots_fall c.args.s.now c.args.b c.args.b.elems _ _ _ _ c.loop-i-test.true _ (c.child_at.ensures ∙ ap child_of c.in-Is.is) c.if-from-want.false (sym c.rises.ensures ∙ c.if-rises.false))
+returns-else-rises c = sym (c.loop-i.invariant.2 ∙ slots_fall c.args.s.now c.args.b c.args.b.elems _ _ _ _ c.loop-i-test.true _ (c.child_at.ensures ∙ ap child_of c.in-Some.is) c.if-from-want.false (sym c.rises.ensures ∙ c.if-rises.false))
 
 pub returns : goal.returns
 returns c = sym (c.loop-i.invariant.2 ∙ slots_end c.args.s.now c.args.b c.args.b.elems _ _ _ _ c.loop-i-test.false)

@@ -8,4 +8,4 @@ returns-in_default c = simp (← c.rec_at.ensures, c.in_default.is)
 
 pub returns : goal.returns
 unfolding old_in
-returns c = simp (← c.rec_at.ensures, c.in-Is.is)
+returns c = simp (← c.rec_at.ensures, c.in-Some.is)

@@ -4,5 +4,5 @@ use Rattle.records.proofs.Quick.{quick_is}
 use Rattle.records.proofs.Inside.{rec_no}
 use Rattle.pages.proofs.old_or_child.Goals as goal
 
-pub returns-in-Is : goal.returns-in-Is
-returns-in-Is c = sym (quick_is _ c.quick_old.ensures c.in-Is.is (rec_no _))
+pub returns-in-Some : goal.returns-in-Some
+returns-in-Some c = sym (quick_is _ c.quick_old.ensures c.in-Some.is (rec_no _))

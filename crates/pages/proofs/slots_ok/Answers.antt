@@ -16,10 +16,10 @@ pub returns-in_default : goal.returns-in_default
 returns-in_default c = sym (c.loop-i.invariant.2 ∙ slots_bad c.args.s.now c.args.b c.args.b.elems _ _ _ _ c.loop-i-test.true (sym c.old_or_child.ensures ∙ c.in_default.is))
 
 pub returns-then-r-want : goal.returns-then-r-want
-returns-then-r-want c = sym (c.loop-i.invariant.2 ∙ slots_gap c.args.s.now c.args.b c.args.b.elems _ _ _ _ c.loop-i-test.true c.in-Is.r (sym c.old_or_child.ensures ∙ c.in-Is.is) c.if-r-want.true)
+returns-then-r-want c = sym (c.loop-i.invariant.2 ∙ slots_gap c.args.s.now c.args.b c.args.b.elems _ _ _ _ c.loop-i-test.true c.in-Some.r (sym c.old_or_child.ensures ∙ c.in-Some.is) c.if-r-want.true)
 
 pub in_order-requires : goal.in_order-requires
-in_order-requires c = let k = (at-inside c.args.s.now c.args.b c.loop-i.i c.in-Is.r c.requires (sym c.old_or_child.ensures ∙ c.in-Is.is)).0 in
+in_order-requires c = let k = (at-inside c.args.s.now c.args.b c.loop-i.i c.in-Some.r c.requires (sym c.old_or_child.ensures ∙ c.in-Some.is)).0 in
     (c.loop-i.invariant.1, omega (arith, k.rest, c.requires.payload, c.requires.arena))
 
 pub overflow_add-i : goal.overflow_add-i
@@ -29,11 +29,11 @@ pub loop-i-smaller : goal.loop-i-smaller
 loop-i-smaller c = omega (arith, c.loop-i-test.true)
 
 pub loop-i-preserved : goal.loop-i-preserved
-loop-i-preserved c = let k = (at-inside c.args.s.now c.args.b c.loop-i.i c.in-Is.r c.requires (sym c.old_or_child.ensures ∙ c.in-Is.is)).0 in
-    (omega (arith, c.loop-i-test.true), omega (arith, k.rest, c.requires.payload, c.requires.arena), c.loop-i.invariant.2 ∙ slots_more c.args.s.now c.args.b c.args.b.elems _ _ _ _ c.loop-i-test.true c.in-Is.r (sym c.old_or_child.ensures ∙ c.in-Is.is) c.if-r-want.false (sym c.in_order.ensures ∙ c.if-in_order.true))
+loop-i-preserved c = let k = (at-inside c.args.s.now c.args.b c.loop-i.i c.in-Some.r c.requires (sym c.old_or_child.ensures ∙ c.in-Some.is)).0 in
+    (omega (arith, c.loop-i-test.true), omega (arith, k.rest, c.requires.payload, c.requires.arena), c.loop-i.invariant.2 ∙ slots_more c.args.s.now c.args.b c.args.b.elems _ _ _ _ c.loop-i-test.true c.in-Some.r (sym c.old_or_child.ensures ∙ c.in-Some.is) c.if-r-want.false (sym c.in_order.ensures ∙ c.if-in_order.true))
 
 pub returns-else-in_order : goal.returns-else-in_order
-returns-else-in_order c = sym (c.loop-i.invariant.2 ∙ slots_fall c.args.s.now c.args.b c.args.b.elems _ _ _ _ c.loop-i-test.true c.in-Is.r (sym c.old_or_child.ensures ∙ c.in-Is.is) c.if-r-want.false (sym c.in_order.ensures ∙ c.if-in_order.false))
+returns-else-in_order c = sym (c.loop-i.invariant.2 ∙ slots_fall c.args.s.now c.args.b c.args.b.elems _ _ _ _ c.loop-i-test.true c.in-Some.r (sym c.old_or_child.ensures ∙ c.in-Some.is) c.if-r-want.false (sym c.in_order.ensures ∙ c.if-in_order.false))
 
 pub returns : goal.returns
 returns c = sym (c.loop-i.invariant.2 ∙ slots_end c.args.s.now c.args.b c.args.b.elems _ _ _ _ c.loop-i-test.false)

@@ -10,4 +10,4 @@ pub returns-in_default : goal.returns-in_default
 returns-in_default c = spot_none c.args.s.now c.args.hand c.requires.held c.args.i c.if-i-hand.false c.requires.i_le_elems (sym c.judged.ensures ∙ c.in_default.is)
 
 pub returns : goal.returns
-returns c = spot_behind c.args.s.now c.args.hand c.requires.held c.args.i c.if-i-hand.false c.requires.i_le_elems c.in-Is.h _ refl refl (sym c.judged.ensures ∙ c.in-Is.is)
+returns c = spot_behind c.args.s.now c.args.hand c.requires.held c.args.i c.if-i-hand.false c.requires.i_le_elems c.in-Some.h _ refl refl (sym c.judged.ensures ∙ c.in-Some.is)

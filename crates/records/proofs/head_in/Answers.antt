@@ -19,4 +19,4 @@ pub overflow_sub-result : goal.overflow_sub-result
 overflow_sub-result c = omega (arith, (c.quick_key-n.ensures c.if-n-eq0.false).long)
 
 pub returns : goal.returns
-returns c = inr (sym (short_head c.args.s.now c.args.b c.args.p _ c.in-Is.hist c.in-Is.val_at c.in-Is.val_len c.in-Is.remote c.in-Is.next c.requires.kind_value (c.quick_key-n.ensures c.if-n-eq0.false) (quick_is _ c.quick_value.ensures c.in-Is.is (val_no _ _ _ _ _))))
+returns c = inr (sym (short_head c.args.s.now c.args.b c.args.p _ c.in-Some.val.hist c.in-Some.val.val_at c.in-Some.val.val_len c.in-Some.val.remote c.in-Some.val.next c.requires.kind_value (c.quick_key-n.ensures c.if-n-eq0.false) (quick_is _ c.quick_value.ensures c.in-Some.is (val_no _ _ _ _ _))))

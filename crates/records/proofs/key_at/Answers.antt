@@ -8,4 +8,4 @@ returns-in_default c = simp (← c.slot_at.ensures, c.in_default.is)
 
 pub returns : goal.returns
 unfolding key_at_slot
-returns c = simp (← c.slot_at.ensures, c.in-At.is, c.short_key.ensures)
+returns c = simp (← c.slot_at.ensures, c.in-Some.is, c.short_key.ensures)

@@ -14,13 +14,13 @@ unfolding key_in
 returns-in_default c = simp (← c.key_at.ensures, c.in_default.is)
 
 pub overflow_add-b : goal.overflow_add-b
-overflow_add-b c = let k = place_inside c.args.s.now c.args.b c.args.at c.in-Key.ver_at c.in-Key.rest_at c.in-Key.rest_len c.requires (sym c.key_at.ensures ∙ c.in-Key.is) in
+overflow_add-b c = let k = place_inside c.args.s.now c.args.b c.args.at c.in-Some.k.ver_at c.in-Some.k.rest_at c.in-Some.k.rest_len c.requires (sym c.key_at.ensures ∙ c.in-Some.is) in
     omega (arith, k.rest, c.requires.slots, c.requires.records, c.requires.payload, c.requires.arena, c.requires.prefix, c.well_formed)
 
 pub returns-then-b-rest_len-gt-MAX_KEY : goal.returns-then-b-rest_len-gt-MAX_KEY
 unfolding key_in
-returns-then-b-rest_len-gt-MAX_KEY c = simp (← c.key_at.ensures, c.in-Key.is, lt-leb _ _ c.if-b-rest_len-gt-MAX_KEY.true)
+returns-then-b-rest_len-gt-MAX_KEY c = simp (← c.key_at.ensures, c.in-Some.is, lt-leb _ _ c.if-b-rest_len-gt-MAX_KEY.true)
 
 pub returns : goal.returns
 unfolding key_in
-returns c = simp (← c.key_at.ensures, c.in-Key.is, le-leb _ _ c.if-b-rest_len-gt-MAX_KEY.false)
+returns c = simp (← c.key_at.ensures, c.in-Some.is, le-leb _ _ c.if-b-rest_len-gt-MAX_KEY.false)

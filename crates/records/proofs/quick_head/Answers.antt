@@ -13,8 +13,8 @@ pub head_in-requires : goal.head_in-requires
 head_in-requires c = record {
   inside = c.requires.inside;
   kind_value = c.requires.kind_value;
-  p_lt_end = omega (arith, slot-inside c.args.s.now c.args.b c.args.i c.in-At.p (sym c.slot_at.ensures ∙ c.in-At.is));
+  p_lt_end = omega (arith, slot-inside c.args.s.now c.args.b c.args.i c.in-Some.p (sym c.slot_at.ensures ∙ c.in-Some.is));
 }
 
 pub returns : goal.returns
-returns c = quick_on (slot-rec c.args.s.now c.args.b c.args.i c.in-At.p (sym c.slot_at.ensures ∙ c.in-At.is)) c.head_in.ensures
+returns c = quick_on (slot-rec c.args.s.now c.args.b c.args.i c.in-Some.p (sym c.slot_at.ensures ∙ c.in-Some.is)) c.head_in.ensures

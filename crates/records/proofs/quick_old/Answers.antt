@@ -8,4 +8,4 @@ pub returns-in_default : goal.returns-in_default
 returns-in_default c = inl refl
 
 pub returns : goal.returns
-returns c = quick_on (slot-rec c.args.s.now c.args.b c.args.i c.in-At.p (sym c.slot_at.ensures ∙ c.in-At.is)) c.old_in.ensures
+returns c = quick_on (slot-rec c.args.s.now c.args.b c.args.i c.in-Some.p (sym c.slot_at.ensures ∙ c.in-Some.is)) c.old_in.ensures

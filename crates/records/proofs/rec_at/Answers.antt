@@ -8,4 +8,4 @@ returns-in_default c = simp (← c.slot_at.ensures, c.in_default.is)
 
 pub returns : goal.returns
 unfolding rec_at
-returns c = simp (← c.slot_at.ensures, c.in-At.is, c.rec_in.ensures)
+returns c = simp (← c.slot_at.ensures, c.in-Some.is, c.rec_in.ensures)

@@ -12,20 +12,20 @@ pub slice_bounds-decode_from-end : goal.slice_bounds-decode_from-end
 slice_bounds-decode_from-end c = sym (ends c.args.s.now c.args.b c.requires)
 
 pub overflow_cast-size : goal.overflow_cast-size
-overflow_cast-size c = omega (arith, (remote-place (take c.args.b.end c.args.s.now) c.args.at (eqb c.args.b.kind 0) c.in-Remote.hist c.in-Remote.addr c.in-Remote.size c.in-Remote.next (sym c.decode_from-v.ensures ∙ c.in-Remote.is)).small)
+overflow_cast-size c = omega (arith, (remote-place (take c.args.b.end c.args.s.now) c.args.at (eqb c.args.b.kind 0) c.in-Some-Remote.hist c.in-Some-Remote.addr c.in-Some-Remote.size c.in-Some-Remote.next (sym c.decode_from-v.ensures ∙ c.in-Some-Remote.is)).small)
 
 pub returns-in_default : goal.returns-in_default
 unfolding val_in
-returns-in_default c = simp (← c.decode_from-v.ensures, c.in-Remote.is, ← c.remote_at.ensures, c.in_default.is)
+returns-in_default c = simp (← c.decode_from-v.ensures, c.in-Some-Remote.is, ← c.remote_at.ensures, c.in_default.is)
 
-pub returns-in-Inline : goal.returns-in-Inline
+pub returns-in-Some-Inline : goal.returns-in-Some-Inline
 unfolding val_in
-returns-in-Inline c = simp (← c.decode_from-v.ensures, c.in-Inline.is)
+returns-in-Some-Inline c = simp (← c.decode_from-v.ensures, c.in-Some-Inline.is)
 
-pub returns-in-At : goal.returns-in-At
+pub returns-in-Some : goal.returns-in-Some
 unfolding val_in
-returns-in-At c = simp (← c.decode_from-v.ensures, c.in-Remote.is, ← c.remote_at.ensures, c.in-At.is)
+returns-in-Some c = simp (← c.decode_from-v.ensures, c.in-Some-Remote.is, ← c.remote_at.ensures, c.in-Some.is)
 
-pub returns-in-Bad : goal.returns-in-Bad
+pub returns-in-None : goal.returns-in-None
 unfolding val_in
-returns-in-Bad c = simp (← c.decode_from-v.ensures, c.in-Bad.is)
+returns-in-None c = simp (← c.decode_from-v.ensures, c.in-None.is)

@@ -1,6 +1,7 @@
+use Rattle.values.specs.Keys.{key_parts}
+use Rattle.std.proofs.Common.{Some}
 use native.Mathlib.Omega.{arith}
 use mathlib.Core.Path.{◌≡◌, sym, ◌∙◌}
-use Rattle.values.specs.declared.KeyRead.{KeyRead}
 use Rattle.records.specs.Records.{key_at_slot}
 use Rattle.sst.proofs.Opens.{key-at-inside}
 use Rattle.sst.proofs.Compared.{key-less, key_equal, key_greater, key_bad, lent}
@@ -13,10 +14,10 @@ pub overflow_add-e : goal.overflow_add-e
 overflow_add-e c = let s = c.args.s.now in
     let b = c.args.b in
     let rest = c.args.rest.now in
-    let v = c.in-Key.ver_at in
-    let r = c.in-Key.rest_at in
-    let n = c.in-Key.rest_len in
-    let k : key_at_slot s b c.args.i ≡ KeyRead.Key v r n = sym c.key_at.ensures ∙ c.in-Key.is in
+    let v = c.in-Some.k.ver_at in
+    let r = c.in-Some.k.rest_at in
+    let n = c.in-Some.k.rest_len in
+    let k : key_at_slot s b c.args.i ≡ Some (key_parts v r n) = sym c.key_at.ensures ∙ c.in-Some.is in
     let z = key-at-inside s b c.args.i v r n c.requires k in
     omega (arith, z.rest, c.requires.payload, c.requires.arena, c.well_formed)
 
@@ -24,10 +25,10 @@ pub slice_bounds-compare-end : goal.slice_bounds-compare-end
 slice_bounds-compare-end c = let s = c.args.s.now in
     let b = c.args.b in
     let rest = c.args.rest.now in
-    let v = c.in-Key.ver_at in
-    let r = c.in-Key.rest_at in
-    let n = c.in-Key.rest_len in
-    let k : key_at_slot s b c.args.i ≡ KeyRead.Key v r n = sym c.key_at.ensures ∙ c.in-Key.is in
+    let v = c.in-Some.k.ver_at in
+    let r = c.in-Some.k.rest_at in
+    let n = c.in-Some.k.rest_len in
+    let k : key_at_slot s b c.args.i ≡ Some (key_parts v r n) = sym c.key_at.ensures ∙ c.in-Some.is in
     let z = key-at-inside s b c.args.i v r n c.requires k in
     omega (arith, z.rest, c.requires.payload, c.requires.arena)
 
@@ -35,10 +36,10 @@ pub equal_at-requires : goal.equal_at-requires
 equal_at-requires c = let s = c.args.s.now in
     let b = c.args.b in
     let rest = c.args.rest.now in
-    let v = c.in-Key.ver_at in
-    let r = c.in-Key.rest_at in
-    let n = c.in-Key.rest_len in
-    let k : key_at_slot s b c.args.i ≡ KeyRead.Key v r n = sym c.key_at.ensures ∙ c.in-Key.is in
+    let v = c.in-Some.k.ver_at in
+    let r = c.in-Some.k.rest_at in
+    let n = c.in-Some.k.rest_len in
+    let k : key_at_slot s b c.args.i ≡ Some (key_parts v r n) = sym c.key_at.ensures ∙ c.in-Some.is in
     let z = key-at-inside s b c.args.i v r n c.requires k in
     omega (arith, z.ver, z.rest, c.requires.payload, c.requires.arena)
 
@@ -46,28 +47,28 @@ pub returns-in-Less : goal.returns-in-Less
 returns-in-Less c = let s = c.args.s.now in
     let b = c.args.b in
     let rest = c.args.rest.now in
-    let v = c.in-Key.ver_at in
-    let r = c.in-Key.rest_at in
-    let n = c.in-Key.rest_len in
-    let k : key_at_slot s b c.args.i ≡ KeyRead.Key v r n = sym c.key_at.ensures ∙ c.in-Key.is in
+    let v = c.in-Some.k.ver_at in
+    let r = c.in-Some.k.rest_at in
+    let n = c.in-Some.k.rest_len in
+    let k : key_at_slot s b c.args.i ≡ Some (key_parts v r n) = sym c.key_at.ensures ∙ c.in-Some.is in
     sym (key-less s b rest c.args.w v r n c.args.i k (sym (lent s rest r n) ∙ sym c.compare.ensures ∙ c.in-Less.is))
 
 pub returns-in-Equal : goal.returns-in-Equal
 returns-in-Equal c = let s = c.args.s.now in
     let b = c.args.b in
     let rest = c.args.rest.now in
-    let v = c.in-Key.ver_at in
-    let r = c.in-Key.rest_at in
-    let n = c.in-Key.rest_len in
-    let k : key_at_slot s b c.args.i ≡ KeyRead.Key v r n = sym c.key_at.ensures ∙ c.in-Key.is in
+    let v = c.in-Some.k.ver_at in
+    let r = c.in-Some.k.rest_at in
+    let n = c.in-Some.k.rest_len in
+    let k : key_at_slot s b c.args.i ≡ Some (key_parts v r n) = sym c.key_at.ensures ∙ c.in-Some.is in
     c.equal_at.ensures ∙ sym (key_equal s b rest c.args.w v r n c.args.i k (sym (lent s rest r n) ∙ sym c.compare.ensures ∙ c.in-Equal.is))
 
 pub returns-in-Greater : goal.returns-in-Greater
 returns-in-Greater c = let s = c.args.s.now in
     let b = c.args.b in
     let rest = c.args.rest.now in
-    let v = c.in-Key.ver_at in
-    let r = c.in-Key.rest_at in
-    let n = c.in-Key.rest_len in
-    let k : key_at_slot s b c.args.i ≡ KeyRead.Key v r n = sym c.key_at.ensures ∙ c.in-Key.is in
+    let v = c.in-Some.k.ver_at in
+    let r = c.in-Some.k.rest_at in
+    let n = c.in-Some.k.rest_len in
+    let k : key_at_slot s b c.args.i ≡ Some (key_parts v r n) = sym c.key_at.ensures ∙ c.in-Some.is in
     sym (key_greater s b rest c.args.w v r n c.args.i k (sym (lent s rest r n) ∙ sym c.compare.ensures ∙ c.in-Greater.is))

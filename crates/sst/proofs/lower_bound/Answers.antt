@@ -1,7 +1,8 @@
+use Rattle.sst.specs.declared.Ended.{Ended}
+use Rattle.std.proofs.Common.{Some, None}
 use mathlib.Core.Path.{◌≡◌, sym, ap, ◌∙◌}
 use Rattle.frames.proofs.Frames.{open_inside}
 use Rattle.sst.specs.Search.{outcome_at, lower_at, bound, lower_of}
-use Rattle.sst.specs.declared.Ended.{Ended}
 use Rattle.sst.proofs.Opens.{back_of, outcome_ended, outcome_bad}
 use Rattle.sst.proofs.lower_bound.Goals as goal
 
@@ -10,19 +11,19 @@ unfolding lower_at
 returns-in_default c = ap lower_of (sym (outcome_bad c.args.s.now c.args.a c.args.probe.now (bound c.args.v) (sym c.open_at.ensures ∙ c.in_default.is)))
 
 pub ended_in-requires : goal.ended_in-requires
-ended_in-requires c = (open_inside c.args.s.now c.args.a c.in-Is.b (sym c.open_at.ensures ∙ c.in-Is.is)).0
+ended_in-requires c = (open_inside c.args.s.now c.args.a c.in-Some.b (sym c.open_at.ensures ∙ c.in-Some.is)).0
 
-pub returns-in-Bad : goal.returns-in-Bad
+pub returns-in-None : goal.returns-in-None
 unfolding lower_at
-returns-in-Bad c = let e : outcome_at c.args.s.now c.args.a c.args.probe.now (bound c.args.v) ≡ back_of c.in-Is.b Ended.Bad = outcome_ended c.args.s.now c.args.a c.args.probe.now (bound c.args.v) c.in-Is.b Ended.Bad (sym c.open_at.ensures ∙ c.in-Is.is) (sym c.ended_in.ensures ∙ c.in-Bad.is) in
+returns-in-None c = let e : outcome_at c.args.s.now c.args.a c.args.probe.now (bound c.args.v) ≡ back_of c.in-Some.b None = outcome_ended c.args.s.now c.args.a c.args.probe.now (bound c.args.v) c.in-Some.b None (sym c.open_at.ensures ∙ c.in-Some.is) (sym c.ended_in.ensures ∙ c.in-None.is) in
     ap lower_of (sym e)
 
-pub returns-in-Empty : goal.returns-in-Empty
+pub returns-in-Some-Empty : goal.returns-in-Some-Empty
 unfolding lower_at
-returns-in-Empty c = let e : outcome_at c.args.s.now c.args.a c.args.probe.now (bound c.args.v) ≡ back_of c.in-Is.b (Ended.Empty) = outcome_ended c.args.s.now c.args.a c.args.probe.now (bound c.args.v) c.in-Is.b (Ended.Empty) (sym c.open_at.ensures ∙ c.in-Is.is) (sym c.ended_in.ensures ∙ c.in-Empty.is) in
+returns-in-Some-Empty c = let e : outcome_at c.args.s.now c.args.a c.args.probe.now (bound c.args.v) ≡ back_of c.in-Some.b (Some Ended.Empty) = outcome_ended c.args.s.now c.args.a c.args.probe.now (bound c.args.v) c.in-Some.b (Some Ended.Empty) (sym c.open_at.ensures ∙ c.in-Some.is) (sym c.ended_in.ensures ∙ c.in-Some-Empty.is) in
     ap lower_of (sym e)
 
-pub returns-in-Stands : goal.returns-in-Stands
+pub returns-in-Some-Stands : goal.returns-in-Some-Stands
 unfolding lower_at
-returns-in-Stands c = let e : outcome_at c.args.s.now c.args.a c.args.probe.now (bound c.args.v) ≡ back_of c.in-Is.b (Ended.Stands c.in-Stands.h) = outcome_ended c.args.s.now c.args.a c.args.probe.now (bound c.args.v) c.in-Is.b (Ended.Stands c.in-Stands.h) (sym c.open_at.ensures ∙ c.in-Is.is) (sym c.ended_in.ensures ∙ c.in-Stands.is) in
+returns-in-Some-Stands c = let e : outcome_at c.args.s.now c.args.a c.args.probe.now (bound c.args.v) ≡ back_of c.in-Some.b (Some (Ended.Stands c.in-Some-Stands.h)) = outcome_ended c.args.s.now c.args.a c.args.probe.now (bound c.args.v) c.in-Some.b (Some (Ended.Stands c.in-Some-Stands.h)) (sym c.open_at.ensures ∙ c.in-Some.is) (sym c.ended_in.ensures ∙ c.in-Some-Stands.is) in
     c.bound_in.ensures ∙ ap lower_of (sym e)

@@ -26,48 +26,48 @@ pub overflow_add-q : goal.overflow_add-q
 overflow_add-q c = let s = c.args.s.now in
     let b = c.args.b in
     let rest = c.args.rest.now in
-    let p = c.in-At.p in
-    let k = marked_lies s b (mid c.loop-lo.lo c.loop-lo.hi) c.args.mark (length rest) p c.skip_of-skip.result c.marked_at.result c.requires.inside c.requires.marks c.marked_at.ensures c.in-At.is c.skip_of-skip.ensures in
+    let p = c.in-Some.p in
+    let k = marked_lies s b (mid c.loop-lo.lo c.loop-lo.hi) c.args.mark (length rest) p c.skip_of-skip.result c.marked_at.result c.requires.inside c.requires.marks c.marked_at.ensures c.in-Some.is c.skip_of-skip.ensures in
     omega (arith, k.inside, c.well_formed)
 
 pub overflow_add-q-in-loop-lo : goal.overflow_add-q-in-loop-lo
 overflow_add-q-in-loop-lo c = let s = c.args.s.now in
     let b = c.args.b in
     let rest = c.args.rest.now in
-    let p = c.in-At.p in
-    let k = marked_lies s b (mid c.loop-lo.lo c.loop-lo.hi) c.args.mark (length rest) p c.skip_of-skip.result c.marked_at.result c.requires.inside c.requires.marks c.marked_at.ensures c.in-At.is c.skip_of-skip.ensures in
+    let p = c.in-Some.p in
+    let k = marked_lies s b (mid c.loop-lo.lo c.loop-lo.hi) c.args.mark (length rest) p c.skip_of-skip.result c.marked_at.result c.requires.inside c.requires.marks c.marked_at.ensures c.in-Some.is c.skip_of-skip.ensures in
     omega (arith, k.inside, c.well_formed)
 
 pub overflow_add-e : goal.overflow_add-e
 overflow_add-e c = let s = c.args.s.now in
     let b = c.args.b in
     let rest = c.args.rest.now in
-    let p = c.in-At.p in
-    let k = marked_lies s b (mid c.loop-lo.lo c.loop-lo.hi) c.args.mark (length rest) p c.skip_of-skip.result c.marked_at.result c.requires.inside c.requires.marks c.marked_at.ensures c.in-At.is c.skip_of-skip.ensures in
+    let p = c.in-Some.p in
+    let k = marked_lies s b (mid c.loop-lo.lo c.loop-lo.hi) c.args.mark (length rest) p c.skip_of-skip.result c.marked_at.result c.requires.inside c.requires.marks c.marked_at.ensures c.in-Some.is c.skip_of-skip.ensures in
     omega (arith, k.inside, c.well_formed)
 
 pub slice_bounds-pair_of-end : goal.slice_bounds-pair_of-end
 slice_bounds-pair_of-end c = let s = c.args.s.now in
     let b = c.args.b in
     let rest = c.args.rest.now in
-    let p = c.in-At.p in
-    let k = marked_lies s b (mid c.loop-lo.lo c.loop-lo.hi) c.args.mark (length rest) p c.skip_of-skip.result c.marked_at.result c.requires.inside c.requires.marks c.marked_at.ensures c.in-At.is c.skip_of-skip.ensures in
+    let p = c.in-Some.p in
+    let k = marked_lies s b (mid c.loop-lo.lo c.loop-lo.hi) c.args.mark (length rest) p c.skip_of-skip.result c.marked_at.result c.requires.inside c.requires.marks c.marked_at.ensures c.in-Some.is c.skip_of-skip.ensures in
     omega (arith, k.inside, c.well_formed)
 
 pub pair_of-d-requires : goal.pair_of-d-requires
 pair_of-d-requires c = let s = c.args.s.now in
     let b = c.args.b in
     let rest = c.args.rest.now in
-    let p = c.in-At.p in
-    let k = marked_lies s b (mid c.loop-lo.lo c.loop-lo.hi) c.args.mark (length rest) p c.skip_of-skip.result c.marked_at.result c.requires.inside c.requires.marks c.marked_at.ensures c.in-At.is c.skip_of-skip.ensures in
+    let p = c.in-Some.p in
+    let k = marked_lies s b (mid c.loop-lo.lo c.loop-lo.hi) c.args.mark (length rest) p c.skip_of-skip.result c.marked_at.result c.requires.inside c.requires.marks c.marked_at.ensures c.in-Some.is c.skip_of-skip.ensures in
     lent_length s (p + 1 + c.skip_of-skip.result) (length rest) k.inside
 
 pub returns-then-d-2 : goal.returns-then-d-2
 returns-then-d-2 c = let s = c.args.s.now in
     let b = c.args.b in
     let rest = c.args.rest.now in
-    let p = c.in-At.p in
-    let k = marked_lies s b (mid c.loop-lo.lo c.loop-lo.hi) c.args.mark (length rest) p c.skip_of-skip.result c.marked_at.result c.requires.inside c.requires.marks c.marked_at.ensures c.in-At.is c.skip_of-skip.ensures in
+    let p = c.in-Some.p in
+    let k = marked_lies s b (mid c.loop-lo.lo c.loop-lo.hi) c.args.mark (length rest) p c.skip_of-skip.result c.marked_at.result c.requires.inside c.requires.marks c.marked_at.ensures c.in-Some.is c.skip_of-skip.ensures in
     record { goes = c.loop-lo.invariant; met = narrow_met s b rest (mid c.loop-lo.lo c.loop-lo.hi) p c.skip_of-skip.result c.pair_of-d.result c.skip_of-skip.ensures c.pair_of-d.ensures c.if-d.true c.if-d-2.true k.key }
 
 pub returns-then-d : goal.returns-then-d
@@ -86,8 +86,8 @@ pub loop-lo-preserved-then-d-3 : goal.loop-lo-preserved-then-d-3
 loop-lo-preserved-then-d-3 c = let s = c.args.s.now in
     let b = c.args.b in
     let rest = c.args.rest.now in
-    let p = c.in-At.p in
-    let k = marked_lies s b (mid c.loop-lo.lo c.loop-lo.hi) c.args.mark (length rest) p c.skip_of-skip.result c.marked_at.result c.requires.inside c.requires.marks c.marked_at.ensures c.in-At.is c.skip_of-skip.ensures in
+    let p = c.in-Some.p in
+    let k = marked_lies s b (mid c.loop-lo.lo c.loop-lo.hi) c.args.mark (length rest) p c.skip_of-skip.result c.marked_at.result c.requires.inside c.requires.marks c.marked_at.ensures c.in-Some.is c.skip_of-skip.ensures in
     narrow_less s b rest (p + 1 + c.skip_of-skip.result) c.pair_of-d.result c.pair_of-d.ensures c.args.from.lo c.args.from.hi c.args.from.reads c.loop-lo.lo c.loop-lo.hi c.loop-lo.reads (p + 1) c.loop-lo.invariant c.loop-lo-test.true k.key c.if-d-3.true
 
 pub loop-lo-smaller : goal.loop-lo-smaller
@@ -97,8 +97,8 @@ pub loop-lo-preserved : goal.loop-lo-preserved
 loop-lo-preserved c = let s = c.args.s.now in
     let b = c.args.b in
     let rest = c.args.rest.now in
-    let p = c.in-At.p in
-    let k = marked_lies s b (mid c.loop-lo.lo c.loop-lo.hi) c.args.mark (length rest) p c.skip_of-skip.result c.marked_at.result c.requires.inside c.requires.marks c.marked_at.ensures c.in-At.is c.skip_of-skip.ensures in
+    let p = c.in-Some.p in
+    let k = marked_lies s b (mid c.loop-lo.lo c.loop-lo.hi) c.args.mark (length rest) p c.skip_of-skip.result c.marked_at.result c.requires.inside c.requires.marks c.marked_at.ensures c.in-Some.is c.skip_of-skip.ensures in
     narrow_greater s b rest (p + 1 + c.skip_of-skip.result) c.pair_of-d.result c.pair_of-d.ensures c.args.from.lo c.args.from.hi c.args.from.reads c.loop-lo.lo c.loop-lo.hi c.loop-lo.reads (p + 1) c.loop-lo.invariant c.loop-lo-test.true k.key c.if-d.false c.if-d-3.false
 
 pub returns : goal.returns

@@ -1,9 +1,10 @@
+use Rattle.sst.specs.declared.Outcome.{Outcome}
+use Rattle.sst.specs.declared.Ended.{Ended}
+use Rattle.std.proofs.Common.{Some, None}
 use mathlib.Core.Bool.{true, false}
 use mathlib.Core.Path.{◌≡◌, sym, ap, ◌∙◌}
 use Rattle.frames.proofs.Frames.{open_inside}
 use Rattle.sst.specs.Search.{ended_in, outcome_at, search_at, leaves, search_of}
-use Rattle.sst.specs.declared.Outcome.{Outcome}
-use Rattle.sst.specs.declared.Ended.{Ended}
 use Rattle.sst.proofs.Opens.{wants, end_of_lem, back_of, outcome_ended, outcome_bad, outcome_ready, leaf_kind}
 use Rattle.sst.proofs.search_ver_val_by_raw.Goals as goal
 
@@ -12,31 +13,31 @@ unfolding search_at
 returns-in_default c = ap (search_of c.args.s.now) (sym (outcome_bad c.args.s.now c.args.a c.args.probe.now leaves (sym c.open_at.ensures ∙ c.in_default.is)))
 
 pub ended_in-requires : goal.ended_in-requires
-ended_in-requires c = (open_inside c.args.s.now c.args.a c.in-Is.b (sym c.open_at.ensures ∙ c.in-Is.is)).0
+ended_in-requires c = (open_inside c.args.s.now c.args.a c.in-Some.b (sym c.open_at.ensures ∙ c.in-Some.is)).0
 
 pub found_in-requires : goal.found_in-requires
-found_in-requires c = let q : ended_in c.args.s.now c.in-Is.b c.args.probe.now leaves ≡ Ended.Stands c.in-Stands.h = end_of_lem c.args.s.now c.in-Is.b c.args.probe.now leaves (wants true false c.new.result) c.ended_in.result (Ended.Stands c.in-Stands.h) (ap (wants true false) c.new.ensures) c.ended_in.ensures c.in-Stands.is in
-    let e : outcome_at c.args.s.now c.args.a c.args.probe.now leaves ≡ Outcome.Stands c.in-Is.b c.in-Stands.h = outcome_ended c.args.s.now c.args.a c.args.probe.now leaves c.in-Is.b (Ended.Stands c.in-Stands.h) (sym c.open_at.ensures ∙ c.in-Is.is) q in
-    let k = (outcome_ready c.args.s.now c.args.a c.args.probe.now leaves c.in-Is.b c.in-Stands.h e).0 in
+found_in-requires c = let q : ended_in c.args.s.now c.in-Some.b c.args.probe.now leaves ≡ Some (Ended.Stands c.in-Some-Stands.h) = end_of_lem c.args.s.now c.in-Some.b c.args.probe.now leaves (wants true false c.new.result) c.ended_in.result (Some (Ended.Stands c.in-Some-Stands.h)) (ap (wants true false) c.new.ensures) c.ended_in.ensures c.in-Some-Stands.is in
+    let e : outcome_at c.args.s.now c.args.a c.args.probe.now leaves ≡ Some (Outcome.Stands c.in-Some.b c.in-Some-Stands.h) = outcome_ended c.args.s.now c.args.a c.args.probe.now leaves c.in-Some.b (Some (Ended.Stands c.in-Some-Stands.h)) (sym c.open_at.ensures ∙ c.in-Some.is) q in
+    let k = (outcome_ready c.args.s.now c.args.a c.args.probe.now leaves c.in-Some.b c.in-Some-Stands.h e).0 in
     record {
       inside = k.inside;
-      kind_value = leaf_kind c.in-Is.b.kind k.right;
+      kind_value = leaf_kind c.in-Some.b.kind k.right;
     }
 
-pub returns-in-Bad : goal.returns-in-Bad
+pub returns-in-None : goal.returns-in-None
 unfolding search_at
-returns-in-Bad c = let q : ended_in c.args.s.now c.in-Is.b c.args.probe.now leaves ≡ Ended.Bad = end_of_lem c.args.s.now c.in-Is.b c.args.probe.now leaves (wants true false c.new.result) c.ended_in.result Ended.Bad (ap (wants true false) c.new.ensures) c.ended_in.ensures c.in-Bad.is in
-    let e : outcome_at c.args.s.now c.args.a c.args.probe.now leaves ≡ back_of c.in-Is.b Ended.Bad = outcome_ended c.args.s.now c.args.a c.args.probe.now leaves c.in-Is.b Ended.Bad (sym c.open_at.ensures ∙ c.in-Is.is) q in
+returns-in-None c = let q : ended_in c.args.s.now c.in-Some.b c.args.probe.now leaves ≡ None = end_of_lem c.args.s.now c.in-Some.b c.args.probe.now leaves (wants true false c.new.result) c.ended_in.result None (ap (wants true false) c.new.ensures) c.ended_in.ensures c.in-None.is in
+    let e : outcome_at c.args.s.now c.args.a c.args.probe.now leaves ≡ back_of c.in-Some.b None = outcome_ended c.args.s.now c.args.a c.args.probe.now leaves c.in-Some.b None (sym c.open_at.ensures ∙ c.in-Some.is) q in
     ap (search_of c.args.s.now) (sym e)
 
-pub returns-in-Empty : goal.returns-in-Empty
+pub returns-in-Some-Empty : goal.returns-in-Some-Empty
 unfolding search_at
-returns-in-Empty c = let q : ended_in c.args.s.now c.in-Is.b c.args.probe.now leaves ≡ Ended.Empty = end_of_lem c.args.s.now c.in-Is.b c.args.probe.now leaves (wants true false c.new.result) c.ended_in.result (Ended.Empty) (ap (wants true false) c.new.ensures) c.ended_in.ensures c.in-Empty.is in
-    let e : outcome_at c.args.s.now c.args.a c.args.probe.now leaves ≡ back_of c.in-Is.b (Ended.Empty) = outcome_ended c.args.s.now c.args.a c.args.probe.now leaves c.in-Is.b (Ended.Empty) (sym c.open_at.ensures ∙ c.in-Is.is) q in
+returns-in-Some-Empty c = let q : ended_in c.args.s.now c.in-Some.b c.args.probe.now leaves ≡ (Some Ended.Empty) = end_of_lem c.args.s.now c.in-Some.b c.args.probe.now leaves (wants true false c.new.result) c.ended_in.result (Some Ended.Empty) (ap (wants true false) c.new.ensures) c.ended_in.ensures c.in-Some-Empty.is in
+    let e : outcome_at c.args.s.now c.args.a c.args.probe.now leaves ≡ back_of c.in-Some.b (Some Ended.Empty) = outcome_ended c.args.s.now c.args.a c.args.probe.now leaves c.in-Some.b (Some Ended.Empty) (sym c.open_at.ensures ∙ c.in-Some.is) q in
     ap (search_of c.args.s.now) (sym e)
 
-pub returns-in-Stands : goal.returns-in-Stands
+pub returns-in-Some-Stands : goal.returns-in-Some-Stands
 unfolding search_at
-returns-in-Stands c = let q : ended_in c.args.s.now c.in-Is.b c.args.probe.now leaves ≡ Ended.Stands c.in-Stands.h = end_of_lem c.args.s.now c.in-Is.b c.args.probe.now leaves (wants true false c.new.result) c.ended_in.result (Ended.Stands c.in-Stands.h) (ap (wants true false) c.new.ensures) c.ended_in.ensures c.in-Stands.is in
-    let e : outcome_at c.args.s.now c.args.a c.args.probe.now leaves ≡ back_of c.in-Is.b (Ended.Stands c.in-Stands.h) = outcome_ended c.args.s.now c.args.a c.args.probe.now leaves c.in-Is.b (Ended.Stands c.in-Stands.h) (sym c.open_at.ensures ∙ c.in-Is.is) q in
+returns-in-Some-Stands c = let q : ended_in c.args.s.now c.in-Some.b c.args.probe.now leaves ≡ Some (Ended.Stands c.in-Some-Stands.h) = end_of_lem c.args.s.now c.in-Some.b c.args.probe.now leaves (wants true false c.new.result) c.ended_in.result (Some (Ended.Stands c.in-Some-Stands.h)) (ap (wants true false) c.new.ensures) c.ended_in.ensures c.in-Some-Stands.is in
+    let e : outcome_at c.args.s.now c.args.a c.args.probe.now leaves ≡ back_of c.in-Some.b (Some (Ended.Stands c.in-Some-Stands.h)) = outcome_ended c.args.s.now c.args.a c.args.probe.now leaves c.in-Some.b (Some (Ended.Stands c.in-Some-Stands.h)) (sym c.open_at.ensures ∙ c.in-Some.is) q in
     c.found_in.ensures ∙ ap (search_of c.args.s.now) (sym e)

@@ -23,15 +23,15 @@ returns-in_default c = simp (ne_eqb _ _ c.if-kind-eq2.false, ← c.read.ensures,
 
 pub returns-then-n-skip : goal.returns-then-n-skip
 unfolding key_at
-returns-then-n-skip c = simp (ne_eqb _ _ c.if-kind-eq2.false, ← c.read.ensures, c.in-Is.is, ← c.skip_of-skip.ensures, lt-leb _ _ c.if-n-skip.true)
+returns-then-n-skip c = simp (ne_eqb _ _ c.if-kind-eq2.false, ← c.read.ensures, c.in-Some.is, ← c.skip_of-skip.ensures, lt-leb _ _ c.if-n-skip.true)
 
 pub overflow_add-result-then-room-2 : goal.overflow_add-result-then-room-2
-overflow_add-result-then-room-2 c = omega (arith, leb-true (c.in-Is.next + c.in-Is.v) (length c.args.s.now) (sym c.room-2.ensures ∙ c.if-room-2.true))
+overflow_add-result-then-room-2 c = omega (arith, leb-true (c.in-Some.next + c.in-Some.v) (length c.args.s.now) (sym c.room-2.ensures ∙ c.if-room-2.true))
 
 pub returns-then-room-2 : goal.returns-then-room-2
 unfolding key_at
-returns-then-room-2 c = simp (ne_eqb _ _ c.if-kind-eq2.false, ← c.read.ensures, c.in-Is.is, ← c.skip_of-skip.ensures, le-leb _ _ c.if-n-skip.false, ← c.room-2.ensures, c.if-room-2.true)
+returns-then-room-2 c = simp (ne_eqb _ _ c.if-kind-eq2.false, ← c.read.ensures, c.in-Some.is, ← c.skip_of-skip.ensures, le-leb _ _ c.if-n-skip.false, ← c.room-2.ensures, c.if-room-2.true)
 
 pub returns : goal.returns
 unfolding key_at
-returns c = simp (ne_eqb _ _ c.if-kind-eq2.false, ← c.read.ensures, c.in-Is.is, ← c.skip_of-skip.ensures, le-leb _ _ c.if-n-skip.false, ← c.room-2.ensures, c.if-room-2.false)
+returns c = simp (ne_eqb _ _ c.if-kind-eq2.false, ← c.read.ensures, c.in-Some.is, ← c.skip_of-skip.ensures, le-leb _ _ c.if-n-skip.false, ← c.room-2.ensures, c.if-room-2.false)

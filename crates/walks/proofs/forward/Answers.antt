@@ -13,12 +13,12 @@ returns-in_default c = simp (← c.open_at.ensures, c.in_default.is)
 
 pub returns-then-b-eq-HISTORY : goal.returns-then-b-eq-HISTORY
 unfolding forward_at
-returns-then-b-eq-HISTORY c = simp (← c.open_at.ensures, c.in-Is.is, eq-eqb _ _ c.if-b-eq-HISTORY.true)
+returns-then-b-eq-HISTORY c = simp (← c.open_at.ensures, c.in-Some.is, eq-eqb _ _ c.if-b-eq-HISTORY.true)
 
 pub walk_over-requires : goal.walk_over-requires
-walk_over-requires c = let i = (open_inside c.args.s.now c.args.a c.in-Is.b (sym c.open_at.ensures ∙ c.in-Is.is)).0 in
-    omega (arith, front-few c.args.s.now c.in-Is.b i, c.well_formed)
+walk_over-requires c = let i = (open_inside c.args.s.now c.args.a c.in-Some.b (sym c.open_at.ensures ∙ c.in-Some.is)).0 in
+    omega (arith, front-few c.args.s.now c.in-Some.b i, c.well_formed)
 
 pub returns : goal.returns
 unfolding forward_at
-returns c = simp (← c.open_at.ensures, c.in-Is.is, ne_eqb _ _ c.if-b-eq-HISTORY.false, ← c.up.ensures, ← c.up_way.ensures, c.walk_over.ensures)
+returns c = simp (← c.open_at.ensures, c.in-Some.is, ne_eqb _ _ c.if-b-eq-HISTORY.false, ← c.up.ensures, ← c.up_way.ensures, c.walk_over.ensures)

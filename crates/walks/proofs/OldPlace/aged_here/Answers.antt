@@ -10,10 +10,10 @@ unfolding aged_in
 returns-in_default c = simp (← c.key_old.ensures, c.in_default.is)
 
 pub ver_at-requires : goal.ver_at-requires
-ver_at-requires c = (key_lies c.args.s.now c.args.self.page c.args.self.slot _ _ _ (sym c.key_old.ensures ∙ c.in-Key.is)).ver
+ver_at-requires c = (key_lies c.args.s.now c.args.self.page c.args.self.slot _ _ _ (sym c.key_old.ensures ∙ c.in-Some.is)).ver
 
 pub after-requires : goal.after-requires
-after-requires c = let k = key_lies c.args.s.now c.args.self.page c.args.self.slot _ _ _ (sym c.key_old.ensures ∙ c.in-Key.is) in
+after-requires c = let k = key_lies c.args.s.now c.args.self.page c.args.self.slot _ _ _ (sym c.key_old.ensures ∙ c.in-Some.is) in
     record {
       slot_bound = omega (arith, k.slot, k.few, c.well_formed);
       left_nonzero = c.requires;
@@ -21,4 +21,4 @@ after-requires c = let k = key_lies c.args.s.now c.args.self.page c.args.self.sl
 
 pub returns : goal.returns
 unfolding aged_in
-returns c = simp (← c.key_old.ensures, c.in-Key.is, c.ver_at.ensures, c.after.ensures)
+returns c = simp (← c.key_old.ensures, c.in-Some.is, c.ver_at.ensures, c.after.ensures)

@@ -8,8 +8,8 @@ pub returns-in_default : goal.returns-in_default
 returns-in_default c = sym (next-from c.args.s.now c.args.key c.args.self ∙ ap (from c.args.s.now c.args.key) (sym c.turned.ensures ∙ c.in_default.is))
 
 pub here-requires : goal.here-requires
-here-requires c = let e = turned_left c.args.s.now c.args.self c.in-Is.older c.in-Is.named (sym c.turned.ensures ∙ c.in-Is.is) in
+here-requires c = let e = turned_left c.args.s.now c.args.self c.in-Some.older c.in-Some.named (sym c.turned.ensures ∙ c.in-Some.is) in
     omega (arith, e, c.requires)
 
 pub returns : goal.returns
-returns c = c.here.ensures ∙ sym (next-from c.args.s.now c.args.key c.args.self ∙ ap (from c.args.s.now c.args.key) (sym c.turned.ensures ∙ c.in-Is.is))
+returns c = c.here.ensures ∙ sym (next-from c.args.s.now c.args.key c.args.self ∙ ap (from c.args.s.now c.args.key) (sym c.turned.ensures ∙ c.in-Some.is))

@@ -16,9 +16,9 @@ unfolding turned_at
 returns-in_default c = simp (eq-eqb _ _ c.if-self-page.false, ← c.history_at.ensures, c.in_default.is)
 
 pub older_on-requires : goal.older_on-requires
-older_on-requires c = let h = history-inside c.args.s.now c.args.self.link c.in-Is.d (sym c.history_at.ensures ∙ c.in-Is.is) in
-    omega (arith, front-few c.args.s.now c.in-Is.d h.inside, c.well_formed)
+older_on-requires c = let h = history-inside c.args.s.now c.args.self.link c.in-Some.d (sym c.history_at.ensures ∙ c.in-Some.is) in
+    omega (arith, front-few c.args.s.now c.in-Some.d h.inside, c.well_formed)
 
 pub returns : goal.returns
 unfolding turned_at
-returns c = simp (eq-eqb _ _ c.if-self-page.false, ← c.history_at.ensures, c.in-Is.is, c.older_on.ensures)
+returns c = simp (eq-eqb _ _ c.if-self-page.false, ← c.history_at.ensures, c.in-Some.is, c.older_on.ensures)

@@ -13,16 +13,16 @@ returns-in_default c = simp (← c.kind_of.ensures, ← c.read.ensures, c.in_def
 
 pub read_u64-requires : goal.read_u64-requires
 unfolding kind_of_way
-read_u64-requires c = let g = read-inside c.args.s.now c.args.self.page (kind_of_way c.args.self.way) c.args.self.pos c.in-Is.r (rw c.kind_of.ensures at (sym c.read.ensures ∙ c.in-Is.is)) in
+read_u64-requires c = let g = read-inside c.args.s.now c.args.self.page (kind_of_way c.args.self.way) c.args.self.pos c.in-Some.r (rw c.kind_of.ensures at (sym c.read.ensures ∙ c.in-Some.is)) in
     let i = g.0 in
-    let k = (at-inside c.args.s.now (body_in c.args.self.page (kind_of_way c.args.self.way)) c.args.self.pos c.in-Is.r i g.1).0 in
+    let k = (at-inside c.args.s.now (body_in c.args.self.page (kind_of_way c.args.self.way)) c.args.self.pos c.in-Some.r i g.1).0 in
     let e : kind_of_way c.args.self.way ≡ 1 = rw (eq-eqb _ _ c.if-self-eq-INDEX.true) in
-    omega (arith, k.val, index_value c.args.s.now (body_in c.args.self.page (kind_of_way c.args.self.way)) c.args.self.pos c.in-Is.r e g.1)
+    omega (arith, k.val, index_value c.args.s.now (body_in c.args.self.page (kind_of_way c.args.self.way)) c.args.self.pos c.in-Some.r e g.1)
 
 pub on-requires : goal.on-requires
-on-requires c = let g = read-inside c.args.s.now c.args.self.page (kind_of_way c.args.self.way) c.args.self.pos c.in-Is.r (rw c.kind_of.ensures at (sym c.read.ensures ∙ c.in-Is.is)) in
+on-requires c = let g = read-inside c.args.s.now c.args.self.page (kind_of_way c.args.self.way) c.args.self.pos c.in-Some.r (rw c.kind_of.ensures at (sym c.read.ensures ∙ c.in-Some.is)) in
     let i = g.0 in
-    let h = at_slot c.args.s.now (body_in c.args.self.page (kind_of_way c.args.self.way)) c.args.self.pos c.in-Is.r g.1 in
+    let h = at_slot c.args.s.now (body_in c.args.self.page (kind_of_way c.args.self.way)) c.args.self.pos c.in-Some.r g.1 in
     record {
       pos_bound = omega (arith, h, i.records, i.payload, i.arena, c.well_formed);
       heads_nonzero = c.requires;
@@ -30,23 +30,23 @@ on-requires c = let g = read-inside c.args.s.now c.args.self.page (kind_of_way c
 
 pub returns-then-self-eq-INDEX : goal.returns-then-self-eq-INDEX
 unfolding head_step
-returns-then-self-eq-INDEX c = simp (← c.kind_of.ensures, ← c.read.ensures, c.in-Is.is, eq-eqb _ _ c.if-self-eq-INDEX.true, c.read_u64.ensures, c.on.ensures)
+returns-then-self-eq-INDEX c = simp (← c.kind_of.ensures, ← c.read.ensures, c.in-Some.is, eq-eqb _ _ c.if-self-eq-INDEX.true, c.read_u64.ensures, c.on.ensures)
 
 pub returns-in_default-enter : goal.returns-in_default-enter
 unfolding head_step
-returns-in_default-enter c = simp (← c.kind_of.ensures, ← c.read.ensures, c.in-Is.is, ne_eqb _ _ c.if-self-eq-INDEX.false, ← c.enter.ensures, c.in_default-enter.is)
+returns-in_default-enter c = simp (← c.kind_of.ensures, ← c.read.ensures, c.in-Some.is, ne_eqb _ _ c.if-self-eq-INDEX.false, ← c.enter.ensures, c.in_default-enter.is)
 
 pub item_of-requires : goal.item_of-requires
 unfolding kind_of_way
-item_of-requires c = let g = read-inside c.args.s.now c.args.self.page (kind_of_way c.args.self.way) c.args.self.pos c.in-Is.r (rw c.kind_of.ensures at (sym c.read.ensures ∙ c.in-Is.is)) in
+item_of-requires c = let g = read-inside c.args.s.now c.args.self.page (kind_of_way c.args.self.way) c.args.self.pos c.in-Some.r (rw c.kind_of.ensures at (sym c.read.ensures ∙ c.in-Some.is)) in
     let i = g.0 in
     let e : kind_of_way c.args.self.way ≡ 0 = rw (ne_eqb _ _ c.if-self-eq-INDEX.false) in
-    ver-inside c.args.s.now (body_in c.args.self.page (kind_of_way c.args.self.way)) c.args.self.pos c.in-Is.r i (λ z. omega (arith, z, e)) g.1
+    ver-inside c.args.s.now (body_in c.args.self.page (kind_of_way c.args.self.way)) c.args.self.pos c.in-Some.r i (λ z. omega (arith, z, e)) g.1
 
 pub on-requires-2 : goal.on-requires-2
-on-requires-2 c = let g = read-inside c.args.s.now c.args.self.page (kind_of_way c.args.self.way) c.args.self.pos c.in-Is.r (rw c.kind_of.ensures at (sym c.read.ensures ∙ c.in-Is.is)) in
+on-requires-2 c = let g = read-inside c.args.s.now c.args.self.page (kind_of_way c.args.self.way) c.args.self.pos c.in-Some.r (rw c.kind_of.ensures at (sym c.read.ensures ∙ c.in-Some.is)) in
     let i = g.0 in
-    let h = at_slot c.args.s.now (body_in c.args.self.page (kind_of_way c.args.self.way)) c.args.self.pos c.in-Is.r g.1 in
+    let h = at_slot c.args.s.now (body_in c.args.self.page (kind_of_way c.args.self.way)) c.args.self.pos c.in-Some.r g.1 in
     record {
       pos_bound = omega (arith, h, i.records, i.payload, i.arena, c.well_formed);
       heads_nonzero = c.requires;
@@ -54,4 +54,4 @@ on-requires-2 c = let g = read-inside c.args.s.now c.args.self.page (kind_of_way
 
 pub returns : goal.returns
 unfolding head_step
-returns c = simp (← c.kind_of.ensures, ← c.read.ensures, c.in-Is.is, ne_eqb _ _ c.if-self-eq-INDEX.false, ← c.enter.ensures, c.in-Is-enter.is, c.item_of.ensures, c.on-2.ensures)
+returns c = simp (← c.kind_of.ensures, ← c.read.ensures, c.in-Some.is, ne_eqb _ _ c.if-self-eq-INDEX.false, ← c.enter.ensures, c.in-Some-enter.is, c.item_of.ensures, c.on-2.ensures)

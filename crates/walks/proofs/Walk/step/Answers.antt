@@ -9,7 +9,7 @@ returns-in_default c = simp (lt-ltb _ _ c.if-older-gt0.true, ← c.next.ensures,
 
 pub returns-then-older-gt0 : goal.returns-then-older-gt0
 unfolding step_at
-returns-then-older-gt0 c = simp (lt-ltb _ _ c.if-older-gt0.true, ← c.next.ensures, c.in-Is.is, c.behind.ensures)
+returns-then-older-gt0 c = simp (lt-ltb _ _ c.if-older-gt0.true, ← c.next.ensures, c.in-Some.is, c.behind.ensures)
 
 pub returns-then-self-ne0 : goal.returns-then-self-ne0
 unfolding step_at
