@@ -48,19 +48,13 @@ fn head_read(s: &[u8], w: Walk) -> Option<Rec>
     if w.way == Walk::INDEX {
         return None;
     }
-    let Some(b) = walks::body_of(s, page, Body::LEAF) else {
-        return None;
-    };
-    let Some(p) = records::slot_at(s, b, w.pos) else {
-        return None;
-    };
+    let b = walks::body_of(s, page, Body::LEAF)?;
+    let p = records::slot_at(s, b, w.pos)?;
     let n = records::quick_key(s, b, p);
     if n == 0 {
         return None;
     }
-    let Some(val) = records::quick_value(s, b, p + 1 + n) else {
-        return None;
-    };
+    let val = records::quick_value(s, b, p + 1 + n)?;
     Some(Rec {
         from: p,
         ver_at: p + 1,

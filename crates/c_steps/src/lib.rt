@@ -154,9 +154,7 @@ fn reach(s: &[u8], h: HistRef, was: OldPlace, known: u64) -> Option<(OldPlace, u
             }
         }
     }
-    let Some(older) = walks::enter(s, h, was) else {
-        return None;
-    };
+    let older = walks::enter(s, h, was)?;
     Some((older, a.0))
 }
 

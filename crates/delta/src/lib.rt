@@ -232,9 +232,7 @@ pub struct LeafKey {
 fn delta_of(s: &[u8], a: Addr, node: u8) -> Option<Delta>
     ensures { result ≡ delta_is s.now a node }
 {
-    let Some(d) = frames::delta_at(s, a) else {
-        return None;
-    };
+    let d = frames::delta_at(s, a)?;
     if d.node_type == node {
         return Some(d);
     }
@@ -247,9 +245,7 @@ fn key_in(s: &[u8], d: Delta, kind: u8) -> Option<KeyParts>
     ensures { result ≡ key_in s.now d kind }
 {
     let e = d.val_at;
-    let Some(k) = values::key_at(&s[..e], d.key_at, kind) else {
-        return None;
-    };
+    let k = values::key_at(&s[..e], d.key_at, kind)?;
     if BaseHeader::MAX_KEY < k.rest_len {
         return None;
     }

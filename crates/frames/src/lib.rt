@@ -269,9 +269,7 @@ impl BaseHeader {
     pub fn at(s: &[u8], a: Addr) -> Option<(BoxHeader, BaseHeader)>
         ensures { result ≡ page_at s.now a }
     {
-        let Some(h) = BoxHeader::at(s, a) else {
-            return None;
-        };
+        let h = BoxHeader::at(s, a)?;
         if h.box_kind != BoxHeader::BASE {
             return None;
         }
@@ -510,9 +508,7 @@ pub fn open_at(s: &[u8], a: Addr) -> Option<Body>
 pub fn remote_at(s: &[u8], a: Addr, n: u32) -> Option<usize>
     ensures { result ≡ remote_at s.now a n }
 {
-    let Some(h) = BoxHeader::at(s, a) else {
-        return None;
-    };
+    let h = BoxHeader::at(s, a)?;
     if h.box_kind != BoxHeader::REMOTE {
         return None;
     }
@@ -547,9 +543,7 @@ impl Delta {
 pub fn delta_at(s: &[u8], a: Addr) -> Option<Delta>
     ensures { result ≡ delta_at s.now a }
 {
-    let Some(h) = BoxHeader::at(s, a) else {
-        return None;
-    };
+    let h = BoxHeader::at(s, a)?;
     if h.box_kind != BoxHeader::DELTA {
         return None;
     }

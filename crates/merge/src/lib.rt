@@ -32,9 +32,7 @@ fn said_kind(footing: &[u8], a: Addr) -> Option<Kind>
     match x {
         Err(_) => None,
         Ok(()) => {
-            let Some(b) = frames::open_at(footing, a) else {
-                return None;
-            };
+            let b = frames::open_at(footing, a)?;
             if b.kind == 1 {
                 return Some(Kind::Index);
             }
@@ -75,9 +73,7 @@ fn kinds_of(footing: &[u8], left: Addr, right: Addr) -> Result<Kind, Refusal>
 fn gather(footing: &[u8], left: Addr, right: Addr) -> Option<(Cursor, Boundaries)>
     ensures { result ≡ gathered footing.now left right }
 {
-    let Some(c) = build_sources::open_pages(footing, left, right) else {
-        return None;
-    };
+    let c = build_sources::open_pages(footing, left, right)?;
     let Ok(p) = pages::bounds_at(footing, left) else {
         return None;
     };

@@ -78,9 +78,7 @@ pub fn history_at(s: &[u8], a: Addr) -> Option<Body>
     if let Some(d) = frames::quick_history(s, a) {
         return Some(d);
     }
-    let Some(b) = frames::open_at(&s[..], a) else {
-        return None;
-    };
+    let b = frames::open_at(&s[..], a)?;
     if b.kind != Body::HISTORY {
         return None;
     }
@@ -100,9 +98,7 @@ struct Hand {
 fn judged(s: &[u8], a: Addr) -> Option<Hand>
     ensures { result ≡ judged_at s.now a }
 {
-    let Some(b) = history_at(s, a) else {
-        return None;
-    };
+    let b = history_at(s, a)?;
     if slots_ok(s, b) {
         let link = b.link;
         return Some(Hand {
@@ -138,9 +134,7 @@ fn old_in(s: &[u8], b: Body, a: Addr, i: usize) -> Option<OldVersion>
     requires { Inside s.now b }
     ensures { result ≡ old_in s.now b a i }
 {
-    let Some(r) = records::rec_at(s, b, i) else {
-        return None;
-    };
+    let r = records::rec_at(s, b, i)?;
     Some(OldVersion {
         page: a,
         slot: i,
@@ -153,16 +147,12 @@ fn old_in(s: &[u8], b: Body, a: Addr, i: usize) -> Option<OldVersion>
 pub fn old_at(s: &[u8], a: Addr, i: usize) -> Option<OldVersion>
     ensures { result ≡ old_at s.now a i }
 {
-    let Some(b) = history_at(s, a) else {
-        return None;
-    };
+    let b = history_at(s, a)?;
     if i != b.elems {
         return old_in(s, b, a, i);
     }
     let link = b.link;
-    let Some(d) = history_at(s, link) else {
-        return None;
-    };
+    let d = history_at(s, link)?;
     old_in(s, d, link, 0)
 }
 
@@ -183,9 +173,7 @@ fn spot_at(s: &[u8], hand: Hand, i: usize) -> Option<Spot>
         return Some(Spot { hand, slot: i });
     }
     let link = hand.link;
-    let Some(h) = judged(s, link) else {
-        return None;
-    };
+    let h = judged(s, link)?;
     Some(Spot { hand: h, slot: 0 })
 }
 
@@ -278,9 +266,7 @@ fn head_at(s: &[u8], b: Body, i: usize) -> Option<Rec>
     requires kind_value { b.kind ≡ 0 }
     ensures { result ≡ rec_at s.now b i }
 {
-    let Some(p) = records::slot_at(s, b, i) else {
-        return None;
-    };
+    let p = records::slot_at(s, b, i)?;
     let n = records::quick_key(s, b, p);
     if n != 0 {
         if let Some(val) = records::quick_value(s, b, p + 1 + n) {

@@ -70,9 +70,7 @@ fn key_in(s: &[u8], b: Body, at: usize) -> Option<KeyParts>
     ensures { result ≡ key_in s.now b at }
 {
     let e = b.end;
-    let Some(k) = values::key_at(&s[..e], at, b.kind) else {
-        return None;
-    };
+    let k = values::key_at(&s[..e], at, b.kind)?;
     if BaseHeader::MAX_KEY < b.prefix_len + k.rest_len {
         return None;
     }
@@ -113,9 +111,7 @@ pub fn key_at(s: &[u8], b: Body, i: usize) -> Option<KeyParts>
     requires { Inside s.now b }
     ensures { result ≡ key_at_slot s.now b i }
 {
-    let Some(p) = slot_at(s, b, i) else {
-        return None;
-    };
+    let p = slot_at(s, b, i)?;
     short_key(s, b, p)
 }
 
@@ -149,9 +145,7 @@ fn val_in(s: &[u8], b: Body, at: usize) -> Option<ValParts>
                 next,
             },
         ) => {
-            let Some(q) = frames::remote_at(s, addr, size as u32) else {
-                return None;
-            };
+            let q = frames::remote_at(s, addr, size as u32)?;
             Some(ValParts {
                 hist,
                 val_at: q,
@@ -169,9 +163,7 @@ fn rec_in(s: &[u8], b: Body, p: usize) -> Option<Rec>
     requires { Inside s.now b }
     ensures { result ≡ rec_in s.now b p }
 {
-    let Some(k) = key_in(s, b, p) else {
-        return None;
-    };
+    let k = key_in(s, b, p)?;
     let q = k.rest_at + k.rest_len;
     if b.kind == Body::INDEX {
         if b.end < q + 8 {
@@ -193,9 +185,7 @@ fn rec_in(s: &[u8], b: Body, p: usize) -> Option<Rec>
             next: q + 8,
         });
     }
-    let Some(val) = val_in(s, b, q) else {
-        return None;
-    };
+    let val = val_in(s, b, q)?;
     Some(Rec {
         from: p,
         ver_at: k.ver_at,
@@ -214,9 +204,7 @@ pub fn rec_at(s: &[u8], b: Body, i: usize) -> Option<Rec>
     requires { Inside s.now b }
     ensures { result ≡ rec_at s.now b i }
 {
-    let Some(p) = slot_at(s, b, i) else {
-        return None;
-    };
+    let p = slot_at(s, b, i)?;
     rec_in(s, b, p)
 }
 
@@ -355,9 +343,7 @@ fn head_in(s: &[u8], b: Body, p: usize) -> Option<Rec>
     if n == 0 {
         return None;
     }
-    let Some(val) = quick_value(s, b, p + 1 + n) else {
-        return None;
-    };
+    let val = quick_value(s, b, p + 1 + n)?;
     Some(Rec {
         from: p,
         ver_at: p + 1,
@@ -414,9 +400,7 @@ pub fn quick_head(s: &[u8], b: Body, i: usize) -> Option<Rec>
     requires kind_value { b.kind ≡ 0 }
     ensures { Quickly None result (rec_at s.now b i) }
 {
-    let Some(p) = slot_at(s, b, i) else {
-        return None;
-    };
+    let p = slot_at(s, b, i)?;
     head_in(s, b, p)
 }
 
@@ -426,9 +410,7 @@ pub fn quick_old(s: &[u8], b: Body, i: usize) -> Option<Rec>
     requires kind_value { b.kind ≡ 2 }
     ensures { Quickly None result (rec_at s.now b i) }
 {
-    let Some(p) = slot_at(s, b, i) else {
-        return None;
-    };
+    let p = slot_at(s, b, i)?;
     old_in(s, b, p)
 }
 
@@ -437,9 +419,7 @@ pub fn head_by(s: &[u8], e: usize, prefix: usize, p: usize) -> Option<Rec>
     requires { (e ≤ length s.now) × (prefix ≤ e) }
     ensures { (b : Body) → b.kind ≡ 0 → b.end ≡ e → b.prefix_len ≡ prefix → result ≡ rec_in s.now b p }
 {
-    let Some(k) = values::key_at(&s[..e], p, Body::LEAF) else {
-        return None;
-    };
+    let k = values::key_at(&s[..e], p, Body::LEAF)?;
     if BaseHeader::MAX_KEY < prefix + k.rest_len {
         return None;
     }
@@ -470,9 +450,7 @@ pub fn head_by(s: &[u8], e: usize, prefix: usize, p: usize) -> Option<Rec>
                 next,
             },
         ) => {
-            let Some(q) = frames::remote_at(s, addr, size as u32) else {
-                return None;
-            };
+            let q = frames::remote_at(s, addr, size as u32)?;
             Some(Rec {
                 from: p,
                 ver_at: k.ver_at,
@@ -525,13 +503,9 @@ pub fn child_at(s: &[u8], b: Body, i: usize) -> Option<ChildParts>
     requires kind_value { b.kind ≡ 1 }
     ensures { rec_at s.now b i ≡ child_of result }
 {
-    let Some(p) = slot_at(s, b, i) else {
-        return None;
-    };
+    let p = slot_at(s, b, i)?;
     let e = b.end;
-    let Some(k) = child_key(&s[..e], p) else {
-        return None;
-    };
+    let k = child_key(&s[..e], p)?;
     if BaseHeader::MAX_KEY < b.prefix_len + k.rest_len {
         return None;
     }

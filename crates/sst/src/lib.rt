@@ -218,9 +218,7 @@ fn any_at(s: &[u8], b: Body, i: usize, rest: &[u8], w: Want) -> Option<Ordering>
     requires { Inside s.now b }
     ensures { result ≡ key_cmp s.now b rest.now w i }
 {
-    let Some(k) = records::key_at(s, b, i) else {
-        return None;
-    };
+    let k = records::key_at(s, b, i)?;
     let e = k.rest_at + k.rest_len;
     match order::compare(&s[k.rest_at..e], rest) {
         Ordering::Less => Some(Ordering::Less),
@@ -343,9 +341,7 @@ fn ended_in(s: &[u8], b: Body, probe: &[u8], w: Want) -> Option<Ended>
 pub fn halve_at(s: &[u8], a: Addr, probe: &[u8], w: Want) -> Option<Outcome>
     ensures { result ≡ outcome_at s.now a probe.now w }
 {
-    let Some(b) = frames::open_at(s, a) else {
-        return None;
-    };
+    let b = frames::open_at(s, a)?;
     match ended_in(s, b, probe, w) {
         None => None,
         Some(Ended::Empty) => Some(Outcome::Empty),

@@ -294,9 +294,7 @@ impl Val {
     pub fn decode_from(s: &[u8], at: usize, head: bool) -> Option<Val>
         ensures { result ≡ val_at s.now at head }
     {
-        let Some(front) = front_at(s, at, head) else {
-            return None;
-        };
+        let front = front_at(s, at, head)?;
         if spans::room(s.len(), front.next, 4) {
             let n = numbers::read_u32(s, front.next) as usize;
             if BaseHeader::MAX_VALUE < n {

@@ -294,9 +294,7 @@ pub fn enter(s: &[u8], h: HistRef, was: OldPlace) -> Option<OldPlace>
         return Some(was);
     }
     let page = h.page;
-    let Some(b) = pages::history_at(s, page) else {
-        return None;
-    };
+    let b = pages::history_at(s, page)?;
     let slot = h.slot as usize;
     if slot < b.elems {
         return Some(older_on(b, slot, h.count as usize));
@@ -327,9 +325,7 @@ impl OldPlace {
         ensures { result ≡ next_in s.now key self named }
     {
         let page = self.page;
-        let Some(r) = read(s, page, Body::HISTORY, self.slot) else {
-            return None;
-        };
+        let r = read(s, page, Body::HISTORY, self.slot)?;
         Some((item_of(s, key, r, named), self.after()))
     }
 
@@ -342,9 +338,7 @@ impl OldPlace {
             return Some((self, NULL_ADDR));
         }
         let link = self.link;
-        let Some(d) = pages::history_at(s, link) else {
-            return None;
-        };
+        let d = pages::history_at(s, link)?;
         Some((older_on(d, 0, self.left), link))
     }
 
@@ -474,9 +468,7 @@ impl OldPlace {
         ensures { result ≡ aged_in s.now self }
     {
         let page = self.page;
-        let Some(k) = key_old(s, page, self.slot) else {
-            return None;
-        };
+        let k = key_old(s, page, self.slot)?;
         Some(Aged::Is {
             ver: records::ver_at(s, k.ver_at),
             slot: self.slot,

@@ -13,54 +13,54 @@ returns-then-w-eq0 c = λ r e. absurd (rec_none r e)
 pub returns-then-w-eq-INDEX : goal.returns-then-w-eq-INDEX
 returns-then-w-eq-INDEX c = λ r e. absurd (rec_none r e)
 
-pub returns-in_default : goal.returns-in_default
-returns-in_default c = λ r e. absurd (rec_none r e)
+pub returns-in_err-b : goal.returns-in_err-b
+returns-in_err-b c = c.from_residual.ensures ∙ λ r e. absurd (rec_none r e)
 
 pub slot_at-requires : goal.slot_at-requires
-slot_at-requires c = leaf_inside c.args.s.now c.args.w c.in-Some.b (sym c.body_of.ensures ∙ c.in-Some.is)
+slot_at-requires c = leaf_inside c.args.s.now c.args.w c.in_ok-b.b (sym c.body_of.ensures ∙ c.in_ok-b.was)
 
-pub returns-in_default-slot_at : goal.returns-in_default-slot_at
-returns-in_default-slot_at c = λ r e. absurd (rec_none r e)
+pub returns-in_err-p : goal.returns-in_err-p
+returns-in_err-p c = c.from_residual-2.ensures ∙ λ r e. absurd (rec_none r e)
 
 pub quick_key-n-requires : goal.quick_key-n-requires
-quick_key-n-requires c = let o = sym c.body_of.ensures ∙ c.in-Some.is in
+quick_key-n-requires c = let o = sym c.body_of.ensures ∙ c.in_ok-b.was in
     record {
-      inside = leaf_inside c.args.s.now c.args.w c.in-Some.b o;
-      kind_value = leaf_kind c.args.s.now c.args.w c.in-Some.b o;
-      p_lt_end = (slot-inside c.args.s.now c.in-Some.b c.args.w.pos c.in-Some.p (sym c.slot_at.ensures ∙ c.in-Some.is)).1;
+      inside = leaf_inside c.args.s.now c.args.w c.in_ok-b.b o;
+      kind_value = leaf_kind c.args.s.now c.args.w c.in_ok-b.b o;
+      p_lt_end = (slot-inside c.args.s.now c.in_ok-b.b c.args.w.pos c.in_ok-b.p (sym c.slot_at.ensures ∙ c.in_ok-b.was)).1;
     }
 
 pub returns-then-n-eq0 : goal.returns-then-n-eq0
 returns-then-n-eq0 c = λ r e. absurd (rec_none r e)
 
 pub overflow_add-p : goal.overflow_add-p
-overflow_add-p c = let i = leaf_inside c.args.s.now c.args.w c.in-Some.b (sym c.body_of.ensures ∙ c.in-Some.is) in
+overflow_add-p c = let i = leaf_inside c.args.s.now c.args.w c.in_ok-b.b (sym c.body_of.ensures ∙ c.in_ok-b.was) in
     omega (arith, (c.quick_key-n.ensures c.if-n-eq0.false).inside, i.payload, i.arena, c.well_formed)
 
 pub overflow_add-p-2 : goal.overflow_add-p-2
-overflow_add-p-2 c = let i = leaf_inside c.args.s.now c.args.w c.in-Some.b (sym c.body_of.ensures ∙ c.in-Some.is) in
+overflow_add-p-2 c = let i = leaf_inside c.args.s.now c.args.w c.in_ok-b.b (sym c.body_of.ensures ∙ c.in_ok-b.was) in
     omega (arith, (c.quick_key-n.ensures c.if-n-eq0.false).inside, i.payload, i.arena, c.well_formed)
 
 pub quick_value-requires : goal.quick_value-requires
-quick_value-requires c = let o = sym c.body_of.ensures ∙ c.in-Some.is in
+quick_value-requires c = let o = sym c.body_of.ensures ∙ c.in_ok-b.was in
     record {
-      inside = leaf_inside c.args.s.now c.args.w c.in-Some.b o;
-      kind_value = leaf_kind c.args.s.now c.args.w c.in-Some.b o;
+      inside = leaf_inside c.args.s.now c.args.w c.in_ok-b.b o;
+      kind_value = leaf_kind c.args.s.now c.args.w c.in_ok-b.b o;
     }
 
-pub returns-in_default-quick_value : goal.returns-in_default-quick_value
-returns-in_default-quick_value c = λ r e. absurd (rec_none r e)
+pub returns-in_err-val : goal.returns-in_err-val
+returns-in_err-val c = c.from_residual-3.ensures ∙ λ r e. absurd (rec_none r e)
 
 pub overflow_add-result : goal.overflow_add-result
-overflow_add-result c = let i = leaf_inside c.args.s.now c.args.w c.in-Some.b (sym c.body_of.ensures ∙ c.in-Some.is) in
+overflow_add-result c = let i = leaf_inside c.args.s.now c.args.w c.in_ok-b.b (sym c.body_of.ensures ∙ c.in_ok-b.was) in
     omega (arith, (c.quick_key-n.ensures c.if-n-eq0.false).inside, i.payload, i.arena, c.well_formed)
 
 pub overflow_add-result-2 : goal.overflow_add-result-2
-overflow_add-result-2 c = let i = leaf_inside c.args.s.now c.args.w c.in-Some.b (sym c.body_of.ensures ∙ c.in-Some.is) in
+overflow_add-result-2 c = let i = leaf_inside c.args.s.now c.args.w c.in_ok-b.b (sym c.body_of.ensures ∙ c.in_ok-b.was) in
     omega (arith, (c.quick_key-n.ensures c.if-n-eq0.false).inside, i.payload, i.arena, c.well_formed)
 
 pub overflow_add-result-3 : goal.overflow_add-result-3
-overflow_add-result-3 c = let i = leaf_inside c.args.s.now c.args.w c.in-Some.b (sym c.body_of.ensures ∙ c.in-Some.is) in
+overflow_add-result-3 c = let i = leaf_inside c.args.s.now c.args.w c.in_ok-b.b (sym c.body_of.ensures ∙ c.in_ok-b.was) in
     let k = c.quick_key-n.ensures c.if-n-eq0.false in
     omega (arith, k.inside, k.long, i.payload, i.arena, c.well_formed)
 
@@ -68,6 +68,6 @@ pub overflow_sub-result : goal.overflow_sub-result
 overflow_sub-result c = omega (arith, (c.quick_key-n.ensures c.if-n-eq0.false).long)
 
 pub returns : goal.returns
-returns c = let o = sym c.body_of.ensures ∙ c.in-Some.is in
-    let q = sym (slot-rec c.args.s.now c.in-Some.b c.args.w.pos c.in-Some.p (sym c.slot_at.ensures ∙ c.in-Some.is)) ∙ short_head c.args.s.now c.in-Some.b c.in-Some.p _ c.in-Some-quick_value.val.hist c.in-Some-quick_value.val.val_at c.in-Some-quick_value.val.val_len c.in-Some-quick_value.val.remote c.in-Some-quick_value.val.next (leaf_kind c.args.s.now c.args.w c.in-Some.b o) (c.quick_key-n.ensures c.if-n-eq0.false) (quick_is _ c.quick_value.ensures c.in-Some-quick_value.is (val_no _ _ _ _ _)) in
-    λ r e. head_ahead c.args.s.now c.args.w c.in-Some.b o c.requires c.if-w-eq0.false c.if-w-eq-INDEX.false r (q ∙ e)
+returns c = let o = sym c.body_of.ensures ∙ c.in_ok-b.was in
+    let q = sym (slot-rec c.args.s.now c.in_ok-b.b c.args.w.pos c.in_ok-b.p (sym c.slot_at.ensures ∙ c.in_ok-b.was)) ∙ short_head c.args.s.now c.in_ok-b.b c.in_ok-b.p _ c.in_ok-val.val.hist c.in_ok-val.val.val_at c.in_ok-val.val.val_len c.in_ok-val.val.remote c.in_ok-val.val.next (leaf_kind c.args.s.now c.args.w c.in_ok-b.b o) (c.quick_key-n.ensures c.if-n-eq0.false) (quick_is _ c.quick_value.ensures c.in_ok-val.was (val_no _ _ _ _ _)) in
+    λ r e. head_ahead c.args.s.now c.args.w c.in_ok-b.b o c.requires c.if-w-eq0.false c.if-w-eq-INDEX.false r (q ∙ e)

@@ -11,21 +11,21 @@ use Rattle.delta.proofs.key_in.Goals as goal
 pub slice_bounds-key_at-end : goal.slice_bounds-key_at-end
 slice_bounds-key_at-end c = sym (length-take-le c.args.d.val_at c.args.s.now c.requires)
 
-pub returns-in_default : goal.returns-in_default
+pub returns-in_err-k : goal.returns-in_err-k
 unfolding key_in
-returns-in_default c = simp (← c.key_at.ensures, c.in_default.is)
+returns-in_err-k c = c.from_residual.ensures ∙ simp (← c.key_at.ensures, c.in_err-k.was)
 
 pub returns-then-rest_len-gt-MAX_KEY : goal.returns-then-rest_len-gt-MAX_KEY
 unfolding key_in
-returns-then-rest_len-gt-MAX_KEY c = simp (← c.key_at.ensures, c.in-Some.is, lt-leb _ _ c.if-rest_len-gt-MAX_KEY.true)
+returns-then-rest_len-gt-MAX_KEY c = simp (← c.key_at.ensures, c.in_ok-k.was, lt-leb _ _ c.if-rest_len-gt-MAX_KEY.true)
 
 pub overflow_add-rest_at : goal.overflow_add-rest_at
-overflow_add-rest_at c = omega (arith, (key-place (take c.args.d.val_at c.args.s.now) c.args.d.key_at c.args.kind c.in-Some.k.ver_at c.in-Some.k.rest_at c.in-Some.k.rest_len (sym c.key_at.ensures ∙ c.in-Some.is)).rest, length-take-le c.args.d.val_at c.args.s.now c.requires, c.well_formed)
+overflow_add-rest_at c = omega (arith, (key-place (take c.args.d.val_at c.args.s.now) c.args.d.key_at c.args.kind c.in_ok-k.k.ver_at c.in_ok-k.k.rest_at c.in_ok-k.k.rest_len (sym c.key_at.ensures ∙ c.in_ok-k.was)).rest, length-take-le c.args.d.val_at c.args.s.now c.requires, c.well_formed)
 
 pub returns-then-rest_at-rest_len : goal.returns-then-rest_at-rest_len
 unfolding key_in
-returns-then-rest_at-rest_len c = simp (← c.key_at.ensures, c.in-Some.is, le-leb _ _ c.if-rest_len-gt-MAX_KEY.false, ne_eqb _ _ c.if-rest_at-rest_len.true)
+returns-then-rest_at-rest_len c = simp (← c.key_at.ensures, c.in_ok-k.was, le-leb _ _ c.if-rest_len-gt-MAX_KEY.false, ne_eqb _ _ c.if-rest_at-rest_len.true)
 
 pub returns : goal.returns
 unfolding key_in
-returns c = simp (← c.key_at.ensures, c.in-Some.is, le-leb _ _ c.if-rest_len-gt-MAX_KEY.false, eq-eqb _ _ c.if-rest_at-rest_len.false)
+returns c = simp (← c.key_at.ensures, c.in_ok-k.was, le-leb _ _ c.if-rest_len-gt-MAX_KEY.false, eq-eqb _ _ c.if-rest_at-rest_len.false)

@@ -15,32 +15,32 @@ use Rattle.records.proofs.head_by.Goals as goal
 pub slice_bounds-key_at-end : goal.slice_bounds-key_at-end
 slice_bounds-key_at-end c = sym (length-take-le c.args.e c.args.s.now c.requires.0)
 
-pub returns-in_default : goal.returns-in_default
-returns-in_default c = λ b k x y. sym (by_none c.args.s.now c.args.e c.args.prefix c.args.p b k x y (sym c.key_at.ensures ∙ c.in_default.is))
+pub returns-in_err-k : goal.returns-in_err-k
+returns-in_err-k c = c.from_residual.ensures ∙ λ b k x y. sym (by_none c.args.s.now c.args.e c.args.prefix c.args.p b k x y (sym c.key_at.ensures ∙ c.in_err-k.was))
 
 pub overflow_add-prefix : goal.overflow_add-prefix
-overflow_add-prefix c = omega (arith, (key-place (take c.args.e c.args.s.now) c.args.p 0 c.in-Some.k.ver_at c.in-Some.k.rest_at c.in-Some.k.rest_len (sym c.key_at.ensures ∙ c.in-Some.is)).rest, length-take-le c.args.e c.args.s.now c.requires.0, c.requires.0, c.requires.1, c.well_formed)
+overflow_add-prefix c = omega (arith, (key-place (take c.args.e c.args.s.now) c.args.p 0 c.in_ok-k.k.ver_at c.in_ok-k.k.rest_at c.in_ok-k.k.rest_len (sym c.key_at.ensures ∙ c.in_ok-k.was)).rest, length-take-le c.args.e c.args.s.now c.requires.0, c.requires.0, c.requires.1, c.well_formed)
 
 pub returns-then-prefix-rest_len-gt-MAX_KEY : goal.returns-then-prefix-rest_len-gt-MAX_KEY
-returns-then-prefix-rest_len-gt-MAX_KEY c = λ b k x y. sym (by_long c.args.s.now c.args.e c.args.prefix c.args.p b k x y c.in-Some.k.ver_at c.in-Some.k.rest_at c.in-Some.k.rest_len (sym c.key_at.ensures ∙ c.in-Some.is) c.if-prefix-rest_len-gt-MAX_KEY.true)
+returns-then-prefix-rest_len-gt-MAX_KEY c = λ b k x y. sym (by_long c.args.s.now c.args.e c.args.prefix c.args.p b k x y c.in_ok-k.k.ver_at c.in_ok-k.k.rest_at c.in_ok-k.k.rest_len (sym c.key_at.ensures ∙ c.in_ok-k.was) c.if-prefix-rest_len-gt-MAX_KEY.true)
 
 pub slice_bounds-decode_from-end : goal.slice_bounds-decode_from-end
 slice_bounds-decode_from-end c = sym (length-take-le c.args.e c.args.s.now c.requires.0)
 
 pub overflow_add-rest_at : goal.overflow_add-rest_at
-overflow_add-rest_at c = omega (arith, (key-place (take c.args.e c.args.s.now) c.args.p 0 c.in-Some.k.ver_at c.in-Some.k.rest_at c.in-Some.k.rest_len (sym c.key_at.ensures ∙ c.in-Some.is)).rest, length-take-le c.args.e c.args.s.now c.requires.0, c.requires.0, c.requires.1, c.well_formed)
+overflow_add-rest_at c = omega (arith, (key-place (take c.args.e c.args.s.now) c.args.p 0 c.in_ok-k.k.ver_at c.in_ok-k.k.rest_at c.in_ok-k.k.rest_len (sym c.key_at.ensures ∙ c.in_ok-k.was)).rest, length-take-le c.args.e c.args.s.now c.requires.0, c.requires.0, c.requires.1, c.well_formed)
 
 pub overflow_cast-size : goal.overflow_cast-size
-overflow_cast-size c = omega (arith, (remote-place (take c.args.e c.args.s.now) (c.in-Some.k.rest_at + c.in-Some.k.rest_len) true c.in-Some-Remote.hist c.in-Some-Remote.addr c.in-Some-Remote.size c.in-Some-Remote.next (sym c.decode_from.ensures ∙ c.in-Some-Remote.is)).small)
+overflow_cast-size c = omega (arith, (remote-place (take c.args.e c.args.s.now) (c.in_ok-k.k.rest_at + c.in_ok-k.k.rest_len) true c.in-Some-Remote.hist c.in-Some-Remote.addr c.in-Some-Remote.size c.in-Some-Remote.next (sym c.decode_from.ensures ∙ c.in-Some-Remote.is)).small)
 
-pub returns-in_default-remote_at : goal.returns-in_default-remote_at
-returns-in_default-remote_at c = λ b k x y. sym (by_val c.args.s.now c.args.e c.args.prefix c.args.p b k x y c.in-Some.k.ver_at c.in-Some.k.rest_at c.in-Some.k.rest_len (sym c.key_at.ensures ∙ c.in-Some.is) c.if-prefix-rest_len-gt-MAX_KEY.false (Some (Val.Remote c.in-Some-Remote.hist c.in-Some-Remote.addr c.in-Some-Remote.size c.in-Some-Remote.next)) (sym c.decode_from.ensures ∙ c.in-Some-Remote.is) ∙ ap (λ (z : Option ℕ). rec_val c.args.p c.in-Some.k.ver_at c.in-Some.k.rest_at c.in-Some.k.rest_len (remote_of c.in-Some-Remote.hist c.in-Some-Remote.addr c.in-Some-Remote.size c.in-Some-Remote.next z)) (sym c.remote_at.ensures ∙ c.in_default-remote_at.is))
+pub returns-in_err-q : goal.returns-in_err-q
+returns-in_err-q c = c.from_residual-2.ensures ∙ λ b k x y. sym (by_val c.args.s.now c.args.e c.args.prefix c.args.p b k x y c.in_ok-k.k.ver_at c.in_ok-k.k.rest_at c.in_ok-k.k.rest_len (sym c.key_at.ensures ∙ c.in_ok-k.was) c.if-prefix-rest_len-gt-MAX_KEY.false (Some (Val.Remote c.in-Some-Remote.hist c.in-Some-Remote.addr c.in-Some-Remote.size c.in-Some-Remote.next)) (sym c.decode_from.ensures ∙ c.in-Some-Remote.is) ∙ ap (λ (z : Option ℕ). rec_val c.args.p c.in_ok-k.k.ver_at c.in_ok-k.k.rest_at c.in_ok-k.k.rest_len (remote_of c.in-Some-Remote.hist c.in-Some-Remote.addr c.in-Some-Remote.size c.in-Some-Remote.next z)) (sym c.remote_at.ensures ∙ c.in_err-q.was))
 
 pub returns-in-Some-Inline : goal.returns-in-Some-Inline
-returns-in-Some-Inline c = λ b k x y. sym (by_val c.args.s.now c.args.e c.args.prefix c.args.p b k x y c.in-Some.k.ver_at c.in-Some.k.rest_at c.in-Some.k.rest_len (sym c.key_at.ensures ∙ c.in-Some.is) c.if-prefix-rest_len-gt-MAX_KEY.false (Some (Val.Inline c.in-Some-Inline.hist c.in-Some-Inline.at c.in-Some-Inline.size c.in-Some-Inline.next)) (sym c.decode_from.ensures ∙ c.in-Some-Inline.is))
+returns-in-Some-Inline c = λ b k x y. sym (by_val c.args.s.now c.args.e c.args.prefix c.args.p b k x y c.in_ok-k.k.ver_at c.in_ok-k.k.rest_at c.in_ok-k.k.rest_len (sym c.key_at.ensures ∙ c.in_ok-k.was) c.if-prefix-rest_len-gt-MAX_KEY.false (Some (Val.Inline c.in-Some-Inline.hist c.in-Some-Inline.at c.in-Some-Inline.size c.in-Some-Inline.next)) (sym c.decode_from.ensures ∙ c.in-Some-Inline.is))
 
-pub returns-in-Some : goal.returns-in-Some
-returns-in-Some c = λ b k x y. sym (by_val c.args.s.now c.args.e c.args.prefix c.args.p b k x y c.in-Some.k.ver_at c.in-Some.k.rest_at c.in-Some.k.rest_len (sym c.key_at.ensures ∙ c.in-Some.is) c.if-prefix-rest_len-gt-MAX_KEY.false (Some (Val.Remote c.in-Some-Remote.hist c.in-Some-Remote.addr c.in-Some-Remote.size c.in-Some-Remote.next)) (sym c.decode_from.ensures ∙ c.in-Some-Remote.is) ∙ ap (λ (z : Option ℕ). rec_val c.args.p c.in-Some.k.ver_at c.in-Some.k.rest_at c.in-Some.k.rest_len (remote_of c.in-Some-Remote.hist c.in-Some-Remote.addr c.in-Some-Remote.size c.in-Some-Remote.next z)) (sym c.remote_at.ensures ∙ c.in-Some.is))
+pub returns-in_ok-k : goal.returns-in_ok-k
+returns-in_ok-k c = λ b k x y. sym (by_val c.args.s.now c.args.e c.args.prefix c.args.p b k x y c.in_ok-k.k.ver_at c.in_ok-k.k.rest_at c.in_ok-k.k.rest_len (sym c.key_at.ensures ∙ c.in_ok-k.was) c.if-prefix-rest_len-gt-MAX_KEY.false (Some (Val.Remote c.in-Some-Remote.hist c.in-Some-Remote.addr c.in-Some-Remote.size c.in-Some-Remote.next)) (sym c.decode_from.ensures ∙ c.in-Some-Remote.is) ∙ ap (λ (z : Option ℕ). rec_val c.args.p c.in_ok-k.k.ver_at c.in_ok-k.k.rest_at c.in_ok-k.k.rest_len (remote_of c.in-Some-Remote.hist c.in-Some-Remote.addr c.in-Some-Remote.size c.in-Some-Remote.next z)) (sym c.remote_at.ensures ∙ c.in_ok-k.was))
 
 pub returns-in-None : goal.returns-in-None
-returns-in-None c = λ b k x y. sym (by_val c.args.s.now c.args.e c.args.prefix c.args.p b k x y c.in-Some.k.ver_at c.in-Some.k.rest_at c.in-Some.k.rest_len (sym c.key_at.ensures ∙ c.in-Some.is) c.if-prefix-rest_len-gt-MAX_KEY.false None (sym c.decode_from.ensures ∙ c.in-None.is))
+returns-in-None c = λ b k x y. sym (by_val c.args.s.now c.args.e c.args.prefix c.args.p b k x y c.in_ok-k.k.ver_at c.in_ok-k.k.rest_at c.in_ok-k.k.rest_len (sym c.key_at.ensures ∙ c.in_ok-k.was) c.if-prefix-rest_len-gt-MAX_KEY.false None (sym c.decode_from.ensures ∙ c.in-None.is))

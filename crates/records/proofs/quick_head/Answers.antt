@@ -6,15 +6,15 @@ use Rattle.records.proofs.Inside.{slot-inside}
 use Rattle.records.proofs.Quick.{quick_on, slot-rec}
 use Rattle.records.proofs.quick_head.Goals as goal
 
-pub returns-in_default : goal.returns-in_default
-returns-in_default c = inl refl
+pub returns-in_err-p : goal.returns-in_err-p
+returns-in_err-p c = c.from_residual.ensures ∙ inl refl
 
 pub head_in-requires : goal.head_in-requires
 head_in-requires c = record {
   inside = c.requires.inside;
   kind_value = c.requires.kind_value;
-  p_lt_end = omega (arith, slot-inside c.args.s.now c.args.b c.args.i c.in-Some.p (sym c.slot_at.ensures ∙ c.in-Some.is));
+  p_lt_end = omega (arith, slot-inside c.args.s.now c.args.b c.args.i c.in_ok-p.p (sym c.slot_at.ensures ∙ c.in_ok-p.was));
 }
 
 pub returns : goal.returns
-returns c = quick_on (slot-rec c.args.s.now c.args.b c.args.i c.in-Some.p (sym c.slot_at.ensures ∙ c.in-Some.is)) c.head_in.ensures
+returns c = quick_on (slot-rec c.args.s.now c.args.b c.args.i c.in_ok-p.p (sym c.slot_at.ensures ∙ c.in_ok-p.was)) c.head_in.ensures

@@ -6,20 +6,20 @@ use Rattle.sst.specs.Search.{outcome_at}
 use Rattle.sst.proofs.Opens.{back_of, outcome_ended, outcome_bad}
 use Rattle.sst.proofs.halve_at.Goals as goal
 
-pub returns-in_default : goal.returns-in_default
-returns-in_default c = sym (outcome_bad c.args.s.now c.args.a c.args.probe.now c.args.w (sym c.open_at.ensures ∙ c.in_default.is))
+pub returns-in_err-b : goal.returns-in_err-b
+returns-in_err-b c = c.from_residual.ensures ∙ sym (outcome_bad c.args.s.now c.args.a c.args.probe.now c.args.w (sym c.open_at.ensures ∙ c.in_err-b.was))
 
 pub ended_in-requires : goal.ended_in-requires
-ended_in-requires c = (open_inside c.args.s.now c.args.a c.in-Some.b (sym c.open_at.ensures ∙ c.in-Some.is)).0
+ended_in-requires c = (open_inside c.args.s.now c.args.a c.in_ok-b.b (sym c.open_at.ensures ∙ c.in_ok-b.was)).0
 
 pub returns-in-None : goal.returns-in-None
-returns-in-None c = let e : outcome_at c.args.s.now c.args.a c.args.probe.now c.args.w ≡ back_of c.in-Some.b None = outcome_ended c.args.s.now c.args.a c.args.probe.now c.args.w c.in-Some.b None (sym c.open_at.ensures ∙ c.in-Some.is) (sym c.ended_in.ensures ∙ c.in-None.is) in
+returns-in-None c = let e : outcome_at c.args.s.now c.args.a c.args.probe.now c.args.w ≡ back_of c.in_ok-b.b None = outcome_ended c.args.s.now c.args.a c.args.probe.now c.args.w c.in_ok-b.b None (sym c.open_at.ensures ∙ c.in_ok-b.was) (sym c.ended_in.ensures ∙ c.in-None.is) in
     sym e
 
 pub returns-in-Some-Empty : goal.returns-in-Some-Empty
-returns-in-Some-Empty c = let e : outcome_at c.args.s.now c.args.a c.args.probe.now c.args.w ≡ back_of c.in-Some.b (Some Ended.Empty) = outcome_ended c.args.s.now c.args.a c.args.probe.now c.args.w c.in-Some.b (Some Ended.Empty) (sym c.open_at.ensures ∙ c.in-Some.is) (sym c.ended_in.ensures ∙ c.in-Some-Empty.is) in
+returns-in-Some-Empty c = let e : outcome_at c.args.s.now c.args.a c.args.probe.now c.args.w ≡ back_of c.in_ok-b.b (Some Ended.Empty) = outcome_ended c.args.s.now c.args.a c.args.probe.now c.args.w c.in_ok-b.b (Some Ended.Empty) (sym c.open_at.ensures ∙ c.in_ok-b.was) (sym c.ended_in.ensures ∙ c.in-Some-Empty.is) in
     sym e
 
 pub returns-in-Some-Stands : goal.returns-in-Some-Stands
-returns-in-Some-Stands c = let e : outcome_at c.args.s.now c.args.a c.args.probe.now c.args.w ≡ back_of c.in-Some.b (Some (Ended.Stands c.in-Some-Stands.h)) = outcome_ended c.args.s.now c.args.a c.args.probe.now c.args.w c.in-Some.b (Some (Ended.Stands c.in-Some-Stands.h)) (sym c.open_at.ensures ∙ c.in-Some.is) (sym c.ended_in.ensures ∙ c.in-Some-Stands.is) in
+returns-in-Some-Stands c = let e : outcome_at c.args.s.now c.args.a c.args.probe.now c.args.w ≡ back_of c.in_ok-b.b (Some (Ended.Stands c.in-Some-Stands.h)) = outcome_ended c.args.s.now c.args.a c.args.probe.now c.args.w c.in_ok-b.b (Some (Ended.Stands c.in-Some-Stands.h)) (sym c.open_at.ensures ∙ c.in_ok-b.was) (sym c.ended_in.ensures ∙ c.in-Some-Stands.is) in
     sym e

@@ -11,14 +11,14 @@ pub returns-then-self-page : goal.returns-then-self-page
 unfolding turned_at
 returns-then-self-page c = simp (ne_eqb _ _ c.if-self-page.true)
 
-pub returns-in_default : goal.returns-in_default
+pub returns-in_err-d : goal.returns-in_err-d
 unfolding turned_at
-returns-in_default c = simp (eq-eqb _ _ c.if-self-page.false, ← c.history_at.ensures, c.in_default.is)
+returns-in_err-d c = c.from_residual.ensures ∙ simp (eq-eqb _ _ c.if-self-page.false, ← c.history_at.ensures, c.in_err-d.was)
 
 pub older_on-requires : goal.older_on-requires
-older_on-requires c = let h = history-inside c.args.s.now c.args.self.link c.in-Some.d (sym c.history_at.ensures ∙ c.in-Some.is) in
-    omega (arith, front-few c.args.s.now c.in-Some.d h.inside, c.well_formed)
+older_on-requires c = let h = history-inside c.args.s.now c.args.self.link c.in_ok-d.d (sym c.history_at.ensures ∙ c.in_ok-d.was) in
+    omega (arith, front-few c.args.s.now c.in_ok-d.d h.inside, c.well_formed)
 
 pub returns : goal.returns
 unfolding turned_at
-returns c = simp (eq-eqb _ _ c.if-self-page.false, ← c.history_at.ensures, c.in-Some.is, c.older_on.ensures)
+returns c = simp (eq-eqb _ _ c.if-self-page.false, ← c.history_at.ensures, c.in_ok-d.was, c.older_on.ensures)
