@@ -99,8 +99,8 @@ page_sizes s a x h e = go (box_at s a) refl e
         let a1 = ask (eqb y.box_kind box_base) _ None (Some (x, h)) (page_no x h) e' in
         let a2 = ask (leb base_len y.payload_size) _ None (Some (x, h)) (page_no x h) a1.1 in
         let a3 = ask (base_ok y b) _ None (Some (x, h)) (page_no x h) a2.1 in
-        let i : y ≡ x = cc in
-        let j : b ≡ h = cc in
+        let i : y ≡ x = grind arith in
+        let j : b ≡ h = grind arith in
         rw (← i, ← j) (base_sizes s a y b q a3.0)
     go None q e' = absurd (page_no x h e')
 

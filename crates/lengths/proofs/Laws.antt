@@ -139,8 +139,8 @@ enc_step k b l here v n hb hc (Some (zero, m)) q e ih = never v n e
 enc_step k b l here v n hb hc (Some (suc w, m)) q e ih =
     let f = ih (suc w) m q in
     let d : ◌≡◌ {A = Option (ℕ × ℕ)} (Some (b - 128 + 128 * suc w, m)) (Some (v, n)) = sym (carry-is (b - 128) 128 (suc w) m (omega arith)) ∙ e in
-    let ve : b - 128 + 128 * suc w ≡ v = cc in
-    let ne : m ≡ n = cc in
+    let ve : b - 128 + 128 * suc w ≡ v = grind arith in
+    let ne : m ≡ n = grind arith in
     let lo : v % 128 + 128 ≡ b = omega arith in
     let hi : v / 128 ≡ suc w = omega arith in
     let E : enc (suc k) v ≡ b ∷ enc k (suc w) = enc_more k v (omega arith) ∙ ap₂ (λ (x y : ℕ). x ∷ enc k y) lo hi in
@@ -154,8 +154,8 @@ enc-dec (suc k) (b ∷ l) here v n hb e =
     by_order b 128
     (λ h.
     let d : ◌≡◌ {A = Option (ℕ × ℕ)} (Some (b, here + 1)) (Some (v, n)) = sym (dec-last k b l here h) ∙ e in
-    let ve : b ≡ v = cc in
-    let ne : here + 1 ≡ n = cc in
+    let ve : b ≡ v = grind arith in
+    let ne : here + 1 ≡ n = grind arith in
     let E : enc (suc k) v ≡ v ∷ [] = enc-last k v (omega arith) in
     (l, ap (λ (x : ℕ). x ∷ l) ve ∙ ap (λ (r : List ℕ). r ++ l) (sym E), omega (arith, ap length E), omega (arith, pow_128 k, pow_128_pos k)))
     (λ h. enc_step k b l here v n h (hb 0) (dec k l (here + 1)) refl (sym (dec_more k b l here h) ∙ e) (λ w m q. enc-dec k l (here + 1) w m (λ i. hb (suc i)) q))
@@ -167,7 +167,7 @@ within_inv (Some (w, m)) v n e =
     by_order w 4294967296
     (λ h.
     let d : ◌≡◌ {A = Option (ℕ × ℕ)} (Some (w, m)) (Some (v, n)) = sym (within-is w m h) ∙ e in
-    let ve : w ≡ v = cc in
+    let ve : w ≡ v = grind arith in
     (d, omega arith))
     (λ h. never v n (sym (within-above w m h) ∙ e))
 
@@ -185,7 +185,7 @@ pub uleb_unique : (v w : ℕ) (r q : List ℕ) → v < 4294967296 → w < 429496
 uleb_unique v w r q hv hw e =
     let a = read-uleb (uleb v ++ r) 0 v r hv refl in
     let b = read-uleb (uleb v ++ r) 0 w q hw e in
-    cc
+    grind arith
 
 -- ---- the reader's steps: what stands at index here of s
 

@@ -40,18 +40,18 @@ key-place s at kind v r n e = by (eqb kind 2) refl e
     of (Some (m, next)) q =
         let a1 = ask (leb (skip_of kind) m) _ None (Some (key_parts v r n)) (key_no v r n) q in
         let a2 = ask (leb (next + m) (length s)) _ None (Some (key_parts v r n)) (key_no v r n) a1.1 in
-        let x : next ≡ v = cc in
-        let y : next + skip_of kind ≡ r = cc in
-        let z : m - skip_of kind ≡ n = cc in
+        let x : next ≡ v = grind arith in
+        let y : next + skip_of kind ≡ r = grind arith in
+        let z : m - skip_of kind ≡ n = grind arith in
         record { ver = omega arith; rest = omega (arith, leb-true (skip_of kind) m a1.0, leb-true (next + m) (length s) a2.0) }
     of None q = absurd (key_no v r n q)
 
     by : (t : Bool) → eqb kind 2 ≡ t → cond t (cond (leb (at + 12) (length s)) (Some (key_parts at (at + 12) 0)) None) (key_of s kind (read_len s at)) ≡ Some (key_parts v r n) → KeyPlace s kind v r n
     by true k q =
         let a1 = ask (leb (at + 12) (length s)) _ None (Some (key_parts v r n)) (key_no v r n) q in
-        let x : at ≡ v = cc in
-        let y : at + 12 ≡ r = cc in
-        let z : 0 ≡ n = cc in
+        let x : at ≡ v = grind arith in
+        let y : at + 12 ≡ r = grind arith in
+        let z : 0 ≡ n = grind arith in
         record { ver = omega (arith, skip_history kind (eqb-true _ _ k)); rest = omega (arith, leb-true (at + 12) (length s) a1.0) }
     by false k q = of (read_len s at) q
 

@@ -131,7 +131,7 @@ module _ (s : List ℕ) (at kind ver rest n : ℕ) (hb : Bytes s) where
     pub ends : rest + n ≤ length s
 
   same : (next m : ℕ) → Some (key_parts next (next + skip_of kind) (m - skip_of kind)) ≡ Some (key_parts ver rest n) → (next ≡ ver) × (next + skip_of kind ≡ rest) × (m - skip_of kind ≡ n)
-  same next m e = (cc, cc, cc)
+  same next m e = (grind arith, grind arith, grind arith)
 
   framed : (r : Option (ℕ × ℕ)) → read_len s at ≡ r → key_of s kind r ≡ Some (key_parts ver rest n) → Framed
   framed None q e = absurd (bad e)

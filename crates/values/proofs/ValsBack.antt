@@ -198,7 +198,7 @@ module _ (s : List ℕ) (at : ℕ) (head : Bool) (h : HistRef) (remote : Bool) (
   no_front e = let z : ◌≡◌ {A = ℕ} 0 1 = cc in omega arith
 
   fields : (h' : HistRef) (remote' : Bool) (next' : ℕ) → Some (front_places h' remote' next') ≡ Some (front_places h remote next) → (h' ≡ h) × (remote' ≡ remote) × (next' ≡ next)
-  fields h' remote' next' e = (cc, cc, cc)
+  fields h' remote' next' e = (grind arith, grind arith, grind arith)
 
   flag_lies : at < length s → flag_of h.count remote ≡ get_or s at 0 → Lies s at (le 1 (flag_of h.count remote))
   flag_lies l e = subst (λ (k : ℕ). Lies s at (le 1 k)) (le_at-one s at l ∙ sym e) (le_lies s at 1 (omega arith) hb)
