@@ -88,17 +88,17 @@ val-inside s b at h p n a next i e = go (val_at (take b.end s) at (eqb b.kind 0)
   where
     remote : (h' : HistRef) (a' : Addr) (n' next' : ℕ) → next' ≤ b.end → (r : Option ℕ) → remote_at s a' n' ≡ r → remote_of h' a' n' next' r ≡ Some (val_parts h p n a next) → ValInside s b p n next
     remote h' a' n' next' l (Some q) w e' =
-        let x : q ≡ p = cc in
-        let y : n' ≡ n = cc in
-        let z : next' ≡ next = cc in
+        let x : q ≡ p = grind arith in
+        let y : n' ≡ n = grind arith in
+        let z : next' ≡ next = grind arith in
         record { val = omega (arith, remote-inside s a' n' q w); behind = omega arith }
     remote h' a' n' next' l None w e' = absurd (val_no h p n a next e')
 
     go : (v : Option Val) → val_at (take b.end s) at (eqb b.kind 0) ≡ v → val_of s v ≡ Some (val_parts h p n a next) → ValInside s b p n next
     go (Some (Val.Inline h' p' n' next')) q e' =
-        let x : p' ≡ p = cc in
-        let y : n' ≡ n = cc in
-        let z : next' ≡ next = cc in
+        let x : p' ≡ p = grind arith in
+        let y : n' ≡ n = grind arith in
+        let z : next' ≡ next = grind arith in
         let k = inline_place (take b.end s) at (eqb b.kind 0) h' p' n' next' q in
         let u = ends s b i in
         record { val = omega (arith, k.whole, k.inside, i.payload, i.arena); behind = omega (arith, k.inside) }
@@ -108,18 +108,18 @@ val-inside s b at h p n a next i e = go (val_at (take b.end s) at (eqb b.kind 0)
     go None q e' = absurd (val_no h p n a next e')
 
 -- the record at a place
-pub rec-inside : (s : List ℕ) (b : Body) (at : ℕ) (r : Rec) → Inside s b → rec_in s b at ≡ Some r → RecInside s b r × (key_in s b at ≡ Some r)
+pub rec-inside : (s : List ℕ) (b : Body) (at : ℕ) (r : Rec) → Inside s b → rec_in s b at ≡ Some r → RecInside s b r × (key_in s b at ≡ Some (key_parts r.ver_at r.rest_at r.rest_len))
 unfolding rec_in
 rec-inside s b at r i e = go (key_in s b at) refl e
   where
-    val : (v ra rn : ℕ) → KeyInside b v ra rn → (w : Option ValParts) → val_in s b (ra + rn) ≡ w → rec_val at v ra rn w ≡ Some r → RecInside s b r × (Some (key_parts v ra rn) ≡ Some r)
+    val : (v ra rn : ℕ) → KeyInside b v ra rn → (w : Option ValParts) → val_in s b (ra + rn) ≡ w → rec_val at v ra rn w ≡ Some r → RecInside s b r × (Some (key_parts v ra rn) ≡ Some (key_parts r.ver_at r.rest_at r.rest_len))
     val v ra rn k (Some v') q e' =
         let x : rec_of at v ra rn v'.hist v'.val_at v'.val_len v'.remote v'.next ≡ r = cc in
         let y = val-inside s b (ra + rn) v'.hist v'.val_at v'.val_len v'.remote v'.next i q in
-        rw (← x) (record { ver = k.ver; rest = k.rest; val = y.val; v'.next = y.behind }, refl)
+        rw (← x) (record { ver = k.ver; rest = k.rest; val = y.val; next = y.behind }, refl)
     val v ra rn k None q e' = absurd (rec_no r e')
 
-    kind : (v ra rn : ℕ) → KeyInside b v ra rn → (t : Bool) → cond t (cond (leb (ra + rn + 8) b.end) (Some (rec_of at v ra rn no_hist (ra + rn) 8 (addr 0) (ra + rn + 8))) None) (rec_val at v ra rn (val_in s b (ra + rn))) ≡ Some r → RecInside s b r × (Some (key_parts v ra rn) ≡ Some r)
+    kind : (v ra rn : ℕ) → KeyInside b v ra rn → (t : Bool) → cond t (cond (leb (ra + rn + 8) b.end) (Some (rec_of at v ra rn no_hist (ra + rn) 8 (addr 0) (ra + rn + 8))) None) (rec_val at v ra rn (val_in s b (ra + rn))) ≡ Some r → RecInside s b r × (Some (key_parts v ra rn) ≡ Some (key_parts r.ver_at r.rest_at r.rest_len))
     kind v ra rn k true q =
         let a1 = ask (leb (ra + rn + 8) b.end) _ None (Some r) (rec_no r) q in
         let x : rec_of at v ra rn no_hist (ra + rn) 8 (addr 0) (ra + rn + 8) ≡ r = cc in
@@ -129,16 +129,16 @@ rec-inside s b at r i e = go (key_in s b at) refl e
         rw (← x) (record { ver = k.ver; rest = k.rest; val = omega arith; next = l }, refl)
     kind v ra rn k false q = val v ra rn k (val_in s b (ra + rn)) refl q
 
-    go : (k : Option KeyParts) → key_in s b at ≡ k → rec_key s b at k ≡ Some r → RecInside s b r × (k ≡ Some r)
+    go : (k : Option KeyParts) → key_in s b at ≡ k → rec_key s b at k ≡ Some r → RecInside s b r × (k ≡ Some (key_parts r.ver_at r.rest_at r.rest_len))
     go (Some k) q e' = kind k.ver_at k.rest_at k.rest_len (key-inside s b at k.ver_at k.rest_at k.rest_len i q) (eqb b.kind 1) e'
     go None q e' = absurd (rec_no r e')
 
 -- the record of a slot: its places, its key as a search reads it, and that the slot is one of the page's
-pub at-inside : (s : List ℕ) (b : Body) (j : ℕ) (r : Rec) → Inside s b → rec_at s b j ≡ Some r → RecInside s b r × (key_at_slot s b j ≡ Some r)
+pub at-inside : (s : List ℕ) (b : Body) (j : ℕ) (r : Rec) → Inside s b → rec_at s b j ≡ Some r → RecInside s b r × (key_at_slot s b j ≡ Some (key_parts r.ver_at r.rest_at r.rest_len))
 unfolding rec_at key_at_slot
 at-inside s b j r i e = go (slot_at s b j) e
   where
-    go : (w : Option ℕ) → rec_slot s b w ≡ Some r → RecInside s b r × (key_slot s b w ≡ Some r)
+    go : (w : Option ℕ) → rec_slot s b w ≡ Some r → RecInside s b r × (key_slot s b w ≡ Some (key_parts r.ver_at r.rest_at r.rest_len))
     go (Some p) e' = rec-inside s b p r i e'
     go None e' = absurd (rec_no r e')
 
@@ -158,7 +158,7 @@ old-key s b at v r n k e = go (leb (at + 12) (length (take b.end s))) (rw (eq-eq
     go : (t : Bool) → key_whole b (cond t (Some (key_parts at (at + 12) 0)) None) ≡ Some (key_parts v r n) → v ≡ at
     go true q =
         let a1 = ask (leb (b.prefix_len + 0) max_key) _ None (Some (key_parts v r n)) (key_no v r n) q in
-        let x : at ≡ v = cc in
+        let x : at ≡ v = grind arith in
         sym x
     go false q = absurd (key_no v r n q)
 

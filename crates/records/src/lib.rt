@@ -121,30 +121,26 @@ fn val_in(s: &[u8], b: Body, at: usize) -> Option<ValParts>
     ensures { result ≡ val_in s.now b at }
 {
     let e = b.end;
-    let v = Val::decode_from(&s[..e], at, b.kind == Body::LEAF);
+    let v = Val::decode_from(&s[..e], at, b.kind == Body::LEAF)?;
     match v {
-        Some(
-            Val::Inline {
-                hist,
-                at: p,
-                size,
-                next,
-            },
-        ) => Some(ValParts {
+        Val::Inline {
+            hist,
+            at: p,
+            size,
+            next,
+        } => Some(ValParts {
             hist,
             val_at: p,
             val_len: size,
             remote: NULL_ADDR,
             next,
         }),
-        Some(
-            Val::Remote {
-                hist,
-                addr,
-                size,
-                next,
-            },
-        ) => {
+        Val::Remote {
+            hist,
+            addr,
+            size,
+            next,
+        } => {
             let q = frames::remote_at(s, addr, size as u32)?;
             Some(ValParts {
                 hist,
@@ -154,7 +150,6 @@ fn val_in(s: &[u8], b: Body, at: usize) -> Option<ValParts>
                 next,
             })
         }
-        None => None,
     }
 }
 
@@ -288,15 +283,14 @@ pub fn quick_value(s: &[u8], b: Body, at: usize) -> Option<ValParts>
     ensures { Quickly None result (val_in s.now b at) }
 {
     let e = b.end;
-    match head_val(&s[..e], at) {
-        Some(
-            Val::Inline {
-                hist,
-                at: p,
-                size,
-                next,
-            },
-        ) => Some(ValParts {
+    let v = head_val(&s[..e], at)?;
+    match v {
+        Val::Inline {
+            hist,
+            at: p,
+            size,
+            next,
+        } => Some(ValParts {
             hist,
             val_at: p,
             val_len: size,
@@ -366,15 +360,14 @@ fn old_in(s: &[u8], b: Body, p: usize) -> Option<Rec>
     let e = b.end;
     if spans::room(e, p, 12) {
         if b.prefix_len <= BaseHeader::MAX_KEY {
-            match old_val(&s[..e], p + 12) {
-                Some(
-                    Val::Inline {
-                        hist,
-                        at,
-                        size,
-                        next,
-                    },
-                ) => {
+            let v = old_val(&s[..e], p + 12)?;
+            match v {
+                Val::Inline {
+                    hist,
+                    at,
+                    size,
+                    next,
+                } => {
                     return Some(Rec {
                         from: p,
                         ver_at: p,
@@ -423,15 +416,14 @@ pub fn head_by(s: &[u8], e: usize, prefix: usize, p: usize) -> Option<Rec>
     if BaseHeader::MAX_KEY < prefix + k.rest_len {
         return None;
     }
-    match Val::decode_from(&s[..e], k.rest_at + k.rest_len, true) {
-        Some(
-            Val::Inline {
-                hist,
-                at,
-                size,
-                next,
-            },
-        ) => Some(Rec {
+    let v = Val::decode_from(&s[..e], k.rest_at + k.rest_len, true)?;
+    match v {
+        Val::Inline {
+            hist,
+            at,
+            size,
+            next,
+        } => Some(Rec {
             from: p,
             ver_at: k.ver_at,
             rest_at: k.rest_at,
@@ -442,14 +434,12 @@ pub fn head_by(s: &[u8], e: usize, prefix: usize, p: usize) -> Option<Rec>
             remote: NULL_ADDR,
             next,
         }),
-        Some(
-            Val::Remote {
-                hist,
-                addr,
-                size,
-                next,
-            },
-        ) => {
+        Val::Remote {
+            hist,
+            addr,
+            size,
+            next,
+        } => {
             let q = frames::remote_at(s, addr, size as u32)?;
             Some(Rec {
                 from: p,
@@ -463,7 +453,6 @@ pub fn head_by(s: &[u8], e: usize, prefix: usize, p: usize) -> Option<Rec>
                 next,
             })
         }
-        None => None,
     }
 }
 

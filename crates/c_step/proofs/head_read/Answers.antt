@@ -20,7 +20,7 @@ pub slot_at-requires : goal.slot_at-requires
 slot_at-requires c = leaf_inside c.args.s.now c.args.w c.in_ok-b.b (sym c.body_of.ensures ∙ c.in_ok-b.was)
 
 pub returns-in_err-p : goal.returns-in_err-p
-returns-in_err-p c = c.from_residual-2.ensures ∙ λ r e. absurd (rec_none r e)
+returns-in_err-p c = c.from_residual-in_err-p.ensures ∙ λ r e. absurd (rec_none r e)
 
 pub quick_key-n-requires : goal.quick_key-n-requires
 quick_key-n-requires c = let o = sym c.body_of.ensures ∙ c.in_ok-b.was in
@@ -49,7 +49,7 @@ quick_value-requires c = let o = sym c.body_of.ensures ∙ c.in_ok-b.was in
     }
 
 pub returns-in_err-val : goal.returns-in_err-val
-returns-in_err-val c = c.from_residual-3.ensures ∙ λ r e. absurd (rec_none r e)
+returns-in_err-val c = c.from_residual-in_err-val.ensures ∙ λ r e. absurd (rec_none r e)
 
 pub overflow_add-result : goal.overflow_add-result
 overflow_add-result c = let i = leaf_inside c.args.s.now c.args.w c.in_ok-b.b (sym c.body_of.ensures ∙ c.in_ok-b.was) in

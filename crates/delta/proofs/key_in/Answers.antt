@@ -15,17 +15,17 @@ pub returns-in_err-k : goal.returns-in_err-k
 unfolding key_in
 returns-in_err-k c = c.from_residual.ensures ∙ simp (← c.key_at.ensures, c.in_err-k.was)
 
-pub returns-then-rest_len-gt-MAX_KEY : goal.returns-then-rest_len-gt-MAX_KEY
+pub returns-then-k-gt-MAX_KEY : goal.returns-then-k-gt-MAX_KEY
 unfolding key_in
-returns-then-rest_len-gt-MAX_KEY c = simp (← c.key_at.ensures, c.in_ok-k.was, lt-leb _ _ c.if-rest_len-gt-MAX_KEY.true)
+returns-then-k-gt-MAX_KEY c = simp (← c.key_at.ensures, c.in_ok-k.was, lt-leb _ _ c.if-k-gt-MAX_KEY.true)
 
-pub overflow_add-rest_at : goal.overflow_add-rest_at
-overflow_add-rest_at c = omega (arith, (key-place (take c.args.d.val_at c.args.s.now) c.args.d.key_at c.args.kind c.in_ok-k.k.ver_at c.in_ok-k.k.rest_at c.in_ok-k.k.rest_len (sym c.key_at.ensures ∙ c.in_ok-k.was)).rest, length-take-le c.args.d.val_at c.args.s.now c.requires, c.well_formed)
+pub overflow_add-k : goal.overflow_add-k
+overflow_add-k c = omega (arith, (key-place (take c.args.d.val_at c.args.s.now) c.args.d.key_at c.args.kind c.in_ok-k.k.ver_at c.in_ok-k.k.rest_at c.in_ok-k.k.rest_len (sym c.key_at.ensures ∙ c.in_ok-k.was)).rest, length-take-le c.args.d.val_at c.args.s.now c.requires, c.well_formed)
 
-pub returns-then-rest_at-rest_len : goal.returns-then-rest_at-rest_len
+pub returns-then-k-k : goal.returns-then-k-k
 unfolding key_in
-returns-then-rest_at-rest_len c = simp (← c.key_at.ensures, c.in_ok-k.was, le-leb _ _ c.if-rest_len-gt-MAX_KEY.false, ne_eqb _ _ c.if-rest_at-rest_len.true)
+returns-then-k-k c = simp (← c.key_at.ensures, c.in_ok-k.was, le-leb _ _ c.if-k-gt-MAX_KEY.false, ne_eqb _ _ c.if-k-k.true)
 
 pub returns : goal.returns
 unfolding key_in
-returns c = simp (← c.key_at.ensures, c.in_ok-k.was, le-leb _ _ c.if-rest_len-gt-MAX_KEY.false, eq-eqb _ _ c.if-rest_at-rest_len.false)
+returns c = simp (← c.key_at.ensures, c.in_ok-k.was, le-leb _ _ c.if-k-gt-MAX_KEY.false, eq-eqb _ _ c.if-k-k.false)

@@ -19,8 +19,8 @@ child_at-requires c = record {
 pub returns-in_default : goal.returns-in_default
 returns-in_default c = sym (c.loop-i.invariant.2 ∙ slots_bad c.args.s.now c.args.b c.args.b.elems _ _ _ _ c.loop-i-test.true (c.child_at.ensures ∙ ap child_of c.in_default.is))
 
-pub returns-then-from-want : goal.returns-then-from-want
-returns-then-from-want c = sym (c.loop-i.invariant.2 ∙ slots_gap c.args.s.now c.args.b c.args.b.elems _ _ _ _ c.loop-i-test.true _ (c.child_at.ensures ∙ ap child_of c.in-Some.is) c.if-from-want.true)
+pub returns-then-child-want : goal.returns-then-child-want
+returns-then-child-want c = sym (c.loop-i.invariant.2 ∙ slots_gap c.args.s.now c.args.b c.args.b.elems _ _ _ _ c.loop-i-test.true _ (c.child_at.ensures ∙ ap child_of c.in-Some.is) c.if-child-want.true)
 
 pub rises-requires : goal.rises-requires
 rises-requires c = let k = (at-inside c.args.s.now c.args.b c.loop-i.i _ c.requires.inside (c.child_at.ensures ∙ ap child_of c.in-Some.is)).0 in
@@ -42,10 +42,10 @@ loop-i-smaller c = omega (arith, c.loop-i-test.true)
 
 pub loop-i-preserved : goal.loop-i-preserved
 loop-i-preserved c = let k = (at-inside c.args.s.now c.args.b c.loop-i.i _ c.requires.inside (c.child_at.ensures ∙ ap child_of c.in-Some.is)).0 in
-    (omega (arith, c.loop-i-test.true), omega (arith, k.rest, c.requires.inside.payload, c.requires.inside.arena), c.loop-i.invariant.2 ∙ slots_more c.args.s.now c.args.b c.args.b.elems _ _ _ _ c.loop-i-test.true _ (c.child_at.ensures ∙ ap child_of c.in-Some.is) c.if-from-want.false (sym c.rises.ensures ∙ c.if-rises.true))
+    (omega (arith, c.loop-i-test.true), omega (arith, k.rest, c.requires.inside.payload, c.requires.inside.arena), c.loop-i.invariant.2 ∙ slots_more c.args.s.now c.args.b c.args.b.elems _ _ _ _ c.loop-i-test.true _ (c.child_at.ensures ∙ ap child_of c.in-Some.is) c.if-child-want.false (sym c.rises.ensures ∙ c.if-rises.true))
 
 pub returns-else-rises : goal.returns-else-rises
-returns-else-rises c = sym (c.loop-i.invariant.2 ∙ slots_fall c.args.s.now c.args.b c.args.b.elems _ _ _ _ c.loop-i-test.true _ (c.child_at.ensures ∙ ap child_of c.in-Some.is) c.if-from-want.false (sym c.rises.ensures ∙ c.if-rises.false))
+returns-else-rises c = sym (c.loop-i.invariant.2 ∙ slots_fall c.args.s.now c.args.b c.args.b.elems _ _ _ _ c.loop-i-test.true _ (c.child_at.ensures ∙ ap child_of c.in-Some.is) c.if-child-want.false (sym c.rises.ensures ∙ c.if-rises.false))
 
 pub returns : goal.returns
 returns c = sym (c.loop-i.invariant.2 ∙ slots_end c.args.s.now c.args.b c.args.b.elems _ _ _ _ c.loop-i-test.false)

@@ -18,7 +18,7 @@ returns-then-i-b c = simp (← c.history_at.ensures, c.in_ok-b.was, ne_eqb _ _ c
 
 pub returns-in_err-d : goal.returns-in_err-d
 unfolding old_at
-returns-in_err-d c = c.from_residual-2.ensures ∙ simp (← c.history_at.ensures, c.in_ok-b.was, eq-eqb _ _ c.if-i-b.false, ← c.history_at-2.ensures, c.in_err-d.was)
+returns-in_err-d c = c.from_residual-in_err-d.ensures ∙ simp (← c.history_at.ensures, c.in_ok-b.was, eq-eqb _ _ c.if-i-b.false, ← c.history_at-2.ensures, c.in_err-d.was)
 
 pub old_in-requires-2 : goal.old_in-requires-2
 old_in-requires-2 c = (history-inside c.args.s.now c.in_ok-b.b.link c.in_ok-d.d (sym c.history_at-2.ensures ∙ c.in_ok-d.was)).inside

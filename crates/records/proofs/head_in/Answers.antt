@@ -13,7 +13,7 @@ pub overflow_add-p-2 : goal.overflow_add-p-2
 overflow_add-p-2 c = omega (arith, (c.quick_key-n.ensures c.if-n-eq0.false).inside)
 
 pub returns-in_err-val : goal.returns-in_err-val
-returns-in_err-val c = c.from_residual.ensures ∙ inl refl
+returns-in_err-val c = inl c.from_residual.ensures
 
 pub overflow_sub-result : goal.overflow_sub-result
 overflow_sub-result c = omega (arith, (c.quick_key-n.ensures c.if-n-eq0.false).long)

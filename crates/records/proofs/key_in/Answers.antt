@@ -17,10 +17,10 @@ pub overflow_add-b : goal.overflow_add-b
 overflow_add-b c = let k = place_inside c.args.s.now c.args.b c.args.at c.in_ok-k.k.ver_at c.in_ok-k.k.rest_at c.in_ok-k.k.rest_len c.requires (sym c.key_at.ensures ∙ c.in_ok-k.was) in
     omega (arith, k.rest, c.requires.slots, c.requires.records, c.requires.payload, c.requires.arena, c.requires.prefix, c.well_formed)
 
-pub returns-then-b-rest_len-gt-MAX_KEY : goal.returns-then-b-rest_len-gt-MAX_KEY
+pub returns-then-b-k-gt-MAX_KEY : goal.returns-then-b-k-gt-MAX_KEY
 unfolding key_in
-returns-then-b-rest_len-gt-MAX_KEY c = simp (← c.key_at.ensures, c.in_ok-k.was, lt-leb _ _ c.if-b-rest_len-gt-MAX_KEY.true)
+returns-then-b-k-gt-MAX_KEY c = simp (← c.key_at.ensures, c.in_ok-k.was, lt-leb _ _ c.if-b-k-gt-MAX_KEY.true)
 
 pub returns : goal.returns
 unfolding key_in
-returns c = simp (← c.key_at.ensures, c.in_ok-k.was, le-leb _ _ c.if-b-rest_len-gt-MAX_KEY.false)
+returns c = simp (← c.key_at.ensures, c.in_ok-k.was, le-leb _ _ c.if-b-k-gt-MAX_KEY.false)

@@ -1,7 +1,8 @@
 -- `records::old_in` meets its contract. Assumes nothing.
 use native.Mathlib.Omega.{arith}
 use Prim.Native.Nat.{◌+◌}
-use mathlib.Core.Path.{refl, sym, ◌∙◌}
+use mathlib.Core.Path.{refl, sym, ap, ◌∙◌}
+use Rattle.std.proofs.Common.{Some}
 use borrow.Author.Tests.{leb-true}
 use mathlib.Core.Logic.{inl, inr}
 use Rattle.records.proofs.Inside.{ends}
@@ -18,8 +19,8 @@ overflow_add-p c = omega (arith, leb-true (c.args.p + 12) c.args.b.end (sym c.ro
 pub overflow_add-result : goal.overflow_add-result
 overflow_add-result c = omega (arith, leb-true (c.args.p + 12) c.args.b.end (sym c.room.ensures ∙ c.if-room.true))
 
-pub returns-in-Some-Inline : goal.returns-in-Some-Inline
-returns-in-Some-Inline c = inr (sym (old-rec c.args.s.now c.args.b c.args.p c.in-Some-Inline.hist c.in-Some-Inline.at c.in-Some-Inline.size c.in-Some-Inline.next c.requires.inside c.requires.kind_value (leb-true (c.args.p + 12) c.args.b.end (sym c.room.ensures ∙ c.if-room.true)) c.if-b-le-MAX_KEY.true (quick_is _ c.old_val.ensures c.in-Some-Inline.is (inline_no _ _ _ _))))
+pub returns-in-Inline : goal.returns-in-Inline
+returns-in-Inline c = inr (sym (old-rec c.args.s.now c.args.b c.args.p c.in-Inline.hist c.in-Inline.at c.in-Inline.size c.in-Inline.next c.requires.inside c.requires.kind_value (leb-true (c.args.p + 12) c.args.b.end (sym c.room.ensures ∙ c.if-room.true)) c.if-b-le-MAX_KEY.true (quick_is _ c.old_val.ensures (c.in_ok-v.was ∙ ap Some c.in-Inline.is) (inline_no _ _ _ _))))
 
 pub returns-in_default : goal.returns-in_default
 returns-in_default c = inl refl
@@ -29,3 +30,6 @@ returns-else-b-le-MAX_KEY c = inl refl
 
 pub returns-else-room : goal.returns-else-room
 returns-else-room c = inl refl
+
+pub returns-in_err-v : goal.returns-in_err-v
+returns-in_err-v c = inl c.from_residual.ensures

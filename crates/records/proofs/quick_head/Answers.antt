@@ -7,7 +7,7 @@ use Rattle.records.proofs.Quick.{quick_on, slot-rec}
 use Rattle.records.proofs.quick_head.Goals as goal
 
 pub returns-in_err-p : goal.returns-in_err-p
-returns-in_err-p c = c.from_residual.ensures ∙ inl refl
+returns-in_err-p c = inl c.from_residual.ensures
 
 pub head_in-requires : goal.head_in-requires
 head_in-requires c = record {

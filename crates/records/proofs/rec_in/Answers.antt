@@ -33,8 +33,8 @@ returns-then-b-eq-INDEX c = simp (← c.key_in.ensures, c.in_ok-k.was, eq-eqb _ 
 
 pub returns-in_err-val : goal.returns-in_err-val
 unfolding rec_in
-returns-in_err-val c = c.from_residual-2.ensures ∙ simp (← c.key_in.ensures, c.in_ok-k.was, ne_eqb _ _ c.if-b-eq-INDEX.false, ← c.val_in.ensures, c.in_err-val.was)
+returns-in_err-val c = c.from_residual-in_err-val.ensures ∙ simp (← c.key_in.ensures, c.in_ok-k.was, ne_eqb _ _ c.if-b-eq-INDEX.false, ← c.val_in.ensures, c.in_err-val.was)
 
 pub returns : goal.returns
 unfolding rec_in
-returns c = simp (← c.key_in.ensures, c.in_ok-k.was, ne_eqb _ _ c.if-b-eq-INDEX.false, ← c.val_in.ensures, c.in_ok-k.was)
+returns c = simp (← c.key_in.ensures, c.in_ok-k.was, ne_eqb _ _ c.if-b-eq-INDEX.false, ← c.val_in.ensures, c.in_ok-val.was)

@@ -1,6 +1,7 @@
 -- `records::val_in` meets its contract. Assumes nothing.
 use native.Mathlib.Omega.{arith}
-use mathlib.Core.Path.{sym, ◌∙◌}
+use mathlib.Core.Path.{sym, ap, ◌∙◌}
+use Rattle.std.proofs.Common.{Some}
 use lib.ListN.{take}
 use lib.Dec.{eqb}
 use Rattle.records.specs.Records.{val_in}
@@ -12,20 +13,20 @@ pub slice_bounds-decode_from-end : goal.slice_bounds-decode_from-end
 slice_bounds-decode_from-end c = sym (ends c.args.s.now c.args.b c.requires)
 
 pub overflow_cast-size : goal.overflow_cast-size
-overflow_cast-size c = omega (arith, (remote-place (take c.args.b.end c.args.s.now) c.args.at (eqb c.args.b.kind 0) c.in-Some-Remote.hist c.in-Some-Remote.addr c.in-Some-Remote.size c.in-Some-Remote.next (sym c.decode_from-v.ensures ∙ c.in-Some-Remote.is)).small)
+overflow_cast-size c = omega (arith, (remote-place (take c.args.b.end c.args.s.now) c.args.at (eqb c.args.b.kind 0) c.in-Remote.hist c.in-Remote.addr c.in-Remote.size c.in-Remote.next (sym c.decode_from.ensures ∙ c.in_ok-v.was ∙ ap Some c.in-Remote.is)).small)
 
-pub returns-in_err-q : goal.returns-in_err-q
+pub returns-in_err-q-in-Remote : goal.returns-in_err-q-in-Remote
 unfolding val_in
-returns-in_err-q c = c.from_residual.ensures ∙ simp (← c.decode_from-v.ensures, c.in-Some-Remote.is, ← c.remote_at.ensures, c.in_err-q.was)
+returns-in_err-q-in-Remote c = c.from_residual-in_err-q-in-Remote.ensures ∙ simp (← c.decode_from.ensures, c.in_ok-v.was, c.in-Remote.is, ← c.remote_at.ensures, c.in_err-q-in-Remote.was)
 
-pub returns-in-Some-Inline : goal.returns-in-Some-Inline
+pub returns-in-Inline : goal.returns-in-Inline
 unfolding val_in
-returns-in-Some-Inline c = simp (← c.decode_from-v.ensures, c.in-Some-Inline.is)
+returns-in-Inline c = simp (← c.decode_from.ensures, c.in_ok-v.was, c.in-Inline.is)
 
-pub returns-in_ok-q : goal.returns-in_ok-q
+pub returns-in_ok-q-in-Remote : goal.returns-in_ok-q-in-Remote
 unfolding val_in
-returns-in_ok-q c = simp (← c.decode_from-v.ensures, c.in-Some-Remote.is, ← c.remote_at.ensures, c.in_ok-q.was)
+returns-in_ok-q-in-Remote c = simp (← c.decode_from.ensures, c.in_ok-v.was, c.in-Remote.is, ← c.remote_at.ensures, c.in_ok-q-in-Remote.was)
 
-pub returns-in-None : goal.returns-in-None
+pub returns-in_err-v : goal.returns-in_err-v
 unfolding val_in
-returns-in-None c = simp (← c.decode_from-v.ensures, c.in-None.is)
+returns-in_err-v c = c.from_residual.ensures ∙ simp (← c.decode_from.ensures, c.in_err-v.was)

@@ -14,8 +14,8 @@ pub returns-in_default : goal.returns-in_default
 unfolding head_in
 returns-in_default c = sym (ap (found_rec c.args.s.now c.args.i c.args.reads) (rec_no_key c.args.s.now c.args.b c.args.i (sym c.key_at.ensures ∙ c.in_default.is)))
 
-pub overflow_add-rest_at : goal.overflow_add-rest_at
-overflow_add-rest_at c = let k = key-at-inside c.args.s.now c.args.b c.args.i c.in-Some.k.ver_at c.in-Some.k.rest_at c.in-Some.k.rest_len c.requires.inside (sym c.key_at.ensures ∙ c.in-Some.is) in
+pub overflow_add-k : goal.overflow_add-k
+overflow_add-k c = let k = key-at-inside c.args.s.now c.args.b c.args.i c.in-Some.k.ver_at c.in-Some.k.rest_at c.in-Some.k.rest_len c.requires.inside (sym c.key_at.ensures ∙ c.in-Some.is) in
     omega (arith, k.rest, c.requires.inside.payload, c.requires.inside.arena, c.well_formed)
 
 pub ver_at-v-requires : goal.ver_at-v-requires
