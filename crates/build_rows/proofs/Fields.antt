@@ -276,12 +276,12 @@ module _ (w : List ℕ) (b : Body) (i : Inside w b) (q : ℕ) (h : HistRef) (p n
 
 -- a head or an old version: its value stands behind its key
 rec-value : (w : List ℕ) (b : Body) (j : ℕ) (r : Rec) → Inside w b → (b.kind ≡ 1 → ⊥) → rec_at w b j ≡ Some r
-    → val_in w b (r.rest_at + r.rest_len) ≡ Some r
+    → val_in w b (r.rest_at + r.rest_len) ≡ Some (val_parts r.hist r.val_at r.val_len r.remote r.next)
 rec-value w b j r i k e =
     go (val_in w b (r.rest_at + r.rest_len))
     (sym (rec-val w b j r.ver_at r.rest_at r.rest_len (at-inside w b j r i e).1 (val_in w b (r.rest_at + r.rest_len)) k refl) ∙ e)
   where
-    go : (x : Option ValParts) → rec_val (from_of (slot_at w b j)) r.ver_at r.rest_at r.rest_len x ≡ Some r → x ≡ Some r
+    go : (x : Option ValParts) → rec_val (from_of (slot_at w b j)) r.ver_at r.rest_at r.rest_len x ≡ Some r → x ≡ Some (val_parts r.hist r.val_at r.val_len r.remote r.next)
     go (Some v) q =
         let x : rec_of (from_of (slot_at w b j)) r.ver_at r.rest_at r.rest_len v.hist v.val_at v.val_len v.remote v.next ≡ r = cc in
         rw (← x)

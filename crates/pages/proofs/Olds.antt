@@ -66,9 +66,9 @@ in_inside s b a i p q r h e = go (rec_at s b i) refl e
   where
     go : (w : Option Rec) → rec_at s b i ≡ w → old_rec a i w ≡ Some (old_version p q r) → OldInside s p q r
     go (Some x) u e' =
-        let y : a ≡ p = cc in
-        let z : i ≡ q = cc in
-        let t : x ≡ r = cc in
+        let y : a ≡ p = grind arith in
+        let z : i ≡ q = grind arith in
+        let t : x ≡ r = grind arith in
         rw (← y, ← z, ← t)
         (record {
           page = b;

@@ -54,7 +54,7 @@ key_lies s p i v r n e = go (slot_at s (body_in p 2) i) refl a1.1
         }
     go None w e' = absurd (let y : ◌≡◌ {A = ℕ} 0 1 = cc in omega arith)
 
-pub key-read : (s : List ℕ) (v : Sheet) (i : ℕ) (r : Rec) → read_at s v 2 i ≡ Some r → key_old s v i ≡ Some r
+pub key-read : (s : List ℕ) (v : Sheet) (i : ℕ) (r : Rec) → read_at s v 2 i ≡ Some r → key_old s v i ≡ Some (key_parts r.ver_at r.rest_at r.rest_len)
 unfolding read_at key_old
 key-read s v i r e =
     let a1 = ask (fits_in (length s) v) (rec_at s (body_in v 2) i) None (Some r) (λ z. let y : ◌≡◌ {A = ℕ} 0 1 = cc in omega arith) e in

@@ -26,8 +26,8 @@ overflow_add-p-then-n-ne0 c = omega (arith, (c.quick_key-n.ensures c.if-n-ne0.tr
 pub overflow_add-result : goal.overflow_add-result
 overflow_add-result c = omega (arith, (c.quick_key-n.ensures c.if-n-ne0.true).inside, c.requires.inside.payload, c.requires.inside.arena, c.well_formed)
 
-pub overflow_add-result-in_ok-p : goal.overflow_add-result-in_ok-p
-overflow_add-result-in_ok-p c = omega (arith, (c.quick_key-n.ensures c.if-n-ne0.true).inside, c.requires.inside.payload, c.requires.inside.arena, c.well_formed)
+pub overflow_add-result-in-Some : goal.overflow_add-result-in-Some
+overflow_add-result-in-Some c = omega (arith, (c.quick_key-n.ensures c.if-n-ne0.true).inside, c.requires.inside.payload, c.requires.inside.arena, c.well_formed)
 
 pub overflow_add-result-in-Some-2 : goal.overflow_add-result-in-Some-2
 overflow_add-result-in-Some-2 c = omega (arith, (c.quick_key-n.ensures c.if-n-ne0.true).inside, (c.quick_key-n.ensures c.if-n-ne0.true).long, c.requires.inside.payload, c.requires.inside.arena, c.well_formed)
@@ -35,8 +35,8 @@ overflow_add-result-in-Some-2 c = omega (arith, (c.quick_key-n.ensures c.if-n-ne
 pub overflow_sub-result : goal.overflow_sub-result
 overflow_sub-result c = omega (arith, (c.quick_key-n.ensures c.if-n-ne0.true).long)
 
-pub returns-in_ok-p : goal.returns-in_ok-p
-returns-in_ok-p c = sym (sym (slot-rec c.args.s.now c.args.b c.args.i c.in_ok-p.p (sym c.slot_at.ensures ∙ c.in_ok-p.was)) ∙ short_head c.args.s.now c.args.b c.in_ok-p.p c.quick_key-n.result c.in_ok-p.val.hist c.in_ok-p.val.val_at c.in_ok-p.val.val_len c.in_ok-p.val.remote c.in_ok-p.val.next c.requires.kind_value (c.quick_key-n.ensures c.if-n-ne0.true) (quick_is _ c.quick_value.ensures c.in_ok-p.was (val_no _ _ _ _ _)))
+pub returns-in-Some : goal.returns-in-Some
+returns-in-Some c = sym (sym (slot-rec c.args.s.now c.args.b c.args.i c.in_ok-p.p (sym c.slot_at.ensures ∙ c.in_ok-p.was)) ∙ short_head c.args.s.now c.args.b c.in_ok-p.p c.quick_key-n.result c.in-Some.val.hist c.in-Some.val.val_at c.in-Some.val.val_len c.in-Some.val.remote c.in-Some.val.next c.requires.kind_value (c.quick_key-n.ensures c.if-n-ne0.true) (quick_is _ c.quick_value.ensures c.in-Some.is (val_no _ _ _ _ _)))
 
 pub head_by-requires : goal.head_by-requires
 head_by-requires c = (omega (arith, c.requires.inside.payload, c.requires.inside.arena), omega (arith, c.requires.inside.prefix, c.requires.inside.slots, c.requires.inside.records, c.requires.inside.payload))
