@@ -183,24 +183,22 @@ fn older_as_of(
     ensures { result ≡ older_as_of s.now v slot reads b at }
 {
     let e = b.end;
-    match Val::decode_from(&s[..e], at, true) {
-        Some(
-            Val::Inline {
-                hist,
-                at: _,
-                size: _,
-                next: _,
-            },
-        ) => old_enter(s, hist, v, slot, reads),
-        Some(
-            Val::Remote {
-                hist,
-                addr: _,
-                size: _,
-                next: _,
-            },
-        ) => old_enter(s, hist, v, slot, reads),
-        None => Err(Refusal::BadFrame),
+    let Some(val) = Val::decode_from(&s[..e], at, true) else {
+        return Err(Refusal::BadFrame);
+    };
+    match val {
+        Val::Inline {
+            hist,
+            at: _,
+            size: _,
+            next: _,
+        } => old_enter(s, hist, v, slot, reads),
+        Val::Remote {
+            hist,
+            addr: _,
+            size: _,
+            next: _,
+        } => old_enter(s, hist, v, slot, reads),
     }
 }
 
@@ -208,18 +206,16 @@ fn older_as_of(
 pub fn as_of(s: &[u8], a: Addr, probe: &[u8], v: Ver) -> Result<AsOf, Refusal>
     ensures { result ≡ as_of_at s.now a probe.now v }
 {
-    match search_head::head_at(s, a, probe) {
-        Err(r) => Err(r),
-        Ok(Head::Nothing { reads }) => Ok(AsOf::Nothing { reads }),
-        Ok(
-            Head::Is {
-                page,
-                slot,
-                ver,
-                value,
-                reads,
-            },
-        ) => {
+    let head = search_head::head_at(s, a, probe)?;
+    match head {
+        Head::Nothing { reads } => Ok(AsOf::Nothing { reads }),
+        Head::Is {
+            page,
+            slot,
+            ver,
+            value,
+            reads,
+        } => {
             if ver.newer(v) {
                 return older_as_of(s, page, value, v, slot, reads);
             }

@@ -57,14 +57,16 @@ pub fn tell_hints(out: &mut [u64], x: Result<Option<Hints>, Refusal>) -> u32
     ensures out_after { out.new ≡ written (hints_words x) out.old }
 {
     match x {
-        Ok(Some(h)) => {
-            c_words::store_two(out, 0, h.at as u64, h.count as u64);
-            0
-        }
-        Ok(None) => {
-            c_words::store_two(out, 0, 0, 0);
-            0
-        }
+        Ok(x) => match x {
+            Some(h) => {
+                c_words::store_two(out, 0, h.at as u64, h.count as u64);
+                0
+            }
+            None => {
+                c_words::store_two(out, 0, 0, 0);
+                0
+            }
+        },
         Err(r) => c_words::no(r),
     }
 }
@@ -92,36 +94,36 @@ pub fn tell_found(out: &mut [u64], x: Result<Found, Refusal>) -> u32
     ensures out_after { out.new ≡ written (found_words x) out.old }
 {
     match x {
-        Ok(
+        Ok(x) => match x {
             Found::Is {
                 slot,
                 ver,
                 hist,
                 value,
                 reads,
-            },
-        ) => {
-            c_words::store_nine(
-                out,
-                0,
-                1,
-                slot as u64,
-                ver.txid,
-                ver.cmd as u64,
-                value.at as u64,
-                value.len as u64,
-                hist.page.0,
-                hist.slot as u64,
-                hist.count as u64,
-            );
-            c_words::store(out, 9, reads as u64);
-            0
-        }
-        Ok(Found::Nothing { reads }) => {
-            c_words::store_five(out, 0, 0, 0, 0, 0, 0);
-            c_words::store_five(out, 5, 0, 0, 0, 0, reads as u64);
-            0
-        }
+            } => {
+                c_words::store_nine(
+                    out,
+                    0,
+                    1,
+                    slot as u64,
+                    ver.txid,
+                    ver.cmd as u64,
+                    value.at as u64,
+                    value.len as u64,
+                    hist.page.0,
+                    hist.slot as u64,
+                    hist.count as u64,
+                );
+                c_words::store(out, 9, reads as u64);
+                0
+            }
+            Found::Nothing { reads } => {
+                c_words::store_five(out, 0, 0, 0, 0, 0, 0);
+                c_words::store_five(out, 5, 0, 0, 0, 0, reads as u64);
+                0
+            }
+        },
         Err(r) => c_words::no(r),
     }
 }
@@ -131,31 +133,31 @@ pub fn tell_as_of(out: &mut [u64], x: Result<AsOf, Refusal>) -> u32
     ensures out_after { out.new ≡ written (as_of_words x) out.old }
 {
     match x {
-        Ok(
+        Ok(x) => match x {
             AsOf::Is {
                 slot,
                 ver,
                 value,
                 reads,
-            },
-        ) => {
-            c_words::store_five(
-                out,
-                0,
-                1,
-                slot as u64,
-                ver.txid,
-                ver.cmd as u64,
-                value.at as u64,
-            );
-            c_words::store_two(out, 5, value.len as u64, reads as u64);
-            0
-        }
-        Ok(AsOf::Nothing { reads }) => {
-            c_words::store_five(out, 0, 0, 0, 0, 0, 0);
-            c_words::store_two(out, 5, 0, reads as u64);
-            0
-        }
+            } => {
+                c_words::store_five(
+                    out,
+                    0,
+                    1,
+                    slot as u64,
+                    ver.txid,
+                    ver.cmd as u64,
+                    value.at as u64,
+                );
+                c_words::store_two(out, 5, value.len as u64, reads as u64);
+                0
+            }
+            AsOf::Nothing { reads } => {
+                c_words::store_five(out, 0, 0, 0, 0, 0, 0);
+                c_words::store_two(out, 5, 0, reads as u64);
+                0
+            }
+        },
         Err(r) => c_words::no(r),
     }
 }
@@ -165,14 +167,16 @@ pub fn tell_bound(out: &mut [u64], x: Result<Bound, Refusal>) -> u32
     ensures out_after { out.new ≡ written (bound_words x) out.old }
 {
     match x {
-        Ok(Bound::At { pos, reads }) => {
-            c_words::store_three(out, 0, 1, pos as u64, reads as u64);
-            0
-        }
-        Ok(Bound::PastEnd { pos, reads }) => {
-            c_words::store_three(out, 0, 0, pos as u64, reads as u64);
-            0
-        }
+        Ok(x) => match x {
+            Bound::At { pos, reads } => {
+                c_words::store_three(out, 0, 1, pos as u64, reads as u64);
+                0
+            }
+            Bound::PastEnd { pos, reads } => {
+                c_words::store_three(out, 0, 0, pos as u64, reads as u64);
+                0
+            }
+        },
         Err(r) => c_words::no(r),
     }
 }
@@ -182,16 +186,18 @@ pub fn tell_floor(out: &mut [u64], x: Result<Floor, Refusal>) -> u32
     ensures out_after { out.new ≡ written (floor_words x) out.old }
 {
     match x {
-        Ok(Floor::Is { slot, page, reads }) => {
-            c_words::store_two(out, 0, 1, slot as u64);
-            c_words::store_two(out, 2, page.0, reads as u64);
-            0
-        }
-        Ok(Floor::Nothing { reads }) => {
-            c_words::store_two(out, 0, 0, 0);
-            c_words::store_two(out, 2, 0, reads as u64);
-            0
-        }
+        Ok(x) => match x {
+            Floor::Is { slot, page, reads } => {
+                c_words::store_two(out, 0, 1, slot as u64);
+                c_words::store_two(out, 2, page.0, reads as u64);
+                0
+            }
+            Floor::Nothing { reads } => {
+                c_words::store_two(out, 0, 0, 0);
+                c_words::store_two(out, 2, 0, reads as u64);
+                0
+            }
+        },
         Err(r) => c_words::no(r),
     }
 }
@@ -271,18 +277,20 @@ pub fn tell_laid(out: &mut [u64], x: Result<Laid, Refusal>) -> u32
     ensures out_after { out.new ≡ written (laid_words x) out.old }
 {
     match x {
-        Ok(Laid::Delta(p)) => {
-            c_words::store_three(out, 0, 1, p.at as u64, p.len as u64);
-            0
-        }
-        Ok(Laid::Page(p)) => {
-            c_words::store_three(out, 0, 2, p.at as u64, p.len as u64);
-            0
-        }
-        Ok(Laid::Nothing) => {
-            c_words::store_three(out, 0, 0, 0, 0);
-            0
-        }
+        Ok(x) => match x {
+            Laid::Delta(p) => {
+                c_words::store_three(out, 0, 1, p.at as u64, p.len as u64);
+                0
+            }
+            Laid::Page(p) => {
+                c_words::store_three(out, 0, 2, p.at as u64, p.len as u64);
+                0
+            }
+            Laid::Nothing => {
+                c_words::store_three(out, 0, 0, 0, 0);
+                0
+            }
+        },
         Err(r) => c_words::no(r),
     }
 }

@@ -121,20 +121,22 @@ fn step_any(s: &[u8], walk: &mut [u64], out: &mut [u64]) -> u32
 {
     let w = c_words::walk_in(&walk[..]);
     match w.step(s) {
-        Ok(Step::Found(x, v)) => {
-            c_words::store_item(out, 0, x);
-            c_words::store_walk(walk, v);
-            0
-        }
-        Ok(Step::Leads(x, v)) => {
-            c_words::store_branch(out, 0, x);
-            c_words::store_walk(walk, v);
-            0
-        }
-        Ok(Step::End) => {
-            c_words::store_end(out);
-            0
-        }
+        Ok(step) => match step {
+            Step::Found(x, v) => {
+                c_words::store_item(out, 0, x);
+                c_words::store_walk(walk, v);
+                0
+            }
+            Step::Leads(x, v) => {
+                c_words::store_branch(out, 0, x);
+                c_words::store_walk(walk, v);
+                0
+            }
+            Step::End => {
+                c_words::store_end(out);
+                0
+            }
+        },
         Err(r) => c_words::no(r),
     }
 }

@@ -288,15 +288,17 @@ fn any(s: &[u8], w: Walk, out: &mut [u64], at: usize, room: usize) -> Turn
     ensures { Turns s.now room at w out.old result out.new }
 {
     match w.step(s) {
-        Ok(Step::Found(x, v)) => {
-            c_words::store_item(out, at, x);
-            Turn::On(1, on_page(w, v), 0)
-        }
-        Ok(Step::Leads(x, v)) => {
-            c_words::store_branch(out, at, x);
-            Turn::On(1, on_page(w, v), 0)
-        }
-        Ok(Step::End) => Turn::Stop(0),
+        Ok(step) => match step {
+            Step::Found(x, v) => {
+                c_words::store_item(out, at, x);
+                Turn::On(1, on_page(w, v), 0)
+            }
+            Step::Leads(x, v) => {
+                c_words::store_branch(out, at, x);
+                Turn::On(1, on_page(w, v), 0)
+            }
+            Step::End => Turn::Stop(0),
+        },
         Err(r) => Turn::Stop(c_words::no(r)),
     }
 }

@@ -305,29 +305,27 @@ fn val_in(s: &[u8], d: Delta) -> Result<Place, Refusal>
     ensures { result ≡ val_in s.now d }
 {
     let e = d.end;
-    match Val::decode_from(&s[..e], d.val_at, false) {
-        Some(
-            Val::Inline {
-                hist: _,
-                at,
-                size,
-                next,
-            },
-        ) => value_to(at, size, next, e),
-        Some(
-            Val::Remote {
-                hist: _,
-                addr,
-                size,
-                next,
-            },
-        ) => {
+    let Some(v) = Val::decode_from(&s[..e], d.val_at, false) else {
+        return Err(Refusal::BadFrame);
+    };
+    match v {
+        Val::Inline {
+            hist: _,
+            at,
+            size,
+            next,
+        } => value_to(at, size, next, e),
+        Val::Remote {
+            hist: _,
+            addr,
+            size,
+            next,
+        } => {
             let Some(p) = frames::remote_at(s, addr, size as u32) else {
                 return Err(Refusal::BadFrame);
             };
             value_to(p, size, next, e)
         }
-        None => Err(Refusal::BadFrame),
     }
 }
 

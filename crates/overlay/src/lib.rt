@@ -74,23 +74,21 @@ fn laid_by(
 ) -> Result<Laid, Refusal>
     ensures { result ≡ laid_by s.now t.now d mine ver (head_at s.now a probe.now) }
 {
-    match search_head::head_at(s, a, probe) {
-        Err(r) => Err(r),
-        Ok(Head::Nothing { reads: _ }) => {
+    let head = search_head::head_at(s, a, probe)?;
+    match head {
+        Head::Nothing { reads: _ } => {
             if mine {
                 return delta_value(t, d);
             }
             Ok(Laid::Nothing)
         }
-        Ok(
-            Head::Is {
-                page,
-                slot,
-                ver: v,
-                value: _,
-                reads: _,
-            },
-        ) => {
+        Head::Is {
+            page,
+            slot,
+            ver: v,
+            value: _,
+            reads: _,
+        } => {
             if mine & !v.newer(ver) {
                 return delta_value(t, d);
             }
@@ -133,9 +131,11 @@ pub fn lent<'r>(s: &'r [u8], t: &'r [u8], l: Result<Laid, Refusal>) -> &'r [u8]
     ensures { LentIs s.entry t.entry l result }
 {
     match l {
-        Ok(Laid::Delta(p)) => part_in(t, p),
-        Ok(Laid::Page(p)) => part_in(s, p),
-        Ok(Laid::Nothing) => part_in(s, Place { at: 0, len: 0 }),
+        Ok(l) => match l {
+            Laid::Delta(p) => part_in(t, p),
+            Laid::Page(p) => part_in(s, p),
+            Laid::Nothing => part_in(s, Place { at: 0, len: 0 }),
+        },
         Err(_) => part_in(s, Place { at: 0, len: 0 }),
     }
 }

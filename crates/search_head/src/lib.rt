@@ -50,10 +50,12 @@ fn head_in(s: &[u8], b: Body, h: Option<Halved>) -> Result<Head, Refusal>
     requires kind_value { b.kind ≡ 0 }
     ensures { result ≡ head_in s.now b h }
 {
+    let Some(h) = h else {
+        return Err(Refusal::BadFrame);
+    };
     match h {
-        Some(Halved::At(i, n)) => head_slot(s, b, i, n),
-        Some(Halved::End(_, n)) => Ok(Head::Nothing { reads: n }),
-        None => Err(Refusal::BadFrame),
+        Halved::At(i, n) => head_slot(s, b, i, n),
+        Halved::End(_, n) => Ok(Head::Nothing { reads: n }),
     }
 }
 
@@ -67,9 +69,11 @@ pub fn head_at(s: &[u8], a: Addr, probe: &[u8]) -> Result<Head, Refusal>
         lower: false,
         ver: Ver::new(0, 0),
     };
-    match sst::halve_at(s, a, probe, w) {
-        None => Err(Refusal::BadFrame),
-        Some(Outcome::Empty) => Ok(Head::Nothing { reads: 0 }),
-        Some(Outcome::Stands(b, h)) => head_in(s, b, h),
+    let Some(outcome) = sst::halve_at(s, a, probe, w) else {
+        return Err(Refusal::BadFrame);
+    };
+    match outcome {
+        Outcome::Empty => Ok(Head::Nothing { reads: 0 }),
+        Outcome::Stands(b, h) => head_in(s, b, h),
     }
 }

@@ -19,7 +19,7 @@ use Rattle.pages.specs.declared.Place.{Place}
 use Rattle.pages.specs.Boundaries.{place}
 use Rattle.sst.specs.Search.{outcome_at, leaves, found_rec, head_in, found_in, search_of, search_at}
 use Rattle.sst.proofs.Opens.{IsReady, outcome_ready, leaf_kind}
-use Rattle.std.proofs.Common.{Option, Some, None, Ok, Err}
+use Rattle.std.proofs.Common.{Option, Some, None, Ok, Err, Result, Result}
 use Rattle.sst.specs.declared.Found.{Found}
 use Rattle.sst.specs.declared.Halved.{Halved}
 use Rattle.sst.specs.declared.Outcome.{Outcome}
@@ -39,7 +39,7 @@ module _ (s : List ℕ) (a : Addr) (probe : List ℕ) (i : ℕ) (v : Ver) (h : H
   no_refusal : (r : Refusal) → Err r ≡ Ok (Found.Is i v h x n) → ⊥
   no_refusal r e = let z : ◌≡◌ {A = ℕ} 0 1 = cc in omega arith
 
-  no_nothing : (m : ℕ) → Ok (Found.Nothing m) ≡ Ok (Found.Is i v h x n) → ⊥
+  no_nothing : (m : ℕ) → ◌≡◌ {A = Result Found Refusal} (Ok (Found.Nothing m)) (Ok (Found.Is i v h x n)) → ⊥
   no_nothing m e = let z : ◌≡◌ {A = ℕ} 0 1 = cc in omega arith
 
   head_found : (b : Body) → IsReady s a leaves b → (j m : ℕ) → head_in s b j m ≡ Ok (Found.Is i v h x n) → FoundAt s a i v h x

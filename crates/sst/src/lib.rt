@@ -268,18 +268,16 @@ fn halve_keys(s: &[u8], b: Body, rest: &[u8], w: Want) -> Option<Halved>
         if lo < hi {
             let mid = lo + (hi - lo) / 2;
             reads += 1;
-            match met_at(s, b, mid, rest, w, met) {
-                Some(Ordering::Less) => {
+            let order = met_at(s, b, mid, rest, w, met)?;
+            match order {
+                Ordering::Less => {
                     lo = mid + 1;
                 }
-                Some(Ordering::Greater) => {
+                Ordering::Greater => {
                     hi = mid;
                 }
-                Some(Ordering::Equal) => {
+                Ordering::Equal => {
                     return Some(Halved::At(mid, reads));
-                }
-                None => {
-                    return None;
                 }
             }
         }
@@ -342,10 +340,10 @@ pub fn halve_at(s: &[u8], a: Addr, probe: &[u8], w: Want) -> Option<Outcome>
     ensures { result ≡ outcome_at s.now a probe.now w }
 {
     let b = frames::open_at(s, a)?;
-    match ended_in(s, b, probe, w) {
-        None => None,
-        Some(Ended::Empty) => Some(Outcome::Empty),
-        Some(Ended::Stands(h)) => Some(Outcome::Stands(b, h)),
+    let ended = ended_in(s, b, probe, w)?;
+    match ended {
+        Ended::Empty => Some(Outcome::Empty),
+        Ended::Stands(h) => Some(Outcome::Stands(b, h)),
     }
 }
 
@@ -354,16 +352,18 @@ pub fn halve_at(s: &[u8], a: Addr, probe: &[u8], w: Want) -> Option<Outcome>
 fn bound_in(elems: usize, h: Option<Halved>) -> Result<Bound, Refusal>
     ensures { result ≡ bound_in elems h }
 {
+    let Some(h) = h else {
+        return Err(Refusal::BadFrame);
+    };
     match h {
-        Some(Halved::At(_, _)) => Err(Refusal::BadFrame),
-        Some(Halved::End(p, n)) => {
+        Halved::At(_, _) => Err(Refusal::BadFrame),
+        Halved::End(p, n) => {
             if p < elems {
                 Ok(Bound::At { pos: p, reads: n })
             } else {
                 Ok(Bound::PastEnd { pos: p, reads: n })
             }
         }
-        None => Err(Refusal::BadFrame),
     }
 }
 
@@ -380,10 +380,12 @@ pub fn lower_bound(s: &[u8], a: Addr, probe: &[u8], v: Ver) -> Result<Bound, Ref
     let Some(b) = frames::open_at(s, a) else {
         return Err(Refusal::BadFrame);
     };
-    match ended_in(s, b, probe, w) {
-        None => Err(Refusal::BadFrame),
-        Some(Ended::Empty) => Ok(Bound::PastEnd { pos: 0, reads: 0 }),
-        Some(Ended::Stands(h)) => bound_in(b.elems, h),
+    let Some(ended) = ended_in(s, b, probe, w) else {
+        return Err(Refusal::BadFrame);
+    };
+    match ended {
+        Ended::Empty => Ok(Bound::PastEnd { pos: 0, reads: 0 }),
+        Ended::Stands(h) => bound_in(b.elems, h),
     }
 }
 
@@ -421,10 +423,12 @@ fn floor_in(s: &[u8], b: Body, h: Option<Halved>) -> Result<Floor, Refusal>
     requires kind_value { b.kind ≡ 1 }
     ensures { result ≡ floor_in s.now b h }
 {
+    let Some(h) = h else {
+        return Err(Refusal::BadFrame);
+    };
     match h {
-        Some(Halved::At(i, n)) => page_in(s, b, i, n),
-        Some(Halved::End(p, n)) => page_in(s, b, floor_slot(p), n),
-        None => Err(Refusal::BadFrame),
+        Halved::At(i, n) => page_in(s, b, i, n),
+        Halved::End(p, n) => page_in(s, b, floor_slot(p), n),
     }
 }
 
@@ -441,10 +445,12 @@ pub fn floor_pid_by_raw(s: &[u8], a: Addr, probe: &[u8]) -> Result<Floor, Refusa
     let Some(b) = frames::open_at(s, a) else {
         return Err(Refusal::BadFrame);
     };
-    match ended_in(s, b, probe, w) {
-        None => Err(Refusal::BadFrame),
-        Some(Ended::Empty) => Ok(Floor::Nothing { reads: 0 }),
-        Some(Ended::Stands(h)) => floor_in(s, b, h),
+    let Some(ended) = ended_in(s, b, probe, w) else {
+        return Err(Refusal::BadFrame);
+    };
+    match ended {
+        Ended::Empty => Ok(Floor::Nothing { reads: 0 }),
+        Ended::Stands(h) => floor_in(s, b, h),
     }
 }
 
@@ -504,10 +510,12 @@ fn found_in(s: &[u8], b: Body, h: Option<Halved>) -> Result<Found, Refusal>
     requires kind_value { b.kind ≡ 0 }
     ensures { result ≡ found_in s.now b h }
 {
+    let Some(h) = h else {
+        return Err(Refusal::BadFrame);
+    };
     match h {
-        Some(Halved::At(i, n)) => head_in(s, b, i, n),
-        Some(Halved::End(_, n)) => Ok(Found::Nothing { reads: n }),
-        None => Err(Refusal::BadFrame),
+        Halved::At(i, n) => head_in(s, b, i, n),
+        Halved::End(_, n) => Ok(Found::Nothing { reads: n }),
     }
 }
 
@@ -524,9 +532,11 @@ pub fn search_ver_val_by_raw(s: &[u8], a: Addr, probe: &[u8]) -> Result<Found, R
     let Some(b) = frames::open_at(s, a) else {
         return Err(Refusal::BadFrame);
     };
-    match ended_in(s, b, probe, w) {
-        None => Err(Refusal::BadFrame),
-        Some(Ended::Empty) => Ok(Found::Nothing { reads: 0 }),
-        Some(Ended::Stands(h)) => found_in(s, b, h),
+    let Some(ended) = ended_in(s, b, probe, w) else {
+        return Err(Refusal::BadFrame);
+    };
+    match ended {
+        Ended::Empty => Ok(Found::Nothing { reads: 0 }),
+        Ended::Stands(h) => found_in(s, b, h),
     }
 }

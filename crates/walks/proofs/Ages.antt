@@ -75,8 +75,8 @@ next-aged s key p rest x l e = turned (turned_at s p) refl (sym (next-from s key
   where
     record_is : (q : OldPlace) (a : Addr) → turned_at s p ≡ Some (q, a) → (r : Option Rec) → read_at s q.page 2 q.slot ≡ r → next_rec s key q a r ≡ Some (x, rest) → Ages s key p x rest
     record_is q a t (Some r) f g =
-        let e1 : item_of s key r a ≡ x = cc in
-        let e2 : older_of q.page q.link (q.slot + 1) (q.left - 1) ≡ rest = cc in
+        let e1 : item_of s key r a ≡ x = grind arith in
+        let e2 : older_of q.page q.link (q.slot + 1) (q.left - 1) ≡ rest = grind arith in
         rw (← e1, ← e2) (record { slot = q.slot; rec = r; named = a; aged = rw (ne_eqb p.left 0 (λ z. omega arith), t, key-read s q.page q.slot r f); read = f; item = refl })
     record_is q a t None f g = absurd (let y : ◌≡◌ {A = ℕ} 0 1 = cc in omega arith)
 

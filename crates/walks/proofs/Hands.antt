@@ -88,8 +88,8 @@ module _ (s : List ℕ) (y : Bytes s) where
     where
       go : (o : Option Rec) → read_at s p.page 2 p.slot ≡ o → next_rec s key p n o ≡ Some (x, q) → Passed key p.left x q
       go (Some r) t e' =
-          let x1 : item_of s key r n ≡ x = cc in
-          let x2 : p.left - 1 ≡ q.left = cc in
+          let x1 : item_of s key r n ≡ x = grind arith in
+          let x2 : p.left - 1 ≡ q.left = grind arith in
           record { key = rw (← x1); valued = rw (← x1) (valued p.page 2 p.slot r key n (λ z. omega arith) t); less = sym x2 }
       go None t e' = absurd (no_old e')
 

@@ -100,18 +100,18 @@ val-held s y b at h p n a next e = go (val_at (take b.end s) at (eqb b.kind 0)) 
 
     at-remote : (h' : HistRef) (a' : Addr) (n' next' : ℕ) → n' ≤ max_value → (h'.count < 256 ^ 4) × (a'.0 < 256 ^ 8) → (r : Option ℕ) → remote_at s a' n' ≡ r → remote_of h' a' n' next' r ≡ Some (val_parts h p n a next) → ValHeld s h p n a
     at-remote h' a' n' next' l k (Some q) w e' =
-        let x1 : h' ≡ h = cc in
-        let x2 : q ≡ p = cc in
-        let x3 : n' ≡ n = cc in
-        let x4 : a' ≡ a = cc in
+        let x1 : h' ≡ h = grind arith in
+        let x2 : q ≡ p = grind arith in
+        let x3 : n' ≡ n = grind arith in
+        let x4 : a' ≡ a = grind arith in
         rw (← x1, ← x2, ← x3, ← x4) (record { small = l; held = λ z. w; word = k.1; count = k.0 })
     at-remote h' a' n' next' l k None w e' = absurd (val_no h p n a next e')
 
     go : (v : Option Val) → val_at (take b.end s) at (eqb b.kind 0) ≡ v → records_specs.val_of s v ≡ Some (val_parts h p n a next) → ValHeld s h p n a
     go (Some (Val.Inline h' p' n' next')) q e' =
-        let x1 : h' ≡ h = cc in
-        let x3 : n' ≡ n = cc in
-        let x4 : addr 0 ≡ a = cc in
+        let x1 : h' ≡ h = grind arith in
+        let x3 : n' ≡ n = grind arith in
+        let x4 : addr 0 ≡ a = grind arith in
         let k = inline_place (take b.end s) at (eqb b.kind 0) h' p' n' next' q in
         let z = val_narrow (take b.end s) y' at (eqb b.kind 0) (Some (Val.Inline h' p' n' next')) q in
         rw (← x1, ← x3, ← x4) (record { small = k.small; held = λ g. absurd (g refl); word = omega arith; count = z })

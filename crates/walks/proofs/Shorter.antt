@@ -36,7 +36,7 @@ module _ (s : List ℕ) (key : Place) (x : Item) (q : OldPlace) where
   in_less p a e = go (read_at s p.page 2 p.slot) e
     where
       go : (r : Option Rec) → next_rec s key p a r ≡ Some (x, q) → q.left ≡ p.left - 1
-      go (Some r) e' = let y : p.left - 1 ≡ q.left = cc in sym y
+      go (Some r) e' = let y : p.left - 1 ≡ q.left = grind arith in sym y
       go None e' = absurd (no e')
 
   next-less : (p : OldPlace) → next_old s key p ≡ Some (x, q) → q.left ≡ p.left - 1

@@ -90,9 +90,9 @@ module _ (s : List ℕ) (key : Place) (h : Addr) (b : Body) (o : history_at s h 
 
       same : (a : Addr) (d : Body) (j : ℕ) (x : Rec) (n : Addr) → history_at s a ≡ Some d → rec_at s d j ≡ Some x → Some (old_version a j x) ≡ Some (old_version p q r) → next_old s key (older_on b i (suc k)) ≡ Some (item_of s key x n, older_on d (j + 1) k) → Names h b a n → Next s key h b i k p q r
       same a d j x n u v w y m =
-          let e1 : a ≡ p = cc in
-          let e2 : j ≡ q = cc in
-          let e3 : x ≡ r = cc in
+          let e1 : a ≡ p = grind arith in
+          let e2 : j ≡ q = grind arith in
+          let e3 : x ≡ r = grind arith in
           rw (← e1, ← e2, ← e3) (record { body = d; opened = u; read = v; names = n; named = m; next = y })
 
       at : (x : Option Rec) → rec_at s b i ≡ x → eqb i b.elems ≡ false → old_rec h i x ≡ Some (old_version p q r) → Next s key h b i k p q r

@@ -1,4 +1,5 @@
 -- `asof::older_as_of` meets its contract. Assumes nothing.
+use Rattle.std.proofs.Common.{Some}
 use mathlib.Core.Path.{sym, ap, ◌∙◌}
 use Rattle.asof.specs.AsOf.{older_as_of}
 use Rattle.records.proofs.Inside.{ends}
@@ -8,14 +9,14 @@ use Rattle.asof.proofs.older_as_of.Goals as goal
 pub slice_bounds-decode_from-end : goal.slice_bounds-decode_from-end
 slice_bounds-decode_from-end c = sym (ends c.args.s.now c.args.b c.requires)
 
-pub returns-in-Some-Inline : goal.returns-in-Some-Inline
+pub returns-in-Inline : goal.returns-in-Inline
 unfolding older_as_of
-returns-in-Some-Inline c = c.old_enter.ensures ∙ ap (older_val c.args.s.now c.args.v c.args.slot c.args.reads) (sym c.in-Some-Inline.is ∙ c.decode_from.ensures)
+returns-in-Inline c = c.old_enter.ensures ∙ ap (older_val c.args.s.now c.args.v c.args.slot c.args.reads) (sym (c.in-Some.is ∙ ap Some c.in-Inline.is) ∙ c.decode_from.ensures)
 
-pub returns-in-Some-Remote : goal.returns-in-Some-Remote
+pub returns-in-Remote : goal.returns-in-Remote
 unfolding older_as_of
-returns-in-Some-Remote c = c.old_enter-in-Some-Remote.ensures ∙ ap (older_val c.args.s.now c.args.v c.args.slot c.args.reads) (sym c.in-Some-Remote.is ∙ c.decode_from.ensures)
+returns-in-Remote c = c.old_enter-in-Remote.ensures ∙ ap (older_val c.args.s.now c.args.v c.args.slot c.args.reads) (sym (c.in-Some.is ∙ ap Some c.in-Remote.is) ∙ c.decode_from.ensures)
 
-pub returns-in-None : goal.returns-in-None
+pub returns-in_default : goal.returns-in_default
 unfolding older_as_of
-returns-in-None c = ap (older_val c.args.s.now c.args.v c.args.slot c.args.reads) (sym c.in-None.is ∙ c.decode_from.ensures)
+returns-in_default c = ap (older_val c.args.s.now c.args.v c.args.slot c.args.reads) (sym c.in_default.is ∙ c.decode_from.ensures)

@@ -1,21 +1,22 @@
 -- `c_answers::tell_bound` meets its contract. Assumes nothing.
-use mathlib.Core.Path.{refl, sym}
+use Rattle.std.proofs.Common.{Ok}
+use mathlib.Core.Path.{refl, sym, ap, ◌∙◌}
 use Rattle.sst.specs.Refused.{bound_number}
 use Rattle.c_words.specs.Words.{written}
 use Rattle.c_answers.specs.Answers.{bound_words}
 use Rattle.c_words.proofs.Laws.{written_none, told}
 use Rattle.c_answers.proofs.tell_bound.Goals as goal
 
-pub returns-in-Ok-At : goal.returns-in-Ok-At
+pub returns-in-At : goal.returns-in-At
 unfolding written
-returns-in-Ok-At c = let all = told bound_number bound_words _ (sym c.in-Ok-At.is) (refl, c.store_three.ensures) in record {
+returns-in-At c = let all = told bound_number bound_words _ (sym (c.in-Ok.is ∙ ap Ok c.in-At.is)) (refl, c.store_three.ensures) in record {
   value = all.0;
   out_after = all.1;
 }
 
-pub returns-in-Ok-PastEnd : goal.returns-in-Ok-PastEnd
+pub returns-in-PastEnd : goal.returns-in-PastEnd
 unfolding written
-returns-in-Ok-PastEnd c = let all = told bound_number bound_words _ (sym c.in-Ok-PastEnd.is) (refl, c.store_three-in-Ok-PastEnd.ensures) in record {
+returns-in-PastEnd c = let all = told bound_number bound_words _ (sym (c.in-Ok.is ∙ ap Ok c.in-PastEnd.is)) (refl, c.store_three-in-PastEnd.ensures) in record {
   value = all.0;
   out_after = all.1;
 }

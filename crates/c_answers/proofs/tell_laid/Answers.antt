@@ -1,28 +1,29 @@
 -- `c_answers::tell_laid` meets its contract. Assumes nothing.
-use mathlib.Core.Path.{refl, sym}
+use Rattle.std.proofs.Common.{Ok}
+use mathlib.Core.Path.{refl, sym, ap, ◌∙◌}
 use Rattle.overlay.specs.Overlay.{laid_number}
 use Rattle.c_words.specs.Words.{written}
 use Rattle.c_answers.specs.Answers.{laid_words}
 use Rattle.c_words.proofs.Laws.{written_none, told}
 use Rattle.c_answers.proofs.tell_laid.Goals as goal
 
-pub returns-in-Ok-Delta : goal.returns-in-Ok-Delta
+pub returns-in-Delta : goal.returns-in-Delta
 unfolding written
-returns-in-Ok-Delta c = let all = told laid_number laid_words _ (sym c.in-Ok-Delta.is) (refl, c.store_three.ensures) in record {
+returns-in-Delta c = let all = told laid_number laid_words _ (sym (c.in-Ok.is ∙ ap Ok c.in-Delta.is)) (refl, c.store_three.ensures) in record {
   value = all.0;
   out_after = all.1;
 }
 
-pub returns-in-Ok-Page : goal.returns-in-Ok-Page
+pub returns-in-Page : goal.returns-in-Page
 unfolding written
-returns-in-Ok-Page c = let all = told laid_number laid_words _ (sym c.in-Ok-Page.is) (refl, c.store_three-in-Ok-Page.ensures) in record {
+returns-in-Page c = let all = told laid_number laid_words _ (sym (c.in-Ok.is ∙ ap Ok c.in-Page.is)) (refl, c.store_three-in-Page.ensures) in record {
   value = all.0;
   out_after = all.1;
 }
 
-pub returns-in-Ok-Nothing : goal.returns-in-Ok-Nothing
+pub returns-in-Nothing : goal.returns-in-Nothing
 unfolding written
-returns-in-Ok-Nothing c = let all = told laid_number laid_words _ (sym c.in-Ok-Nothing.is) (refl, c.store_three-in-Ok-Nothing.ensures) in record {
+returns-in-Nothing c = let all = told laid_number laid_words _ (sym (c.in-Ok.is ∙ ap Ok c.in-Nothing.is)) (refl, c.store_three-in-Nothing.ensures) in record {
   value = all.0;
   out_after = all.1;
 }

@@ -1,6 +1,7 @@
 -- `delta::val_in` meets its contract. Assumes nothing.
+use Rattle.std.proofs.Common.{Some}
 use native.Mathlib.Omega.{arith}
-use mathlib.Core.Path.{sym, ◌∙◌}
+use mathlib.Core.Path.{sym, ◌∙◌, ap}
 use mathlib.Core.Bool.{false}
 use lib.ListN.{take}
 use lib.Seq.{length-take-le}
@@ -13,20 +14,20 @@ pub slice_bounds-decode_from-end : goal.slice_bounds-decode_from-end
 slice_bounds-decode_from-end c = sym (length-take-le c.args.d.end c.args.s.now c.requires)
 
 pub overflow_cast-size : goal.overflow_cast-size
-overflow_cast-size c = omega (arith, (remote-place (take c.args.d.end c.args.s.now) c.args.d.val_at false _ c.in-Some-Remote.addr c.in-Some-Remote.size c.in-Some-Remote.next (sym c.decode_from.ensures ∙ c.in-Some-Remote.is)).small)
+overflow_cast-size c = omega (arith, (remote-place (take c.args.d.end c.args.s.now) c.args.d.val_at false _ c.in-Remote.addr c.in-Remote.size c.in-Remote.next (sym c.decode_from.ensures ∙ c.in-Some.is ∙ ap Some c.in-Remote.is)).small)
 
 pub returns-in_default : goal.returns-in_default
 unfolding val_in
-returns-in_default c = simp (← c.decode_from.ensures, c.in-Some-Remote.is, ← c.remote_at.ensures, c.in_default.is)
+returns-in_default c = simp (← c.decode_from.ensures, c.in-Some.is, c.in-Remote.is, ← c.remote_at.ensures, c.in_default.is)
 
-pub returns-in-Some-Inline : goal.returns-in-Some-Inline
+pub returns-in-Inline : goal.returns-in-Inline
 unfolding val_in
-returns-in-Some-Inline c = simp (← c.decode_from.ensures, c.in-Some-Inline.is, c.value_to.ensures)
+returns-in-Inline c = simp (← c.decode_from.ensures, c.in-Some.is, c.in-Inline.is, c.value_to.ensures)
 
 pub returns-in-Some : goal.returns-in-Some
 unfolding val_in
-returns-in-Some c = simp (← c.decode_from.ensures, c.in-Some-Remote.is, ← c.remote_at.ensures, c.in-Some.is, c.value_to-in-Some-Remote.ensures)
+returns-in-Some c = simp (← c.decode_from.ensures, c.in-Some.is, c.in-Remote.is, ← c.remote_at.ensures, c.in-Some.is, c.value_to-in-Remote.ensures)
 
-pub returns-in-None : goal.returns-in-None
+pub returns-in_default : goal.returns-in_default
 unfolding val_in
-returns-in-None c = simp (← c.decode_from.ensures, c.in-None.is)
+returns-in_default c = simp (← c.decode_from.ensures, c.in_default.is)

@@ -1,11 +1,13 @@
 -- `sst::found_in` meets its contract. Assumes nothing.
+use Rattle.std.proofs.Common.{Some}
+use mathlib.Core.Path.{ap, ◌∙◌}
 use Rattle.sst.proofs.found_in.Goals as goal
 
-pub returns-in-Some-At : goal.returns-in-Some-At
-returns-in-Some-At c = simp (c.in-Some-At.is, c.head_in.ensures)
+pub returns-in-At : goal.returns-in-At
+returns-in-At c = simp ((c.in-Some.is ∙ ap Some c.in-At.is), c.head_in.ensures)
 
-pub returns-in-Some-End : goal.returns-in-Some-End
-returns-in-Some-End c = simp c.in-Some-End.is
+pub returns-in-End : goal.returns-in-End
+returns-in-End c = simp (c.in-Some.is ∙ ap Some c.in-End.is)
 
-pub returns-in-None : goal.returns-in-None
-returns-in-None c = simp c.in-None.is
+pub returns-in_default : goal.returns-in_default
+returns-in_default c = simp c.in_default.is

@@ -1,6 +1,7 @@
+use Rattle.std.proofs.Common.{Some}
 use native.Mathlib.Omega.{arith}
 use Prim.Native.Nat.{◌-◌}
-use mathlib.Core.Path.{sym, ◌∙◌}
+use mathlib.Core.Path.{sym, ◌∙◌, ap}
 use Rattle.sst.specs.Search.{key_cmp}
 use Rattle.sst.proofs.Narrows.{goes_begin, goes_on, goes-less, goes_greater, goes_equal, goes_bad, goes_end}
 use Rattle.sst.proofs.halve_keys.Goals as goal
@@ -35,39 +36,39 @@ met_at-requires c = record {
 pub overflow_add-lo : goal.overflow_add-lo
 overflow_add-lo c = omega (arith, (c.narrow-g.ensures.goes c.args.w).inside, c.if-lo-hi.true, c.requires.slots, c.requires.records, c.requires.payload, c.requires.arena, c.well_formed)
 
-pub loop-lo-smaller-in-Some-Less : goal.loop-lo-smaller-in-Some-Less
-loop-lo-smaller-in-Some-Less c = omega (arith, (c.narrow-g.ensures.goes c.args.w).less, c.if-lo-hi.true)
+pub loop-lo-smaller-in-Less : goal.loop-lo-smaller-in-Less
+loop-lo-smaller-in-Less c = omega (arith, (c.narrow-g.ensures.goes c.args.w).less, c.if-lo-hi.true)
 
-pub loop-lo-preserved-in-Some-Less : goal.loop-lo-preserved-in-Some-Less
-loop-lo-preserved-in-Some-Less c = let f = key_cmp c.args.s.now c.args.b c.args.rest.now c.args.w in
+pub loop-lo-preserved-in-Less : goal.loop-lo-preserved-in-Less
+loop-lo-preserved-in-Less c = let f = key_cmp c.args.s.now c.args.b c.args.rest.now c.args.w in
     let n = c.args.b.elems in
     let t = c.narrow-g.result in
     let g = goes_on f n 0 n 0 c.loop-lo.lo c.loop-lo.hi c.loop-lo.reads c.loop-lo.invariant t.lo t.hi t.reads (c.narrow-g.ensures.goes c.args.w) in
-    goes-less f n 0 n 0 t.lo t.hi t.reads g c.if-lo-hi.true (sym c.met_at.ensures ∙ c.in-Some-Less.is)
+    goes-less f n 0 n 0 t.lo t.hi t.reads g c.if-lo-hi.true (sym c.met_at.ensures ∙ c.in_ok-order.was ∙ ap Some c.in-Less.is)
 
-pub loop-lo-smaller-in-Some-Greater : goal.loop-lo-smaller-in-Some-Greater
-loop-lo-smaller-in-Some-Greater c = omega (arith, (c.narrow-g.ensures.goes c.args.w).less, c.if-lo-hi.true)
+pub loop-lo-smaller-in-Greater : goal.loop-lo-smaller-in-Greater
+loop-lo-smaller-in-Greater c = omega (arith, (c.narrow-g.ensures.goes c.args.w).less, c.if-lo-hi.true)
 
-pub loop-lo-preserved-in-Some-Greater : goal.loop-lo-preserved-in-Some-Greater
-loop-lo-preserved-in-Some-Greater c = let f = key_cmp c.args.s.now c.args.b c.args.rest.now c.args.w in
+pub loop-lo-preserved-in-Greater : goal.loop-lo-preserved-in-Greater
+loop-lo-preserved-in-Greater c = let f = key_cmp c.args.s.now c.args.b c.args.rest.now c.args.w in
     let n = c.args.b.elems in
     let t = c.narrow-g.result in
     let g = goes_on f n 0 n 0 c.loop-lo.lo c.loop-lo.hi c.loop-lo.reads c.loop-lo.invariant t.lo t.hi t.reads (c.narrow-g.ensures.goes c.args.w) in
-    goes_greater f n 0 n 0 t.lo t.hi t.reads g c.if-lo-hi.true (sym c.met_at.ensures ∙ c.in-Some-Greater.is)
+    goes_greater f n 0 n 0 t.lo t.hi t.reads g c.if-lo-hi.true (sym c.met_at.ensures ∙ c.in_ok-order.was ∙ ap Some c.in-Greater.is)
 
-pub returns-in-Some-Equal : goal.returns-in-Some-Equal
-returns-in-Some-Equal c = let f = key_cmp c.args.s.now c.args.b c.args.rest.now c.args.w in
+pub returns-in-Equal : goal.returns-in-Equal
+returns-in-Equal c = let f = key_cmp c.args.s.now c.args.b c.args.rest.now c.args.w in
     let n = c.args.b.elems in
     let t = c.narrow-g.result in
     let g = goes_on f n 0 n 0 c.loop-lo.lo c.loop-lo.hi c.loop-lo.reads c.loop-lo.invariant t.lo t.hi t.reads (c.narrow-g.ensures.goes c.args.w) in
-    goes_equal f n t.lo t.hi t.reads g c.if-lo-hi.true (sym c.met_at.ensures ∙ c.in-Some-Equal.is)
+    goes_equal f n t.lo t.hi t.reads g c.if-lo-hi.true (sym c.met_at.ensures ∙ c.in_ok-order.was ∙ ap Some c.in-Equal.is)
 
-pub returns-in-None : goal.returns-in-None
-returns-in-None c = let f = key_cmp c.args.s.now c.args.b c.args.rest.now c.args.w in
+pub returns-in_err-order : goal.returns-in_err-order
+returns-in_err-order c = c.from_residual.ensures ∙ let f = key_cmp c.args.s.now c.args.b c.args.rest.now c.args.w in
     let n = c.args.b.elems in
     let t = c.narrow-g.result in
     let g = goes_on f n 0 n 0 c.loop-lo.lo c.loop-lo.hi c.loop-lo.reads c.loop-lo.invariant t.lo t.hi t.reads (c.narrow-g.ensures.goes c.args.w) in
-    goes_bad f n t.lo t.hi t.reads g c.if-lo-hi.true (sym c.met_at.ensures ∙ c.in-None.is)
+    goes_bad f n t.lo t.hi t.reads g c.if-lo-hi.true (sym c.met_at.ensures ∙ c.in_err-order.was)
 
 pub loop-lo-smaller : goal.loop-lo-smaller
 loop-lo-smaller c = omega (arith, c.if-lo-hi.false, c.loop-lo-test.true)

@@ -25,5 +25,5 @@ ver_at-v-requires c = let k = key-at-inside c.args.s.now c.args.b c.args.i c.in-
 pub returns : goal.returns
 unfolding head_in
 returns c = let k : c.args.b.kind ≡ 1 → ⊥ = λ e. omega (arith, c.requires.kind_value) in
-    ap (λ x. Ok (Found.Is c.args.i x c.in-Some.val.hist (place c.in-Some.val.val_at c.in-Some.val.val_len) c.args.reads)) c.ver_at-v.ensures
-    ∙ sym (ap (found_rec c.args.s.now c.args.i c.args.reads) (rec-val c.args.s.now c.args.b c.args.i c.in-Some.k.ver_at c.in-Some.k.rest_at c.in-Some.k.rest_len (sym c.key_at.ensures ∙ c.in-Some.is) _ k (quick_is _ c.quick_value.ensures c.in-Some.is (val_no _ _ _ _ _))))
+    ap (λ x. Ok (Found.Is c.args.i x c.in-Some-quick_value.val.hist (place c.in-Some-quick_value.val.val_at c.in-Some-quick_value.val.val_len) c.args.reads)) c.ver_at-v.ensures
+    ∙ sym (ap (found_rec c.args.s.now c.args.i c.args.reads) (rec-val c.args.s.now c.args.b c.args.i c.in-Some.k.ver_at c.in-Some.k.rest_at c.in-Some.k.rest_len (sym c.key_at.ensures ∙ c.in-Some.is) _ k (quick_is _ c.quick_value.ensures c.in-Some-quick_value.is (val_no _ _ _ _ _))))

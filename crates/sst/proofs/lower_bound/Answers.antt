@@ -13,17 +13,17 @@ returns-in_default c = ap lower_of (sym (outcome_bad c.args.s.now c.args.a c.arg
 pub ended_in-requires : goal.ended_in-requires
 ended_in-requires c = (open_inside c.args.s.now c.args.a c.in-Some.b (sym c.open_at.ensures ∙ c.in-Some.is)).0
 
-pub returns-in-None : goal.returns-in-None
+pub returns-in_default-ended_in : goal.returns-in_default-ended_in
 unfolding lower_at
-returns-in-None c = let e : outcome_at c.args.s.now c.args.a c.args.probe.now (bound c.args.v) ≡ back_of c.in-Some.b None = outcome_ended c.args.s.now c.args.a c.args.probe.now (bound c.args.v) c.in-Some.b None (sym c.open_at.ensures ∙ c.in-Some.is) (sym c.ended_in.ensures ∙ c.in-None.is) in
+returns-in_default-ended_in c = let e : outcome_at c.args.s.now c.args.a c.args.probe.now (bound c.args.v) ≡ back_of c.in-Some.b None = outcome_ended c.args.s.now c.args.a c.args.probe.now (bound c.args.v) c.in-Some.b None (sym c.open_at.ensures ∙ c.in-Some.is) (sym c.ended_in.ensures ∙ c.in_default-ended_in.is) in
     ap lower_of (sym e)
 
-pub returns-in-Some-Empty : goal.returns-in-Some-Empty
+pub returns-in-Empty : goal.returns-in-Empty
 unfolding lower_at
-returns-in-Some-Empty c = let e : outcome_at c.args.s.now c.args.a c.args.probe.now (bound c.args.v) ≡ back_of c.in-Some.b (Some Ended.Empty) = outcome_ended c.args.s.now c.args.a c.args.probe.now (bound c.args.v) c.in-Some.b (Some Ended.Empty) (sym c.open_at.ensures ∙ c.in-Some.is) (sym c.ended_in.ensures ∙ c.in-Some-Empty.is) in
+returns-in-Empty c = let e : outcome_at c.args.s.now c.args.a c.args.probe.now (bound c.args.v) ≡ back_of c.in-Some.b (Some Ended.Empty) = outcome_ended c.args.s.now c.args.a c.args.probe.now (bound c.args.v) c.in-Some.b (Some Ended.Empty) (sym c.open_at.ensures ∙ c.in-Some.is) (sym c.ended_in.ensures ∙ c.in-Some-ended_in.is ∙ ap Some c.in-Empty.is) in
     ap lower_of (sym e)
 
-pub returns-in-Some-Stands : goal.returns-in-Some-Stands
+pub returns-in-Stands : goal.returns-in-Stands
 unfolding lower_at
-returns-in-Some-Stands c = let e : outcome_at c.args.s.now c.args.a c.args.probe.now (bound c.args.v) ≡ back_of c.in-Some.b (Some (Ended.Stands c.in-Some-Stands.h)) = outcome_ended c.args.s.now c.args.a c.args.probe.now (bound c.args.v) c.in-Some.b (Some (Ended.Stands c.in-Some-Stands.h)) (sym c.open_at.ensures ∙ c.in-Some.is) (sym c.ended_in.ensures ∙ c.in-Some-Stands.is) in
+returns-in-Stands c = let e : outcome_at c.args.s.now c.args.a c.args.probe.now (bound c.args.v) ≡ back_of c.in-Some.b (Some (Ended.Stands c.in-Stands.h)) = outcome_ended c.args.s.now c.args.a c.args.probe.now (bound c.args.v) c.in-Some.b (Some (Ended.Stands c.in-Stands.h)) (sym c.open_at.ensures ∙ c.in-Some.is) (sym c.ended_in.ensures ∙ c.in-Some-ended_in.is ∙ ap Some c.in-Stands.is) in
     c.bound_in.ensures ∙ ap lower_of (sym e)

@@ -16,28 +16,28 @@ pub ended_in-requires : goal.ended_in-requires
 ended_in-requires c = (open_inside c.args.s.now c.args.a c.in-Some.b (sym c.open_at.ensures ∙ c.in-Some.is)).0
 
 pub found_in-requires : goal.found_in-requires
-found_in-requires c = let q : ended_in c.args.s.now c.in-Some.b c.args.probe.now leaves ≡ Some (Ended.Stands c.in-Some-Stands.h) = end_of_lem c.args.s.now c.in-Some.b c.args.probe.now leaves (wants true false c.new.result) c.ended_in.result (Some (Ended.Stands c.in-Some-Stands.h)) (ap (wants true false) c.new.ensures) c.ended_in.ensures c.in-Some-Stands.is in
-    let e : outcome_at c.args.s.now c.args.a c.args.probe.now leaves ≡ Some (Outcome.Stands c.in-Some.b c.in-Some-Stands.h) = outcome_ended c.args.s.now c.args.a c.args.probe.now leaves c.in-Some.b (Some (Ended.Stands c.in-Some-Stands.h)) (sym c.open_at.ensures ∙ c.in-Some.is) q in
-    let k = (outcome_ready c.args.s.now c.args.a c.args.probe.now leaves c.in-Some.b c.in-Some-Stands.h e).0 in
+found_in-requires c = let q : ended_in c.args.s.now c.in-Some.b c.args.probe.now leaves ≡ Some (Ended.Stands c.in-Stands.h) = end_of_lem c.args.s.now c.in-Some.b c.args.probe.now leaves (wants true false c.new.result) c.ended_in.result (Some (Ended.Stands c.in-Stands.h)) (ap (wants true false) c.new.ensures) c.ended_in.ensures (c.in-Some-ended_in.is ∙ ap Some c.in-Stands.is) in
+    let e : outcome_at c.args.s.now c.args.a c.args.probe.now leaves ≡ Some (Outcome.Stands c.in-Some.b c.in-Stands.h) = outcome_ended c.args.s.now c.args.a c.args.probe.now leaves c.in-Some.b (Some (Ended.Stands c.in-Stands.h)) (sym c.open_at.ensures ∙ c.in-Some.is) q in
+    let k = (outcome_ready c.args.s.now c.args.a c.args.probe.now leaves c.in-Some.b c.in-Stands.h e).0 in
     record {
       inside = k.inside;
       kind_value = leaf_kind c.in-Some.b.kind k.right;
     }
 
-pub returns-in-None : goal.returns-in-None
+pub returns-in_default-ended_in : goal.returns-in_default-ended_in
 unfolding search_at
-returns-in-None c = let q : ended_in c.args.s.now c.in-Some.b c.args.probe.now leaves ≡ None = end_of_lem c.args.s.now c.in-Some.b c.args.probe.now leaves (wants true false c.new.result) c.ended_in.result None (ap (wants true false) c.new.ensures) c.ended_in.ensures c.in-None.is in
+returns-in_default-ended_in c = let q : ended_in c.args.s.now c.in-Some.b c.args.probe.now leaves ≡ None = end_of_lem c.args.s.now c.in-Some.b c.args.probe.now leaves (wants true false c.new.result) c.ended_in.result None (ap (wants true false) c.new.ensures) c.ended_in.ensures c.in_default-ended_in.is in
     let e : outcome_at c.args.s.now c.args.a c.args.probe.now leaves ≡ back_of c.in-Some.b None = outcome_ended c.args.s.now c.args.a c.args.probe.now leaves c.in-Some.b None (sym c.open_at.ensures ∙ c.in-Some.is) q in
     ap (search_of c.args.s.now) (sym e)
 
-pub returns-in-Some-Empty : goal.returns-in-Some-Empty
+pub returns-in-Empty : goal.returns-in-Empty
 unfolding search_at
-returns-in-Some-Empty c = let q : ended_in c.args.s.now c.in-Some.b c.args.probe.now leaves ≡ (Some Ended.Empty) = end_of_lem c.args.s.now c.in-Some.b c.args.probe.now leaves (wants true false c.new.result) c.ended_in.result (Some Ended.Empty) (ap (wants true false) c.new.ensures) c.ended_in.ensures c.in-Some-Empty.is in
+returns-in-Empty c = let q : ended_in c.args.s.now c.in-Some.b c.args.probe.now leaves ≡ (Some Ended.Empty) = end_of_lem c.args.s.now c.in-Some.b c.args.probe.now leaves (wants true false c.new.result) c.ended_in.result (Some Ended.Empty) (ap (wants true false) c.new.ensures) c.ended_in.ensures (c.in-Some-ended_in.is ∙ ap Some c.in-Empty.is) in
     let e : outcome_at c.args.s.now c.args.a c.args.probe.now leaves ≡ back_of c.in-Some.b (Some Ended.Empty) = outcome_ended c.args.s.now c.args.a c.args.probe.now leaves c.in-Some.b (Some Ended.Empty) (sym c.open_at.ensures ∙ c.in-Some.is) q in
     ap (search_of c.args.s.now) (sym e)
 
-pub returns-in-Some-Stands : goal.returns-in-Some-Stands
+pub returns-in-Stands : goal.returns-in-Stands
 unfolding search_at
-returns-in-Some-Stands c = let q : ended_in c.args.s.now c.in-Some.b c.args.probe.now leaves ≡ Some (Ended.Stands c.in-Some-Stands.h) = end_of_lem c.args.s.now c.in-Some.b c.args.probe.now leaves (wants true false c.new.result) c.ended_in.result (Some (Ended.Stands c.in-Some-Stands.h)) (ap (wants true false) c.new.ensures) c.ended_in.ensures c.in-Some-Stands.is in
-    let e : outcome_at c.args.s.now c.args.a c.args.probe.now leaves ≡ back_of c.in-Some.b (Some (Ended.Stands c.in-Some-Stands.h)) = outcome_ended c.args.s.now c.args.a c.args.probe.now leaves c.in-Some.b (Some (Ended.Stands c.in-Some-Stands.h)) (sym c.open_at.ensures ∙ c.in-Some.is) q in
+returns-in-Stands c = let q : ended_in c.args.s.now c.in-Some.b c.args.probe.now leaves ≡ Some (Ended.Stands c.in-Stands.h) = end_of_lem c.args.s.now c.in-Some.b c.args.probe.now leaves (wants true false c.new.result) c.ended_in.result (Some (Ended.Stands c.in-Stands.h)) (ap (wants true false) c.new.ensures) c.ended_in.ensures (c.in-Some-ended_in.is ∙ ap Some c.in-Stands.is) in
+    let e : outcome_at c.args.s.now c.args.a c.args.probe.now leaves ≡ back_of c.in-Some.b (Some (Ended.Stands c.in-Stands.h)) = outcome_ended c.args.s.now c.args.a c.args.probe.now leaves c.in-Some.b (Some (Ended.Stands c.in-Stands.h)) (sym c.open_at.ensures ∙ c.in-Some.is) q in
     c.found_in.ensures ∙ ap (search_of c.args.s.now) (sym e)

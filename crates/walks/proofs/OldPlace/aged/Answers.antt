@@ -15,7 +15,7 @@ unfolding aged_at
 returns-in_default c = simp (ne_eqb _ _ c.if-self-eq0.false, ← c.turned.ensures, c.in_default.is)
 
 pub aged_here-requires : goal.aged_here-requires
-aged_here-requires c = let e = turned_left c.args.s.now c.args.self c.in-Some.older c.in-Some.field-1 (sym c.turned.ensures ∙ c.in-Some.is) in
+aged_here-requires c = let e = turned_left c.args.s.now c.args.self c.in-Some.older _ (sym c.turned.ensures ∙ c.in-Some.is) in
     omega (arith, e, c.if-self-eq0.false)
 
 pub returns : goal.returns
