@@ -63,7 +63,7 @@ module _ (l w : List ℕ) (x : Entry) (c : Cursor) where
 module _ (l w : List ℕ) (c : Cursor) where
   pub rises-end : (lo hi : List ℕ) (o : Ordering) (b : Bool) → o ≡ cmp_bytes lo hi → b ≡ below_by o hi → entries l w c ≡ [] → Some (0, b) ≡ risen_of lo hi (entries l w c)
   unfolding rising risen_of below_hi
-  rises-end lo hi o b q h e = rw e (ap ((λ x0 x1. Some (x0, x1)) 0) (h ∙ ap (λ (x : Ordering). below_by x hi) q ∙ no_keys lo hi))
+  rises-end lo hi o b q h e = rw e (ap (λ (x : Bool). Some (0, x)) (h ∙ ap (λ (x : Ordering). below_by x hi) q ∙ no_keys lo hi))
 
   pub prefixed-end : (p : List ℕ) → entries l w c ≡ [] → true ≡ prefixed p (entries l w c)
   unfolding prefixed
@@ -96,15 +96,15 @@ pub risen_up : (lo hi : List ℕ) (es : List Entry) (n : ℕ) (b : Bool) → Som
 unfolding risen_of
 risen_up lo hi es n b e = go (rising es) refl e
   where
-    go : (t : Bool) → rising es ≡ t → Some (n, b) ≡ cond t (Some (length es, enclosed lo hi es)) None → Climbed lo hi es n b
-    go true q e = record { up = q; count = cc; inside = cc }
+    go : (t : Bool) → rising es ≡ t → ◌≡◌ {A = Option (ℕ × Bool)} (Some (n, b)) (cond t (Some (length es, enclosed lo hi es)) None) → Climbed lo hi es n b
+    go true q e = record { up = q; count = grind arith; inside = grind arith }
     go false q e = absurd (let z : ◌≡◌ {A = ℕ} 0 1 = cc in omega arith)
 
 pub risen_not : (lo hi : List ℕ) (es : List Entry) → None ≡ risen_of lo hi es → rising es ≡ false
 unfolding risen_of
 risen_not lo hi es e = go (rising es) e
   where
-    go : (b : Bool) → None ≡ cond b (Some (length es, enclosed lo hi es)) None → b ≡ false
+    go : (b : Bool) → ◌≡◌ {A = Option (ℕ × Bool)} None (cond b (Some (length es, enclosed lo hi es)) None) → b ≡ false
     go true e = absurd (let z : ◌≡◌ {A = ℕ} 0 1 = cc in omega arith)
     go false e = refl
 

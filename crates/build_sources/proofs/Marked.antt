@@ -73,7 +73,7 @@ record_listed l c i past e =
     let a₄ = ask (leb v max_value) _ None (Some (i, past)) no_spot a₃.1 in
     let a₅ = ask (leb (c.at + 2 + k + 16 + v) (length l)) (Some (record_item l c k v, c.at + 2 + k + 16 + v)) None (Some (i, past)) no_spot a₄.1 in
     let h : c.at + 2 + (be_at 2 l c.at + 16) ≤ length l = leb-true _ _ a₃.0 in
-    let x : record_item l c k v ≡ i = cc in
+    let x : record_item l c k v ≡ i = grind arith in
     rw (← x)
     (record {
       footing = refl;
@@ -92,7 +92,7 @@ index_listed l c i past e =
     let a₂ = ask (leb k max_key) _ None (Some (i, past)) no_spot a₁.1 in
     let a₃ = ask (leb (c.at + 2 + (k + 8)) (length l)) (Some (index_item l c k, c.at + 2 + k + 8)) None (Some (i, past)) no_spot a₂.1 in
     let h : c.at + 2 + (be_at 2 l c.at + 8) ≤ length l = leb-true _ _ a₃.0 in
-    let x : index_item l c k ≡ i = cc in
+    let x : index_item l c k ≡ i = grind arith in
     rw (← x)
     (record { footing = refl; old = refl; kept = refl; txid = λ b. omega arith; cmd = λ b. omega arith; page = λ b. be_at_lt l (c.at + 2 + be_at 2 l c.at) 8 (omega arith) b })
 
@@ -104,7 +104,7 @@ index_plain l c i past e =
     let a₁ = ask (leb (c.at + 2) (length l)) _ None (Some (i, past)) no_spot e in
     let a₂ = ask (leb k max_key) _ None (Some (i, past)) no_spot a₁.1 in
     let a₃ = ask (leb (c.at + 2 + (k + 8)) (length l)) (Some (index_item l c k, c.at + 2 + k + 8)) None (Some (i, past)) no_spot a₂.1 in
-    let x : index_item l c k ≡ i = cc in
+    let x : index_item l c k ≡ i = grind arith in
     rw (← x)
 
 spot_plain : (l : List ℕ) (c : Cursor) (i : EntryAt) (past : ℕ) → c.source ≡ 1 → spot_at l c ≡ Some (i, past) → i.ver ≡ ver_of 0 0

@@ -43,8 +43,8 @@ no_spot e = let z : ◌≡◌ {A = ℕ} 0 1 = cc in omega arith
 
 moved : (s : List ℕ) (at : ℕ) (j i : EntryAt) (q past : ℕ) → ◌≡◌ {A = Option (EntryAt × ℕ)} (Some (j, q)) (Some (i, past)) → Lying s at j q → Lying s at i past
 moved s at j i q past e h =
-    let a : j ≡ i = cc in
-    let b : q ≡ past = cc in
+    let a : j ≡ i = grind arith in
+    let b : q ≡ past = grind arith in
     rw (← a, ← b) h
 
 record_lies : (s : List ℕ) (c : Cursor) (i : EntryAt) (past : ℕ) → record_at s c ≡ Some (i, past) → Lying s c.at i past

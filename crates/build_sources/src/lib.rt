@@ -540,16 +540,18 @@ fn walk_next(footing: &[u8], c: Cursor) -> EntryRead
     if 4294967295 < w.older.left {
         return EntryRead::Bad;
     }
-    let st = w.step(footing);
-    match st {
-        Ok(walks::Step::Found(x, v)) => {
+    let Ok(step) = w.step(footing) else {
+        return EntryRead::Bad;
+    };
+    match step {
+        Step::Found(x, v) => {
             let k = x.key;
             let r = x.ver;
             let p = x.value;
             let f = x.remote;
             item_at(footing, c, k, r, p, f, NULL_PID, v)
         }
-        Ok(walks::Step::Leads(x, v)) => {
+        Step::Leads(x, v) => {
             let k = x.key;
             let g = x.page;
             item_at(
@@ -563,8 +565,7 @@ fn walk_next(footing: &[u8], c: Cursor) -> EntryRead
                 v,
             )
         }
-        Ok(walks::Step::End) => EntryRead::End,
-        Err(_) => EntryRead::Bad,
+        Step::End => EntryRead::End,
     }
 }
 

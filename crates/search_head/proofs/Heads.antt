@@ -13,7 +13,7 @@ use Rattle.records.specs.Records.{key_at_slot}
 use Rattle.sst.specs.Search.{leaves, outcome_at}
 use Rattle.sst.proofs.Opens.{outcome_ready}
 use Rattle.search_head.specs.Head.{head_key, head_slot, head_of, head_at}
-use Rattle.std.proofs.Common.{Option, Some, None, Ok, Err}
+use Rattle.std.proofs.Common.{Option, Some, None, Ok, Err, Result}
 use Rattle.search_head.specs.declared.Head.{Head}
 use Rattle.sst.specs.declared.Halved.{Halved}
 use Rattle.sst.specs.declared.Outcome.{Outcome}
@@ -36,7 +36,7 @@ module _ (s : List ℕ) (a : Addr) (probe : List ℕ) (b : Body) (i : ℕ) (v : 
   unfolding head_at
   head_from = go (outcome_at s a probe leaves) refl e
     where
-      no : (m : ℕ) → Ok (Head.Nothing m) ≡ Ok (Head.Is b i v x n) → ⊥
+      no : (m : ℕ) → ◌≡◌ {A = Result Head Refusal} (Ok (Head.Nothing m)) (Ok (Head.Is b i v x n)) → ⊥
       no m e' = let z : ◌≡◌ {A = ℕ} 0 1 = cc in omega arith
 
       go : (o : Option Outcome) → outcome_at s a probe leaves ≡ o → head_of s o ≡ Ok (Head.Is b i v x n) → HeadFrom s a probe b i v x n

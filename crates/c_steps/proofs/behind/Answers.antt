@@ -1,6 +1,6 @@
 -- `c_steps::behind` meets its contract. Assumes nothing.
 use Rattle.walks.specs.declared.OldPlace.{OldPlace}
-use Rattle.std.proofs.Common.{Option, Some}
+use Rattle.std.proofs.Common.{Option, Some, ℕ}
 use native.Mathlib.Omega.{arith}
 use mathlib.Core.Path.{subst}
 use Rattle.c_steps.specs.Turns.{Reaches}
