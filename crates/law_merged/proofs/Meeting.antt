@@ -17,13 +17,11 @@ use Rattle.build_sources.specs.Judged.{rising, prefixed, enclosed}
 use Rattle.build_image.specs.declared.Call.{Call}
 use Rattle.build_image.specs.Image.{Borders}
 use Rattle.build_image.specs.Call.{next_ok, limits_ok, built_number}
+use Rattle.merge.specs.declared.Kinds.{Kinds}
 use Rattle.merge.specs.Merge.{kind_by, kinds_by, bounds_in, meet_in, merged}
 use Rattle.merge.specs.Answer.{kinds_in, sound_ok, kinds_ok, payload_by, end_by, merge_answer}
 use Rattle.merge.proofs.Refusing.{merge_8, merge_9, merge_accepted}
 use Rattle.merge.proofs.Said.{meeting_6, meeting_7, meeting_10}
-use Rattle.std.proofs.Common.{Result}
-use Rattle.frames.specs.declared.Refusal.{Refusal}
-use Rattle.merge.specs.declared.Kind.{Kind}
 
 kinds_hold : (r t : Rows) → kind_by r ≡ kind_by t → (sound_ok (kinds_by (kind_by r) (kind_by t)) ≡ true) × (kinds_ok (kinds_by (kind_by r) (kind_by t)) ≡ true)
 kinds_hold (leaf hs) (leaf ks) e = (refl, refl)
@@ -40,7 +38,7 @@ module _ (a : List ℕ) (next : ℕ) (c : Call) (left right : Addr) (p q : Page)
   abbrev w : List ℕ
   w = take next a
 
-  abbrev k : Result Kind Refusal
+  abbrev k : Kinds
   k = kinds_in w left right
 
   abbrev bs : Borders

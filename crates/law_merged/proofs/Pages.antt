@@ -28,6 +28,7 @@ use Rattle.build_table.specs.Index.{index_end}
 use Rattle.build_table.specs.Leaf.{leaf_end}
 use Rattle.build_image.proofs.Tables.{All}
 use Rattle.law_rows.specs.Pairs.{bare, child, Carried, NoPage, NoVersion}
+use Rattle.merge.specs.declared.Kinds.{Kinds}
 use Rattle.merge.specs.Merge.{bounds_between, bounds_in, meet_in, merged, Merged}
 use Rattle.merge.specs.Answer.{kinds_in, kind_rows, answer_by, arena_by, merge_answer, merge_arena}
 use Rattle.merge.proofs.Gathering.{lo-short, hi-short, prefix-short}
@@ -40,9 +41,7 @@ use Rattle.law_calls.proofs.Listing.{each_both}
 use Rattle.law_calls.proofs.Fitting.{call_fits, address, address_below, leaf_fit, index_fit}
 use Rattle.law_calls.proofs.Accepted.{all_hold, answered_says, answered_others}
 use Rattle.law_merged.specs.Trees.{Typed, Later}
-use Rattle.std.proofs.Common.{Result, Ok, Err}
-use Rattle.frames.specs.declared.Refusal.{Refusal}
-use Rattle.merge.specs.declared.Kind.{Kind}
+use Rattle.std.proofs.Common.{Ok, Err}
 
 module _ (a : List ℕ) (next : ℕ) (m : Call) (left right : Addr) (typed : Typed a m) (p : Addr) (end : ℕ) (answers : merge_answer a next m left right ≡ Ok (p, end)) where
   -- what a merge reads
@@ -66,16 +65,16 @@ module _ (a : List ℕ) (next : ℕ) (m : Call) (left right : Addr) (typed : Typ
   bytes = bytes-part a 0 next typed.bytes
 
   -- the table, the kinds of the pages known
-  abbrev rows : Result Kind Refusal → List Row
+  abbrev rows : Kinds → List Row
   rows k = row (limits_ok m.limit m.budget) BadLimit ∷ row (next_ok (length a) next) BadArena ∷ kind_rows (length a) next m met b es k
 
-  answers_by : (k : Result Kind Refusal) → kinds_in w left right ≡ k → answer_by (rows k) next m b es k ≡ Ok (p, end)
+  answers_by : (k : Kinds) → kinds_in w left right ≡ k → answer_by (rows k) next m b es k ≡ Ok (p, end)
   unfolding merge_answer
-  answers_by k q = ap (λ (s : Result Kind Refusal). answer_by (rows s) next m b es s) (sym q) ∙ answers
+  answers_by k q = ap (λ (s : Kinds). answer_by (rows s) next m b es s) (sym q) ∙ answers
 
-  arena_by_lem : (k : Result Kind Refusal) → kinds_in w left right ≡ k → after ≡ arena_by (rows k) a next m b es k
+  arena_by_lem : (k : Kinds) → kinds_in w left right ≡ k → after ≡ arena_by (rows k) a next m b es k
   unfolding merge_arena
-  arena_by_lem k q = ap (λ (s : Result Kind Refusal). arena_by (rows s) a next m b es s) q
+  arena_by_lem k q = ap (λ (s : Kinds). arena_by (rows s) a next m b es s) q
 
   module _ (x y : Page) (f : meaning w left ≡ says x) (g : meaning w right ≡ says y) where
     bounds : BoundsFit b
@@ -84,7 +83,7 @@ module _ (a : List ℕ) (next : ℕ) (m : Call) (left right : Addr) (typed : Typ
     -- ---- two leaves
 
     module _ (hs ks : List Head) (d : x.rows ≡ leaf hs) (e : y.rows ≡ leaf ks) where
-      are_leaves : kinds_in w left right ≡ Ok Kind.Leaf
+      are_leaves : kinds_in w left right ≡ Kinds.Leaves
       are_leaves = rw (f, g, d, e) refl
 
       abbrev at : ℕ
@@ -93,15 +92,15 @@ module _ (a : List ℕ) (next : ℕ) (m : Call) (left right : Addr) (typed : Typ
       abbrev image : List ℕ
       image = leaf_image m b next es
 
-      leaf_built_lem : judged (rows (Ok Kind.Leaf)) Err (Ok (addr at, next + length image)) ≡ Ok (p, end)
+      leaf_built_lem : judged (rows Kinds.Leaves) Err (Ok (addr at, next + length image)) ≡ Ok (p, end)
       unfolding leaf_end leaf_at
-      leaf_built_lem = answers_by (Ok Kind.Leaf) are_leaves
+      leaf_built_lem = answers_by Kinds.Leaves are_leaves
 
-      leaf_is : after ≡ judged (rows (Ok Kind.Leaf)) (λ r. a) (put a next image)
-      leaf_is = arena_by_lem (Ok Kind.Leaf) are_leaves
+      leaf_is : after ≡ judged (rows Kinds.Leaves) (λ r. a) (put a next image)
+      leaf_is = arena_by_lem Kinds.Leaves are_leaves
 
-      leaf_holds : All (rows (Ok Kind.Leaf))
-      leaf_holds = all_hold (rows (Ok Kind.Leaf)) at (next + length image) p end leaf_built_lem
+      leaf_holds : All (rows Kinds.Leaves)
+      leaf_holds = all_hold (rows Kinds.Leaves) at (next + length image) p end leaf_built_lem
 
       leaf_room_lem : next + length image ≤ length a
       unfolding leaf_end
@@ -132,31 +131,31 @@ module _ (a : List ℕ) (next : ℕ) (m : Call) (left right : Addr) (typed : Typ
 
         pub leaves-merged : meaning s p ≡ says (leaf_page (bounds_between x y) es)
         leaves-merged =
-            answered_says (rows (Ok Kind.Leaf)) a next at image p end leaf_built_lem leaf_room_lem after leaf_is s long later.same (leaf_page b es) (leaf_stored a m b next es leaf_fits typed.word leaf_room_lem)
+            answered_says (rows Kinds.Leaves) a next at image p end leaf_built_lem leaf_room_lem after leaf_is s long later.same (leaf_page b es) (leaf_stored a m b next es leaf_fits typed.word leaf_room_lem)
             ∙ ap (λ (z : Borders). says (leaf_page z es)) (bounds_said w left right x y f g)
 
         -- every page that said something below the old mark still says it
         pub leaves_others : (q : Addr) (r : Page) → meaning w q ≡ says r → meaning s q ≡ says r
-        leaves_others = answered_others (rows (Ok Kind.Leaf)) a next at image p end leaf_built_lem leaf_room_lem after leaf_is s long later.same
+        leaves_others = answered_others (rows Kinds.Leaves) a next at image p end leaf_built_lem leaf_room_lem after leaf_is s long later.same
 
     -- ---- two index pages
 
     module _ (cs ds : List Child) (d : x.rows ≡ index cs) (e : y.rows ≡ index ds) where
-      are_indexes_lem : kinds_in w left right ≡ Ok Kind.Index
+      are_indexes_lem : kinds_in w left right ≡ Kinds.Indexes
       are_indexes_lem = rw (f, g, d, e) refl
 
       abbrev page : List ℕ
       page = index_image m b es
 
-      index_built_lem : judged (rows (Ok Kind.Index)) Err (Ok (addr next, next + length page)) ≡ Ok (p, end)
+      index_built_lem : judged (rows Kinds.Indexes) Err (Ok (addr next, next + length page)) ≡ Ok (p, end)
       unfolding index_end
-      index_built_lem = answers_by (Ok Kind.Index) are_indexes_lem
+      index_built_lem = answers_by Kinds.Indexes are_indexes_lem
 
-      index_is : after ≡ judged (rows (Ok Kind.Index)) (λ r. a) (put a next page)
-      index_is = arena_by_lem (Ok Kind.Index) are_indexes_lem
+      index_is : after ≡ judged (rows Kinds.Indexes) (λ r. a) (put a next page)
+      index_is = arena_by_lem Kinds.Indexes are_indexes_lem
 
-      index_holds : All (rows (Ok Kind.Index))
-      index_holds = all_hold (rows (Ok Kind.Index)) next (next + length page) p end index_built_lem
+      index_holds : All (rows Kinds.Indexes)
+      index_holds = all_hold (rows Kinds.Indexes) next (next + length page) p end index_built_lem
 
       index_room : next + length page ≤ length a
       unfolding index_end
@@ -184,8 +183,8 @@ module _ (a : List ℕ) (next : ℕ) (m : Call) (left right : Addr) (typed : Typ
 
         pub indexes-merged : meaning s p ≡ says (index_page (bounds_between x y) es)
         indexes-merged =
-            answered_says (rows (Ok Kind.Index)) a next next page p end index_built_lem index_room after index_is s reach later.same (index_page b es) (index_stored a m b next es index_fits index_room)
+            answered_says (rows Kinds.Indexes) a next next page p end index_built_lem index_room after index_is s reach later.same (index_page b es) (index_stored a m b next es index_fits index_room)
             ∙ ap (λ (z : Borders). says (index_page z es)) (bounds_said w left right x y f g)
 
         pub indexes_others : (q : Addr) (r : Page) → meaning w q ≡ says r → meaning s q ≡ says r
-        indexes_others = answered_others (rows (Ok Kind.Index)) a next next page p end index_built_lem index_room after index_is s reach later.same
+        indexes_others = answered_others (rows Kinds.Indexes) a next next page p end index_built_lem index_room after index_is s reach later.same

@@ -20,12 +20,10 @@ use Rattle.build_image.specs.Call.{next_ok, built_number, limits_ok}
 use Rattle.build_image.specs.Table.{Row}
 use Rattle.build_image.proofs.Tables.{All}
 use Rattle.build_image.proofs.Exactly.{Exactly, before, asks, once, call_exactly, call_accepted, call_stays}
+use Rattle.merge.specs.declared.Kinds.{Kinds}
 use Rattle.merge.specs.Merge.{kind_by, kinds_by, kinds_of, bounds_in, meet_in, merged}
 use Rattle.merge.specs.Answer.{kinds_in, sound_ok, kinds_ok, payload_by, end_by, place_by, image_by, merge_rows, merge_answer, merge_arena}
 use Rattle.merge.proofs.Answering.{bad_right}
-use Rattle.std.proofs.Common.{Result}
-use Rattle.frames.specs.declared.Refusal.{Refusal}
-use Rattle.merge.specs.declared.Kind.{Kind}
 
 -- ---- 4 and 5 in words
 
@@ -58,7 +56,7 @@ five_says x y = go x.rows y.rows
 -- ---- the table
 
 module _ (a : List ℕ) (next : ℕ) (m : Call) (left right : Addr) where
-  abbrev k : Result Kind Refusal
+  abbrev k : Kinds
   k = kinds_in (take next a) left right
 
   abbrev b : Borders

@@ -18,6 +18,7 @@ use Rattle.build_image.specs.Prefix.{common}
 use Rattle.build_image.specs.Image.{Borders}
 use Rattle.build_bounds.specs.declared.Boundary.{Boundary}
 use Rattle.build_bounds.specs.declared.Boundaries.{Boundaries}
+use Rattle.merge.specs.declared.Kinds.{Kinds}
 use Rattle.build_sources.specs.declared.Cursor.{Cursor}
 use Rattle.frames.specs.declared.Refusal.{Refusal}
 use Rattle.merge.specs.declared.Kind.{Kind}
@@ -34,16 +35,16 @@ said_kind nothing = None
 said_kind (says p) = kind_by p.rows
 
 -- "merging leaf with index" is 5
-abbrev pub kinds_by : Option Kind → Option Kind → Result Kind Refusal
-kinds_by None y = Err Refusal.BadFrame
-kinds_by (Some Kind.Leaf) None = Err Refusal.BadFrame
-kinds_by (Some Kind.Leaf) (Some Kind.Leaf) = Ok Kind.Leaf
-kinds_by (Some Kind.Leaf) (Some Kind.Index) = Err Refusal.MixedKinds
-kinds_by (Some Kind.Index) None = Err Refusal.BadFrame
-kinds_by (Some Kind.Index) (Some Kind.Leaf) = Err Refusal.MixedKinds
-kinds_by (Some Kind.Index) (Some Kind.Index) = Ok Kind.Index
+abbrev pub kinds_by : Option Kind → Option Kind → Kinds
+kinds_by None y = Kinds.Bad
+kinds_by (Some Kind.Leaf) None = Kinds.Bad
+kinds_by (Some Kind.Leaf) (Some Kind.Leaf) = Kinds.Leaves
+kinds_by (Some Kind.Leaf) (Some Kind.Index) = Kinds.Mixed
+kinds_by (Some Kind.Index) None = Kinds.Bad
+kinds_by (Some Kind.Index) (Some Kind.Leaf) = Kinds.Mixed
+kinds_by (Some Kind.Index) (Some Kind.Index) = Kinds.Indexes
 
-abbrev pub kinds_of : Said → Said → Result Kind Refusal
+abbrev pub kinds_of : Said → Said → Kinds
 kinds_of p q = kinds_by (said_kind p) (said_kind q)
 
 -- a page that says something

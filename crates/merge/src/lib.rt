@@ -24,44 +24,53 @@ pub enum Kind {
     Index,
 }
 
+// The kinds of two.
+#[derive(Clone, Copy)]
+pub enum Kinds {
+    Leaves,
+    Indexes,
+    Mixed,
+    Bad,
+}
+
 // The kind of the page at an address, where it is sound.
 fn said_kind(footing: &[u8], a: Addr) -> Option<Kind>
     ensures { result ≡ said_kind (meaning footing.now a) }
 {
-    let x = pages::check(footing, a);
-    match x {
-        Err(_) => None,
-        Ok(()) => {
-            let b = frames::open_at(footing, a)?;
-            if b.kind == 1 {
-                return Some(Kind::Index);
-            }
-            Some(Kind::Leaf)
-        }
+    let Ok(()) = pages::check(footing, a) else {
+        return None;
+    };
+    let b = frames::open_at(footing, a)?;
+    if b.kind == 1 {
+        return Some(Kind::Index);
     }
+    Some(Kind::Leaf)
 }
 
 // Two kinds.
-fn kinds_by(x: Option<Kind>, y: Option<Kind>) -> Result<Kind, Refusal>
+fn kinds_by(x: Option<Kind>, y: Option<Kind>) -> Kinds
     ensures { result ≡ kinds_by x y }
 {
+    let Some(x) = x else {
+        return Kinds::Bad;
+    };
+    let Some(y) = y else {
+        return Kinds::Bad;
+    };
     match x {
-        None => Err(Refusal::BadFrame),
-        Some(Kind::Leaf) => match y {
-            None => Err(Refusal::BadFrame),
-            Some(Kind::Leaf) => Ok(Kind::Leaf),
-            Some(Kind::Index) => Err(Refusal::MixedKinds),
+        Kind::Leaf => match y {
+            Kind::Leaf => Kinds::Leaves,
+            Kind::Index => Kinds::Mixed,
         },
-        Some(Kind::Index) => match y {
-            None => Err(Refusal::BadFrame),
-            Some(Kind::Leaf) => Err(Refusal::MixedKinds),
-            Some(Kind::Index) => Ok(Kind::Index),
+        Kind::Index => match y {
+            Kind::Leaf => Kinds::Mixed,
+            Kind::Index => Kinds::Indexes,
         },
     }
 }
 
 // 4, then 5.
-fn kinds_of(footing: &[u8], left: Addr, right: Addr) -> Result<Kind, Refusal>
+fn kinds_of(footing: &[u8], left: Addr, right: Addr) -> Kinds
     ensures { result ≡ kinds_of (meaning footing.now left) (meaning footing.now right) }
 {
     let x = said_kind(footing, left);
@@ -204,19 +213,20 @@ fn merge_kinds(
     let k = kinds_of(&a[..next], left, right);
     let met = meets(&a[..next], left, right);
     match k {
-        Ok(Kind::Leaf) => {
+        Kinds::Leaves => {
             if met {
                 return merge_leaves(a, next, left, right, m, none);
             }
             Err(apart(&a[..next], left, right, none))
         }
-        Ok(Kind::Index) => {
+        Kinds::Indexes => {
             if met {
                 return merge_indexes(a, next, left, right, m, none);
             }
             Err(apart(&a[..next], left, right, none))
         }
-        Err(r) => Err(r),
+        Kinds::Mixed => Err(Refusal::MixedKinds),
+        Kinds::Bad => Err(Refusal::BadFrame),
     }
 }
 

@@ -11,4 +11,4 @@ pub returns-then-slot-page : goal.returns-then-slot-page
 returns-then-slot-page c = (enter_known c.args.s.now c.args.h c.args.was c.args.known c.requires c.if-h-eq0.false c.if-known-ne0.true c.if-a-known.true c.if-slot-page.true, known_at c.args.s.now c.args.known c.args.was c.args.h.slot c.args.h.count c.requires)
 
 pub returns : goal.returns
-returns c = (let e = sym c.enter.ensures ∙ c.in-Some.is in (e, known-entered c.args.s.now c.args.h c.args.was c.in-Some.older c.if-h-eq0.false e))
+returns c = (let e = sym c.enter.ensures ∙ c.in_ok-older.was in (e, known-entered c.args.s.now c.args.h c.args.was c.in_ok-older.older c.if-h-eq0.false e))

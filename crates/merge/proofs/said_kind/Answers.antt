@@ -3,13 +3,13 @@ use Rattle.merge.proofs.Merging.{kind_bad, kind_index, kind_leaf, kind-opens}
 use Rattle.merge.proofs.said_kind.Goals as goal
 
 pub returns-in_err-b : goal.returns-in_err-b
-returns-in_err-b c = c.from_residual.ensures ∙ absurd (kind-opens _ _ (sym c.check-x.ensures ∙ c.in-Ok.is) (sym c.open_at.ensures ∙ c.in_err-b.was))
+returns-in_err-b c = c.from_residual.ensures ∙ absurd (kind-opens _ _ (sym c.check.ensures ∙ c.in-Ok.is) (sym c.open_at.ensures ∙ c.in_err-b.was))
 
 pub returns-then-b-eq1 : goal.returns-then-b-eq1
-returns-then-b-eq1 c = kind_index _ _ (sym c.check-x.ensures ∙ c.in-Ok.is) _ (sym c.open_at.ensures ∙ c.in_ok-b.was) c.if-b-eq1.true
+returns-then-b-eq1 c = kind_index _ _ (sym c.check.ensures ∙ c.in-Ok.is) _ (sym c.open_at.ensures ∙ c.in_ok-b.was) c.if-b-eq1.true
 
-pub returns-in-Err : goal.returns-in-Err
-returns-in-Err c = kind_bad _ _ _ (sym c.check-x.ensures ∙ c.in-Err.is)
+pub returns-in_default : goal.returns-in_default
+returns-in_default c = kind_bad _ _ _ (sym c.check.ensures ∙ c.in_default.is)
 
 pub returns-else-b-eq1 : goal.returns-else-b-eq1
-returns-else-b-eq1 c = kind_leaf _ _ (sym c.check-x.ensures ∙ c.in-Ok.is) _ (sym c.open_at.ensures ∙ c.in_ok-b.was) c.if-b-eq1.false
+returns-else-b-eq1 c = kind_leaf _ _ (sym c.check.ensures ∙ c.in-Ok.is) _ (sym c.open_at.ensures ∙ c.in_ok-b.was) c.if-b-eq1.false
