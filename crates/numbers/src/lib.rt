@@ -4,7 +4,7 @@
 
 ghost use Rattle.std.specs.Prelude.{◌≡◌, ◌+◌, ◌≤◌, length};
 ghost use Rattle.spans.specs.Span.{put};
-ghost use Rattle.numbers.specs.Number.{le, le_at, be_at, turned};
+ghost use Rattle.numbers.specs.Number.{le, le_at, be_at};
 
 #[tactic(auto, using(crate::proofs::Bytes::read_2))]
 pub fn read_u16(s: &[u8], at: usize) -> u16

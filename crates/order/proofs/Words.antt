@@ -3,18 +3,16 @@
 use mathlib.Core.Path.{◌≡◌, refl, sym, ap, ap₂, ◌∙◌}
 use mathlib.Core.List.{List, [], ◌∷◌, ◌++◌}
 use mathlib.Core.Logic.{◌⊎◌, ⊎_elim}
-use Prim.Native.Nat.{ℕ, zero, suc, ◌+◌, ◌*◌, ◌^◌, ◌≤◌, ◌<◌}
-use native.Mathlib.Nat.{mul-le-mul_left, pow-suc}
+use Prim.Native.Nat.{ℕ, suc, ◌+◌, ◌*◌, ◌^◌, ◌≤◌, ◌<◌}
+use native.Mathlib.Nat.{mul-le-mul_left}
 use native.Mathlib.Numerals.{add-one}
 use native.Mathlib.Omega.{arith}
-use lib.Dec.{lit<}
 use lib.ListN.{length, take, drop, get_or, take-append-drop, drop_of_length-le}
 use lib.Seq.{drop-drop, drop-cons}
 use Rattle.spans.specs.Span.{part}
 use Rattle.spans.proofs.Part.{length_part}
-use Rattle.numbers.specs.Number.{Bytes, of_le, of_be, le_at, be_at}
-use Rattle.numbers.proofs.Numbers.{of_be-append, of_be_lt, of_be_inj, of_le_inj, bytes-part}
-use Rattle.order.specs.declared.Order.{Order}
+use Rattle.numbers.specs.Number.{Bytes, of_le, of_be, be_at}
+use Rattle.numbers.proofs.Numbers.{of_be-append, of_be_lt, of_be_inj, bytes-part}
 use Rattle.order.specs.declared.Order.TheVariants.{Less, Equal, Greater}
 use Rattle.order.specs.Order.{by_number, cmp_bytes, flip}
 use Rattle.order.proofs.Laws.{case_order, is-less, is_greater, is_same, cmp_flip, cmp_front}
@@ -76,25 +74,6 @@ module _ (a b : List ℕ) (ha : Bytes a) (hb : Bytes b) where
   step w i p q =
       ap₂ cmp_bytes (front a i w) (front b i w)
       ∙ words (part a i w) (part b i w) (drop (i + w) a) (drop (i + w) b) (length_part a i w p ∙ sym (length_part b i w q)) (bytes-part a i w ha) (bytes-part b i w hb)
-
-  module _ (w i : ℕ) (p : i + w ≤ length a) (q : i + w ≤ length b) where
-    -- equal words, read in either order, are the same bytes
-    pub step_equal : le_at w a i ≡ le_at w b i → cmp_bytes (drop i a) (drop i b) ≡ cmp_bytes (drop (i + w) a) (drop (i + w) b)
-    unfolding le_at
-    step_equal e =
-        let l : length (part a i w) ≡ length (part b i w) = length_part a i w p ∙ sym (length_part b i w q) in
-        ap₂ cmp_bytes (front a i w) (front b i w)
-        ∙ ap (λ (r : List ℕ). cmp_bytes (r ++ drop (i + w) a) (part b i w ++ drop (i + w) b)) (of_le_inj (part a i w) (part b i w) l (bytes-part a i w ha) (bytes-part b i w hb) e)
-        ∙ cmp_front (part b i w) (drop (i + w) a) (drop (i + w) b)
-
-    pub step_less : be_at w a i < be_at w b i → cmp_bytes (drop i a) (drop i b) ≡ Less
-    step_less h = step w i p q ∙ is-less (be_at w a i) (be_at w b i) _ h
-
-    pub step_greater : be_at w b i < be_at w a i → cmp_bytes (drop i a) (drop i b) ≡ Greater
-    step_greater h = step w i p q ∙ is_greater (be_at w a i) (be_at w b i) _ h
-
-    pub step_same : be_at w a i ≤ be_at w b i → be_at w b i ≤ be_at w a i → cmp_bytes (drop i a) (drop i b) ≡ cmp_bytes (drop (i + w) a) (drop (i + w) b)
-    step_same h k = step w i p q ∙ is_same (be_at w a i) (be_at w b i) _ (omega arith)
 
 -- a byte, as an element of the list
 module _ (a b : List ℕ) (i : ℕ) (p : i < length a) (q : i < length b) where

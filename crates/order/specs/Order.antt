@@ -1,6 +1,6 @@
 -- The order of byte strings: by the first byte in which they differ, a proper prefix first.
 -- Assumes nothing.
-use Rattle.std.specs.Prelude.{ℕ, ◌≤◌, List, [], ◌∷◌, Bool, true, false, cond, ◌⊎◌, ltb, eqb}
+use Rattle.std.specs.Prelude.{ℕ, List, [], ◌∷◌, Bool, true, false, cond, ltb, eqb}
 use Rattle.order.specs.declared.Order.{Order}
 use Rattle.order.specs.declared.Order.TheVariants.{Less, Equal, Greater}
 
@@ -35,8 +35,3 @@ unfoldable pub starts_with : List ℕ → List ℕ → Bool
 starts_with [] ys = true
 starts_with (x ∷ xs) [] = false
 starts_with (x ∷ xs) (y ∷ ys) = cond (eqb x y) (starts_with xs ys) false
-
-pub record Lesser (a b r : ℕ) : Type 0 where
-  pub first : r ≤ a
-  pub second : r ≤ b
-  pub least : (a ≤ r) ⊎ (b ≤ r)
