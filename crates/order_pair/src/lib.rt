@@ -25,6 +25,7 @@ fn pairs(a: &[u8], b: &[u8], n: usize) -> usize
 }
 
 // The same, eight at a time: plain loads, in either byte order.
+#[tactic(auto, using(crate::proofs::Overlap::further))]
 fn same(a: &[u8], b: &[u8], n: usize) -> usize
     requires { (n ≤ length a.now) × (n ≤ length b.now) }
     ensures { (result ≤ n) × (take result a.now ≡ take result b.now) }
@@ -40,6 +41,7 @@ fn same(a: &[u8], b: &[u8], n: usize) -> usize
 }
 
 // Where eight bytes decide: behind what is the same, or the last eight.
+#[tactic(auto, using(crate::proofs::Overlap::nearer))]
 fn spot_of(a: &[u8], b: &[u8], n: usize) -> usize
     requires le_n { 8 ≤ n }
     requires n_in_bounds { (n ≤ length a.now) × (n ≤ length b.now) }

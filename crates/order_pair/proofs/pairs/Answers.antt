@@ -1,18 +1,9 @@
-use Prim.Native.Nat.{ℕ, ◌-◌, ◌+◌}
-use mathlib.Core.Path.{◌≡◌, refl, sym, ap, ◌∙◌}
+use Prim.Native.Nat.{ℕ, ◌+◌}
+use mathlib.Core.Path.{◌≡◌, sym, ap, ◌∙◌}
 use lib.ListN.{take}
 use native.Mathlib.Omega.{arith}
 use Rattle.order_pair.proofs.Overlap.{further}
 use Rattle.order_pair.proofs.pairs.Goals as goal
-
-pub loop-i-init : goal.loop-i-init
-loop-i-init c = (omega arith, refl)
-
-pub returns-then-read_u64 : goal.returns-then-read_u64
-returns-then-read_u64 c = (omega arith, c.loop-i.invariant.1)
-
-pub returns-then-read_u64-2 : goal.returns-then-read_u64-2
-returns-then-read_u64-2 c = (omega arith, c.loop-i.invariant.1)
 
 pub loop-i-preserved : goal.loop-i-preserved
 loop-i-preserved c = let a = c.args.a.now in
@@ -20,6 +11,3 @@ loop-i-preserved c = let a = c.args.a.now in
     let i = c.loop-i.i in
     let e : i + 16 ≡ i + 8 + 8 = omega arith in
     (omega arith, ap (λ (k : ℕ). take k a) e ∙ further a b (λ k. omega (arith, c.type_inv.a k)) (λ k. omega (arith, c.type_inv.b k)) 8 (i + 8) (omega arith) (omega arith) (further a b (λ k. omega (arith, c.type_inv.a k)) (λ k. omega (arith, c.type_inv.b k)) 8 i (omega arith) (omega arith) c.loop-i.invariant.1 (omega arith)) (omega arith) ∙ sym (ap (λ (k : ℕ). take k b) e))
-
-pub returns : goal.returns
-returns c = (omega arith, c.loop-i.invariant.1)
