@@ -39,7 +39,8 @@ pub fn is_less(c: Order) -> bool
     matches!(c, Order::Less)
 }
 
-// Whether the bytes p begin s. Speed: by `s.starts_with(p)` the check of keys of 64 bytes takes 1.2 times as long (0.44 of the Rust's, not 0.36), builds 1.1 times.
+// Whether the bytes p begin s. Speed: with the slices' own `starts_with`, `strip_prefix` and `==`, here and below, the check of keys of 64 bytes takes
+// 1.2 times as long (0.44 of the Rust's, not 0.36), builds 1.1 times: their scan then has more callers than `compare`, and stays a call.
 #[tactic(auto, using(crate::proofs::Library::begins, crate::proofs::Library::begins_not))]
 pub fn starts_with(p: &[u8], s: &[u8]) -> bool
     ensures { result ≡ starts_with p.now s.now }
