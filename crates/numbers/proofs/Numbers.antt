@@ -1,18 +1,16 @@
 -- The laws of numbers in bytes, over the width.
 -- Assumes nothing.
 use mathlib.Core.Path.{◌≡◌, refl, sym, ap, ap₂, ◌∙◌, subst}
-use mathlib.Core.List.{List, [], ◌∷◌, ◌++◌, reverse, reverse-append, reverse-reverse, append-nil}
+use mathlib.Core.List.{List, [], ◌∷◌, ◌++◌, reverse, reverse-append, reverse-reverse}
 use Prim.Native.Nat.{ℕ, zero, suc, ◌+◌, ◌*◌, ◌/◌, ◌%◌, ◌^◌, ◌≤◌, ◌<◌}
-use native.Mathlib.Nat.{pow-succ', div-add-mod, mod-lt, mod-eq_of_lt, mul-add-div, mul-add-mod_self_left, div-div-eq-div-mul, zero-lt-suc, pow-suc, pow-zero, mod-one, mul_comm, mul_assoc, mul-add, add_assoc, add_comm, zero-add, suc-add, add-mul-div_left, add-mul-mod_self_left, div-eq_of_lt, div-one, one-mul}
-use native.Mathlib.Numerals.{add-one}
+use native.Mathlib.Nat.{pow-succ', div-add-mod, mod-lt, mod-eq_of_lt, div-div-eq-div-mul, mod-one, mul_assoc, zero-add, suc-add, add-mul-mod_self_left, div-one}
 use native.Mathlib.Omega.{arith}
 use lib.Dec.{lit<}
-use lib.Pow.{pow-add}
-use lib.ListN.{length, take, drop, get_or, set, length-append, length-reverse}
-use lib.Seq.{take-add, drop-drop, get_or-drop}
+use lib.ListN.{length, take, drop, get_or, set, length-reverse}
+use lib.Seq.{get_or-drop}
 use Rattle.spans.specs.Span.{part, put, Lies}
-use Rattle.spans.proofs.Part.{length_part, part_add, part-one, part_zero, get_d_part, part_agree}
-use Rattle.spans.proofs.Put.{put_next, put_one, put_cons, length-put}
+use Rattle.spans.proofs.Part.{length_part, part_add, part-one, part_agree}
+use Rattle.spans.proofs.Put.{put_next}
 use Rattle.spans.proofs.Lying.{lies_part, put_lies, part_lies}
 use Rattle.numbers.specs.Number.{le, of_le, be, of_be, le_at, be_at, turned, Bytes}
 
@@ -156,21 +154,6 @@ of_le_inj xs ys l hx hy e = sym (le-of_le xs hx) ∙ ap₂ le l e ∙ le-of_le y
 pub of_be_inj : (xs ys : List ℕ) → length xs ≡ length ys → Bytes xs → Bytes ys → of_be xs ≡ of_be ys → xs ≡ ys
 of_be_inj xs ys l hx hy e = sym (be-of_be xs hx) ∙ ap₂ be l e ∙ be-of_be ys hy
 
--- ---- turned round
-
--- in two halves
-pub turned_join : (j k n : ℕ) → turned (j + k) n ≡ turned k (n / 256 ^ j) + 256 ^ k * turned j (n % 256 ^ j)
-unfolding turned
-turned_join j k n =
-    ap of_be (le-append j k n)
-    ∙ of_be-append (le j n) (le k (n / 256 ^ j))
-    ∙ ap₂ (λ (m : ℕ) (x : List ℕ). of_be (le k (n / 256 ^ j)) + 256 ^ m * of_be x) (length-le k (n / 256 ^ j)) (sym (le_mod j n))
-
--- two bytes
-pub turned_two : (n : ℕ) → n < 65536 → turned 2 n ≡ 256 * (n % 256) + n / 256
-unfolding turned of_be le of_le
-turned_two n h = omega arith
-
 -- ---- in a slice: a number of j + k bytes is read and stored in two halves
 
 pub read-le : (l : List ℕ) (i j k : ℕ) → i + j ≤ length l → le_at (j + k) l i ≡ le_at j l i + 256 ^ j * le_at k l (i + j)
@@ -188,10 +171,6 @@ put-le a i j k n =
     ap (λ (x : List ℕ). put (put a i x) (i + j) (le k (n / 256 ^ j))) (le_mod j n)
     ∙ put_next a i (le j n) (le k (n / 256 ^ j)) (i + j) (ap (λ (m : ℕ). i + m) (sym (length-le j n)))
     ∙ ap (put a i) (sym (le-append j k n))
-
--- and as two calls leave it, b after the first and c after the second
-pub both_le : (a b c : List ℕ) (i j k n : ℕ) → b ≡ put a i (le j (n % 256 ^ j)) → c ≡ put b (i + j) (le k (n / 256 ^ j)) → c ≡ put a i (le (j + k) n)
-both_le a b c i j k n e f = f ∙ ap (λ (x : List ℕ). put x (i + j) (le k (n / 256 ^ j))) e ∙ put-le a i j k n
 
 -- what lies at an index is read, at every width
 pub lies_le : (a : List ℕ) (i k n : ℕ) → n < 256 ^ k → Lies a i (le k n) → le_at k a i ≡ n
@@ -227,31 +206,7 @@ pub le_at_lt : (l : List ℕ) (i k : ℕ) → i + k ≤ length l → Bytes l →
 unfolding le_at
 le_at_lt l i k f h = omega (arith, of_le_lt (part l i k) (bytes-part l i k h), ap (λ (m : ℕ). 256 ^ m) (length_part l i k f))
 
--- ---- one byte and two, where the halving ends
-
-two : (l : List ℕ) (i : ℕ) → i + 2 ≤ length l → part l i 2 ≡ get_or l i 0 ∷ get_or l (i + 1) 0 ∷ []
-two l i h =
-    part_add l i 1 1 ∙ ap₂ (λ (x y : List ℕ). x ++ y) (part-one l i (omega arith)) (part-one l (i + 1) (omega arith))
-
-pub read2_le : (l : List ℕ) (i : ℕ) → i + 2 ≤ length l → get_or l i 0 + 256 * get_or l (i + 1) 0 ≡ le_at 2 l i
-unfolding of_le le_at
-read2_le l i h = sym (ap of_le (two l i h) ∙ omega arith)
-
-pub read2_be : (l : List ℕ) (i : ℕ) → i + 2 ≤ length l → get_or l (i + 1) 0 + 256 * get_or l i 0 ≡ be_at 2 l i
-unfolding of_le of_be be_at
-read2_be l i h = sym (ap of_be (two l i h) ∙ omega arith)
-
-pub put2_le : (a : List ℕ) (i x : ℕ) → x < 65536 → set (set a i (x % 256)) (i + 1) (x / 256) ≡ put a i (le 2 x)
-unfolding le put
-put2_le a i x l =
-    let e : x / 256 ≡ x / 256 % 256 = omega arith in
-    ap (λ (v : ℕ). set (set a i (x % 256)) (i + 1) v) e
-
-pub put2_be : (a : List ℕ) (i x : ℕ) → x < 65536 → set (set a i (x / 256)) (i + 1) (x % 256) ≡ put a i (be 2 x)
-unfolding le be put
-put2_be a i x l =
-    let e : x / 256 ≡ x / 256 % 256 = omega arith in
-    ap (λ (v : ℕ). set (set a i v) (i + 1) (x % 256)) e
+-- ---- one byte, and a number with what follows
 
 pub put1 : (a : List ℕ) (i x : ℕ) → x < 256 → set a i x ≡ put a i (le 1 x)
 unfolding le put

@@ -7,10 +7,11 @@ use mathlib.Core.Bool.{Bool, true, false, not, ◌&&◌}
 use Prim.Native.Nat.{ℕ, zero, suc, ◌<◌}
 use native.Mathlib.Omega.{arith}
 use lib.ListN.{length, get_or, drop}
+use Rattle.std.specs.declared.cmp.Ordering.{Ordering}
+use Rattle.std.specs.declared.cmp.Ordering.TheVariants.{Less, Equal, Greater}
 use Rattle.order.specs.Order.{cmp_bytes, is_equal, is_less, starts_with}
 use Rattle.order.specs.Bounds.{below_by, below_hi, in_bounds, all_in_bounds, bounded, meet, spanned}
 use Rattle.order.proofs.Laws.{less_greater, greater_equal, cmp_same, cmp_greater, cmp_less, cmp_eq, cmp_trans, cmp_front, cmp_beside, starts_split}
-use Rattle.std.specs.declared.cmp.Ordering.{Ordering}
 
 no {ℓ} : {X : Type ℓ} → true ≡ false → X
 no e = absurd (let z : ◌≡◌ {A = ℕ} 0 1 = cc in omega arith)
@@ -43,36 +44,36 @@ joined_starts p r x e = sym (ap (cmp_bytes (p ++ r)) (starts_split p x e) ∙ cm
 
 -- x is at or below y
 abbrev pub AtMost : List ℕ → List ℕ → Type 0
-AtMost x y = cmp_bytes x y ≡ Ordering.Greater → ⊥
+AtMost x y = cmp_bytes x y ≡ Greater → ⊥
 
-pub most_less : (x y z : List ℕ) → AtMost x y → cmp_bytes y z ≡ Ordering.Less → cmp_bytes x z ≡ Ordering.Less
+pub most_less : (x y z : List ℕ) → AtMost x y → cmp_bytes y z ≡ Less → cmp_bytes x z ≡ Less
 most_less x y z h e = go (cmp_bytes x y) refl
   where
-    go : (o : Ordering) → cmp_bytes x y ≡ o → cmp_bytes x z ≡ Ordering.Less
-    go Ordering.Less q = cmp_trans x y z q e
-    go Ordering.Equal q = ap (λ (v : List ℕ). cmp_bytes v z) (cmp_eq x y q) ∙ e
-    go Ordering.Greater q = absurd (h q)
+    go : (o : Ordering) → cmp_bytes x y ≡ o → cmp_bytes x z ≡ Less
+    go Less q = cmp_trans x y z q e
+    go Equal q = ap (λ (v : List ℕ). cmp_bytes v z) (cmp_eq x y q) ∙ e
+    go Greater q = absurd (h q)
 
-pub less_most : (x y z : List ℕ) → cmp_bytes x y ≡ Ordering.Less → AtMost y z → cmp_bytes x z ≡ Ordering.Less
+pub less_most : (x y z : List ℕ) → cmp_bytes x y ≡ Less → AtMost y z → cmp_bytes x z ≡ Less
 less_most x y z e h = go (cmp_bytes y z) refl
   where
-    go : (o : Ordering) → cmp_bytes y z ≡ o → cmp_bytes x z ≡ Ordering.Less
-    go Ordering.Less q = cmp_trans x y z e q
-    go Ordering.Equal q = ap (cmp_bytes x) (sym (cmp_eq y z q)) ∙ e
-    go Ordering.Greater q = absurd (h q)
+    go : (o : Ordering) → cmp_bytes y z ≡ o → cmp_bytes x z ≡ Less
+    go Less q = cmp_trans x y z e q
+    go Equal q = ap (cmp_bytes x) (sym (cmp_eq y z q)) ∙ e
+    go Greater q = absurd (h q)
 
 most_trans : (x y z : List ℕ) → AtMost x y → AtMost y z → AtMost x z
 most_trans x y z h k q = go (cmp_bytes x y) refl
   where
     go : (o : Ordering) → cmp_bytes x y ≡ o → ⊥
-    go Ordering.Less e = less_greater (sym (less_most x y z e k) ∙ q)
-    go Ordering.Equal e = k (ap (λ (v : List ℕ). cmp_bytes v z) (sym (cmp_eq x y e)) ∙ q)
-    go Ordering.Greater e = h e
+    go Less e = less_greater (sym (less_most x y z e k) ∙ q)
+    go Equal e = k (ap (λ (v : List ℕ). cmp_bytes v z) (sym (cmp_eq x y e)) ∙ q)
+    go Greater e = h e
 
-is-less : (o : Ordering) → is_less o ≡ true → o ≡ Ordering.Less
-is-less Ordering.Less e = refl
-is-less Ordering.Equal e = no (sym e)
-is-less Ordering.Greater e = no (sym e)
+is-less : (o : Ordering) → is_less o ≡ true → o ≡ Less
+is-less Less e = refl
+is-less Equal e = no (sym e)
+is-less Greater e = no (sym e)
 
 -- not below lo: lo is at or below the key
 pub from_most : (lo k : List ℕ) → not (is_less (cmp_bytes k lo)) ≡ true → AtMost lo k
@@ -82,12 +83,12 @@ pub most_from : (lo k : List ℕ) → AtMost lo k → not (is_less (cmp_bytes k 
 most_from lo k h = go (cmp_bytes k lo) refl
   where
     go : (o : Ordering) → cmp_bytes k lo ≡ o → not (is_less o) ≡ true
-    go Ordering.Less q = absurd (h (cmp_less k lo q))
-    go Ordering.Equal q = refl
-    go Ordering.Greater q = refl
+    go Less q = absurd (h (cmp_less k lo q))
+    go Equal q = refl
+    go Greater q = refl
 
 -- below some hi is less
-pub below_less : (x : List ℕ) (h : ℕ) (hi : List ℕ) → below_hi x (h ∷ hi) ≡ true → cmp_bytes x (h ∷ hi) ≡ Ordering.Less
+pub below_less : (x : List ℕ) (h : ℕ) (hi : List ℕ) → below_hi x (h ∷ hi) ≡ true → cmp_bytes x (h ∷ hi) ≡ Less
 unfolding below_hi
 below_less x h hi e = is-less (cmp_bytes x (h ∷ hi)) e
 
@@ -186,7 +187,7 @@ bounded_at lo hi ks e i h = all-at lo hi ks (both_second (below_hi lo hi) (all_i
 
 -- ---- a key between begins with what the boundaries have in common
 
-pub between-starts : (p lo hi k : List ℕ) → starts_with p lo ≡ true → starts_with p hi ≡ true → not (is_less (cmp_bytes k lo)) ≡ true → cmp_bytes k hi ≡ Ordering.Less → starts_with p k ≡ true
+pub between-starts : (p lo hi k : List ℕ) → starts_with p lo ≡ true → starts_with p hi ≡ true → not (is_less (cmp_bytes k lo)) ≡ true → cmp_bytes k hi ≡ Less → starts_with p k ≡ true
 between-starts p lo hi k sl sh f e = go (starts_with p k) refl
   where
     go : (b : Bool) → starts_with p k ≡ b → b ≡ true
@@ -203,19 +204,19 @@ unfolding meet
 meet-same [] lo e = no (sym e)
 meet-same (h ∷ hi) lo e = cmp_eq (h ∷ hi) lo (is_equal_lem (cmp_bytes (h ∷ hi) lo) e)
   where
-    is_equal_lem : (o : Ordering) → is_equal o ≡ true → o ≡ Ordering.Equal
-    is_equal_lem Ordering.Less e = no (sym e)
-    is_equal_lem Ordering.Equal e = refl
-    is_equal_lem Ordering.Greater e = no (sym e)
+    is_equal_lem : (o : Ordering) → is_equal o ≡ true → o ≡ Equal
+    is_equal_lem Less e = no (sym e)
+    is_equal_lem Equal e = refl
+    is_equal_lem Greater e = no (sym e)
 
 -- where hi is some boundary, below it is less
-pub below-met : (x hi lo : List ℕ) → meet hi lo ≡ true → below_hi x hi ≡ true → cmp_bytes x lo ≡ Ordering.Less
+pub below-met : (x hi lo : List ℕ) → meet hi lo ≡ true → below_hi x hi ≡ true → cmp_bytes x lo ≡ Less
 unfolding meet
 below-met x [] lo m e = no (sym m)
 below-met x (h ∷ hi) lo m e = ap (cmp_bytes x) (sym (meet-same (h ∷ hi) lo m)) ∙ below_less x h hi e
 
 -- each key of the left is below each key of the right
-pub apart_keys : (lo hi mid top k j : List ℕ) → meet hi mid ≡ true → in_bounds lo hi k ≡ true → in_bounds mid top j ≡ true → cmp_bytes k j ≡ Ordering.Less
+pub apart_keys : (lo hi mid top k j : List ℕ) → meet hi mid ≡ true → in_bounds lo hi k ≡ true → in_bounds mid top j ≡ true → cmp_bytes k j ≡ Less
 apart_keys lo hi mid top k j m e f =
     less_most k mid j (below-met k hi mid m (both_second (not (is_less (cmp_bytes k lo))) (below_hi k hi) e)) (from_most mid j (both_first (not (is_less (cmp_bytes j mid))) (below_hi j top) f))
 

@@ -1,6 +1,5 @@
 -- No second answer fits the contract of a public call. `Post` is the contract as the check reads it, so a contract that is weakened fails here.
 -- Assumes nothing.
-use mathlib.Core.Path.{◌≡◌}
 use mathlib.Core.List.{List, ◌++◌}
 use mathlib.Core.Bool.{Bool}
 use Prim.Native.Nat.{ℕ}
@@ -8,6 +7,7 @@ use contract.Lifetimes.{Lfts}
 use denote.Ref.{Bor}
 use denote.Triple.Clauses.{AtExit}
 use Rattle.spans.specs.Only.{Decides, decides}
+use Rattle.std.specs.declared.cmp.Ordering.{Ordering}
 use Rattle.order.specs.declared.Ver.{Ver}
 use Rattle.order.specs.Order.{cmp_bytes, starts_with}
 use Rattle.order.specs.Bounds.{below_by, meet}
@@ -26,7 +26,6 @@ use Rattle.order.specs.contracts.Ver.new as new_fn
 use Rattle.order.proofs.Ver.new.Reads as new
 use Rattle.order.specs.contracts.Ver.newer as newer_fn
 use Rattle.order.proofs.Ver.newer.Reads as newer
-use Rattle.std.specs.declared.cmp.Ordering.{Ordering}
 
 pub compare_decided : (κs : Lfts 2) (a b : Bor (List ℕ)) (e : AtExit compare_fn.ended κs) → Decides (λ (r : Ordering). compare.Post κs (a, (b, tt)) r e) (λ (r : Ordering). r)
 compare_decided κs a b e = decides (λ (r : Ordering). r) (cmp_bytes a.now b.now)

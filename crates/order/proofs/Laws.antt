@@ -3,15 +3,16 @@
 use mathlib.Core.Path.{◌≡◌, refl, sym, ap, ap₂, ◌∙◌, subst}
 use mathlib.Core.List.{List, [], ◌∷◌, ◌++◌}
 use mathlib.Core.Bool.{Bool, true, false, cond}
-use Prim.Native.Nat.{ℕ, zero, suc, ◌≤◌, ◌<◌, suc-le-suc, zero-le}
+use Prim.Native.Nat.{ℕ, ◌≤◌, ◌<◌, suc-le-suc, zero-le}
 use native.Mathlib.Nat.{lt_of_not-le, le_antisymm}
 use native.Mathlib.Decide.{dec_le}
 use native.Mathlib.Omega.{arith}
-use lib.Dec.{ltb, eqb}
+use lib.Dec.{eqb}
 use lib.ListN.{length, take, drop}
 use borrow.Author.Tests.{lt-ltb, le-ltb, eq-eqb, ne_eqb}
-use Rattle.order.specs.Order.{by_number, cmp_bytes, is_equal, flip, starts_with}
 use Rattle.std.specs.declared.cmp.Ordering.{Ordering}
+use Rattle.std.specs.declared.cmp.Ordering.TheVariants.{Less, Equal, Greater}
+use Rattle.order.specs.Order.{by_number, cmp_bytes, is_equal, flip, starts_with}
 
 -- less, equal or greater
 pub case_order {ℓ} : {X : Type ℓ} (x y : ℕ) → (x < y → X) → (x ≡ y → X) → (y < x → X) → X
@@ -19,28 +20,28 @@ case_order x y f g h =
     elim (dec_le y x) [ no p ↦ f (lt_of_not-le p) | yes p ↦ elim (dec_le x y) [ no q ↦ h (lt_of_not-le q) | yes q ↦ g (le_antisymm q p) ] ]
 
 -- the three cases of a comparison of numbers
-pub is-less : (x y : ℕ) (k : Ordering) → x < y → by_number x y k ≡ Ordering.Less
+pub is-less : (x y : ℕ) (k : Ordering) → x < y → by_number x y k ≡ Less
 is-less x y k h = simp (lt-ltb x y h)
 
-pub is_greater : (x y : ℕ) (k : Ordering) → y < x → by_number x y k ≡ Ordering.Greater
+pub is_greater : (x y : ℕ) (k : Ordering) → y < x → by_number x y k ≡ Greater
 is_greater x y k h = simp (le-ltb x y (omega arith), lt-ltb y x h)
 
 pub is_same : (x y : ℕ) (k : Ordering) → x ≡ y → by_number x y k ≡ k
 is_same x y k h = simp (le-ltb x y (omega arith), le-ltb y x (omega arith))
 
 -- no answer is another
-pub less_greater {ℓ} : {X : Type ℓ} → Ordering.Less ≡ Ordering.Greater → X
+pub less_greater {ℓ} : {X : Type ℓ} → Less ≡ Greater → X
 less_greater e = let z : ◌≡◌ {A = ℕ} 0 1 = cc in absurd (omega arith)
 
-pub less_equal {ℓ} : {X : Type ℓ} → Ordering.Less ≡ Ordering.Equal → X
+pub less_equal {ℓ} : {X : Type ℓ} → Less ≡ Equal → X
 less_equal e = let z : ◌≡◌ {A = ℕ} 0 1 = cc in absurd (omega arith)
 
-pub greater_equal {ℓ} : {X : Type ℓ} → Ordering.Greater ≡ Ordering.Equal → X
+pub greater_equal {ℓ} : {X : Type ℓ} → Greater ≡ Equal → X
 greater_equal e = let z : ◌≡◌ {A = ℕ} 0 1 = cc in absurd (omega arith)
 
 -- ---- total: one of three, the other way round is the other answer, equal is the same bytes, and less goes through
 
-pub cmp_same : (xs : List ℕ) → cmp_bytes xs xs ≡ Ordering.Equal
+pub cmp_same : (xs : List ℕ) → cmp_bytes xs xs ≡ Equal
 unfolding cmp_bytes
 cmp_same [] = refl
 cmp_same (x ∷ xs) = is_same x x (cmp_bytes xs xs) refl ∙ cmp_same xs
@@ -56,13 +57,13 @@ cmp_flip (x ∷ xs) (y ∷ ys) =
     (λ h. is_same y x (cmp_bytes ys xs) (sym h) ∙ cmp_flip xs ys ∙ ap flip (sym (is_same x y (cmp_bytes xs ys) h)))
     (λ h. is-less y x (cmp_bytes ys xs) h ∙ ap flip (sym (is_greater x y (cmp_bytes xs ys) h)))
 
-pub cmp_greater : (a b : List ℕ) → cmp_bytes a b ≡ Ordering.Greater → cmp_bytes b a ≡ Ordering.Less
+pub cmp_greater : (a b : List ℕ) → cmp_bytes a b ≡ Greater → cmp_bytes b a ≡ Less
 cmp_greater a b e = cmp_flip a b ∙ ap flip e
 
-pub cmp_less : (a b : List ℕ) → cmp_bytes a b ≡ Ordering.Less → cmp_bytes b a ≡ Ordering.Greater
+pub cmp_less : (a b : List ℕ) → cmp_bytes a b ≡ Less → cmp_bytes b a ≡ Greater
 cmp_less a b e = cmp_flip a b ∙ ap flip e
 
-pub cmp_eq : (xs ys : List ℕ) → cmp_bytes xs ys ≡ Ordering.Equal → xs ≡ ys
+pub cmp_eq : (xs ys : List ℕ) → cmp_bytes xs ys ≡ Equal → xs ≡ ys
 unfolding cmp_bytes
 cmp_eq [] [] e = refl
 cmp_eq [] (y ∷ ys) e = less_equal e
@@ -72,7 +73,7 @@ cmp_eq (x ∷ xs) (y ∷ ys) e =
     (λ h. ap₂ (λ (a : ℕ) (r : List ℕ). a ∷ r) h (cmp_eq xs ys (sym (is_same x y (cmp_bytes xs ys) h) ∙ e)))
     (λ h. greater_equal (sym (is_greater x y (cmp_bytes xs ys) h) ∙ e))
 
-pub cmp_trans : (xs ys zs : List ℕ) → cmp_bytes xs ys ≡ Ordering.Less → cmp_bytes ys zs ≡ Ordering.Less → cmp_bytes xs zs ≡ Ordering.Less
+pub cmp_trans : (xs ys zs : List ℕ) → cmp_bytes xs ys ≡ Less → cmp_bytes ys zs ≡ Less → cmp_bytes xs zs ≡ Less
 unfolding cmp_bytes
 cmp_trans xs [] [] d e = less_equal (sym e)
 cmp_trans xs (y ∷ ys) [] d e = less_greater (sym e)
@@ -99,7 +100,7 @@ cmp_front [] xs ys = refl
 cmp_front (c ∷ p) xs ys = is_same c c (cmp_bytes (p ++ xs) (p ++ ys)) refl ∙ cmp_front p xs ys
 
 -- a proper prefix is less
-pub cmp_prefix : (xs : List ℕ) (y : ℕ) (ys : List ℕ) → cmp_bytes xs (xs ++ y ∷ ys) ≡ Ordering.Less
+pub cmp_prefix : (xs : List ℕ) (y : ℕ) (ys : List ℕ) → cmp_bytes xs (xs ++ y ∷ ys) ≡ Less
 unfolding cmp_bytes
 cmp_prefix [] y ys = refl
 cmp_prefix (x ∷ xs) y ys = is_same x x (cmp_bytes xs (xs ++ y ∷ ys)) refl ∙ cmp_prefix xs y ys
@@ -183,7 +184,7 @@ starts_self [] = refl
 starts_self (x ∷ p) = ap (λ (b : Bool). cond b (starts_with p p) false) (eq-eqb x x refl) ∙ starts_self p
 
 -- what does not begin with p is below it or above
-pub cmp_apart : (p x : List ℕ) → starts_with p x ≡ false → cmp_bytes p x ≡ Ordering.Equal → ⊥
+pub cmp_apart : (p x : List ℕ) → starts_with p x ≡ false → cmp_bytes p x ≡ Equal → ⊥
 cmp_apart p x e q =
     let f : starts_with p x ≡ true = subst (λ (y : List ℕ). starts_with p y ≡ true) (cmp_eq p x q) (starts_self p) in
     let z : ◌≡◌ {A = ℕ} 0 1 = cc in

@@ -3,3 +3,4 @@ pub mod Words
 pub mod Versions
 pub mod Bounds
 pub mod Decided
+pub mod Library

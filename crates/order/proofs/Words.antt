@@ -3,20 +3,19 @@
 use mathlib.Core.Path.{◌≡◌, refl, sym, ap, ap₂, ◌∙◌}
 use mathlib.Core.List.{List, [], ◌∷◌, ◌++◌}
 use mathlib.Core.Logic.{◌⊎◌, ⊎_elim}
-use Prim.Native.Nat.{ℕ, zero, suc, ◌+◌, ◌*◌, ◌^◌, ◌≤◌, ◌<◌}
-use native.Mathlib.Nat.{mul-le-mul_left, pow-suc}
+use Prim.Native.Nat.{ℕ, suc, ◌+◌, ◌*◌, ◌^◌, ◌≤◌, ◌<◌}
+use native.Mathlib.Nat.{mul-le-mul_left}
 use native.Mathlib.Numerals.{add-one}
 use native.Mathlib.Omega.{arith}
-use lib.Dec.{lit<}
 use lib.ListN.{length, take, drop, get_or, take-append-drop, drop_of_length-le}
 use lib.Seq.{drop-drop, drop-cons}
 use Rattle.spans.specs.Span.{part}
 use Rattle.spans.proofs.Part.{length_part}
-use Rattle.numbers.specs.Number.{Bytes, of_le, of_be, le_at, be_at}
-use Rattle.numbers.proofs.Numbers.{of_be-append, of_be_lt, of_be_inj, of_le_inj, bytes-part}
+use Rattle.numbers.specs.Number.{Bytes, of_le, of_be, be_at}
+use Rattle.numbers.proofs.Numbers.{of_be-append, of_be_lt, of_be_inj, bytes-part}
+use Rattle.std.specs.declared.cmp.Ordering.TheVariants.{Less, Equal, Greater}
 use Rattle.order.specs.Order.{by_number, cmp_bytes, flip}
 use Rattle.order.proofs.Laws.{case_order, is-less, is_greater, is_same, cmp_flip, cmp_front}
-use Rattle.std.specs.declared.cmp.Ordering.{Ordering}
 
 of_be_cons : (x : ℕ) (xs : List ℕ) → of_be (x ∷ xs) ≡ of_be xs + 256 ^ length xs * x
 unfolding of_be of_le
@@ -35,7 +34,7 @@ top x y xs ys l hy h =
 rest_weight : (x y : ℕ) (xs ys : List ℕ) → length xs ≡ length ys → x ≡ y → 256 ^ length xs * x ≡ 256 ^ length ys * y
 rest_weight x y xs ys l e = ap₂ (λ (k z : ℕ). 256 ^ k * z) l e
 
-word-less : (xs ys us vs : List ℕ) → length xs ≡ length ys → Bytes ys → of_be xs < of_be ys → cmp_bytes (xs ++ us) (ys ++ vs) ≡ Ordering.Less
+word-less : (xs ys us vs : List ℕ) → length xs ≡ length ys → Bytes ys → of_be xs < of_be ys → cmp_bytes (xs ++ us) (ys ++ vs) ≡ Less
 unfolding cmp_bytes
 word-less [] [] us vs l hy h = absurd (omega arith)
 word-less [] (y ∷ ys) us vs l hy h = absurd (omega arith)
@@ -76,52 +75,33 @@ module _ (a b : List ℕ) (ha : Bytes a) (hb : Bytes b) where
       ap₂ cmp_bytes (front a i w) (front b i w)
       ∙ words (part a i w) (part b i w) (drop (i + w) a) (drop (i + w) b) (length_part a i w p ∙ sym (length_part b i w q)) (bytes-part a i w ha) (bytes-part b i w hb)
 
-  module _ (w i : ℕ) (p : i + w ≤ length a) (q : i + w ≤ length b) where
-    -- equal words, read in either order, are the same bytes
-    pub step_equal : le_at w a i ≡ le_at w b i → cmp_bytes (drop i a) (drop i b) ≡ cmp_bytes (drop (i + w) a) (drop (i + w) b)
-    unfolding le_at
-    step_equal e =
-        let l : length (part a i w) ≡ length (part b i w) = length_part a i w p ∙ sym (length_part b i w q) in
-        ap₂ cmp_bytes (front a i w) (front b i w)
-        ∙ ap (λ (r : List ℕ). cmp_bytes (r ++ drop (i + w) a) (part b i w ++ drop (i + w) b)) (of_le_inj (part a i w) (part b i w) l (bytes-part a i w ha) (bytes-part b i w hb) e)
-        ∙ cmp_front (part b i w) (drop (i + w) a) (drop (i + w) b)
-
-    pub step_less : be_at w a i < be_at w b i → cmp_bytes (drop i a) (drop i b) ≡ Ordering.Less
-    step_less h = step w i p q ∙ is-less (be_at w a i) (be_at w b i) _ h
-
-    pub step_greater : be_at w b i < be_at w a i → cmp_bytes (drop i a) (drop i b) ≡ Ordering.Greater
-    step_greater h = step w i p q ∙ is_greater (be_at w a i) (be_at w b i) _ h
-
-    pub step_same : be_at w a i ≤ be_at w b i → be_at w b i ≤ be_at w a i → cmp_bytes (drop i a) (drop i b) ≡ cmp_bytes (drop (i + w) a) (drop (i + w) b)
-    step_same h k = step w i p q ∙ is_same (be_at w a i) (be_at w b i) _ (omega arith)
-
 -- a byte, as an element of the list
 module _ (a b : List ℕ) (i : ℕ) (p : i < length a) (q : i < length b) where
   byte : cmp_bytes (drop i a) (drop i b) ≡ by_number (get_or a i 0) (get_or b i 0) (cmp_bytes (drop (i + 1) a) (drop (i + 1) b))
   unfolding cmp_bytes
   byte = rw (drop-cons a i 0 p, drop-cons b i 0 q, add-one i) refl
 
-  pub byte_less : get_or a i 0 < get_or b i 0 → cmp_bytes (drop i a) (drop i b) ≡ Ordering.Less
+  pub byte_less : get_or a i 0 < get_or b i 0 → cmp_bytes (drop i a) (drop i b) ≡ Less
   byte_less h = byte ∙ is-less _ _ _ h
 
-  pub byte_greater : get_or b i 0 < get_or a i 0 → cmp_bytes (drop i a) (drop i b) ≡ Ordering.Greater
+  pub byte_greater : get_or b i 0 < get_or a i 0 → cmp_bytes (drop i a) (drop i b) ≡ Greater
   byte_greater h = byte ∙ is_greater _ _ _ h
 
   pub byte_same : get_or a i 0 ≤ get_or b i 0 → get_or b i 0 ≤ get_or a i 0 → cmp_bytes (drop i a) (drop i b) ≡ cmp_bytes (drop (i + 1) a) (drop (i + 1) b)
   byte_same h k = byte ∙ is_same (get_or a i 0) (get_or b i 0) _ (omega arith)
 
 -- where one string ends, the lengths decide
-pub ends : (a b : List ℕ) (i : ℕ) → i ≤ length a → i ≤ length b → (length a ≤ i) ⊎ (length b ≤ i) → cmp_bytes (drop i a) (drop i b) ≡ by_number (length a) (length b) Ordering.Equal
+pub ends : (a b : List ℕ) (i : ℕ) → i ≤ length a → i ≤ length b → (length a ≤ i) ⊎ (length b ≤ i) → cmp_bytes (drop i a) (drop i b) ≡ by_number (length a) (length b) Equal
 unfolding cmp_bytes
 ends a b i p q o =
     case_order (length a) (length b)
     (λ h.
     let la : length a ≤ i = ⊎_elim (λ x. x) (λ x. omega arith) o in
-    rw (drop_of_length-le a la, drop-cons b i 0 (omega arith)) (sym (is-less (length a) (length b) Ordering.Equal h)))
+    rw (drop_of_length-le a la, drop-cons b i 0 (omega arith)) (sym (is-less (length a) (length b) Equal h)))
     (λ h.
     let la : length a ≤ i = ⊎_elim (λ x. x) (λ x. omega arith) o in
     let lb : length b ≤ i = ⊎_elim (λ x. omega arith) (λ x. x) o in
-    rw (drop_of_length-le a la, drop_of_length-le b lb) (sym (is_same (length a) (length b) Ordering.Equal h)))
+    rw (drop_of_length-le a la, drop_of_length-le b lb) (sym (is_same (length a) (length b) Equal h)))
     (λ h.
     let lb : length b ≤ i = ⊎_elim (λ x. omega arith) (λ x. x) o in
-    rw (drop_of_length-le b lb, drop-cons a i 0 (omega arith)) (sym (is_greater (length a) (length b) Ordering.Equal h)))
+    rw (drop_of_length-le b lb, drop-cons a i 0 (omega arith)) (sym (is_greater (length a) (length b) Equal h)))

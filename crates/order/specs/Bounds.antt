@@ -1,8 +1,8 @@
 -- Keys between two boundaries (order 4): "a key below lo, or not below a nonempty hi, is refused, a lo not below a nonempty hi too".
 -- Assumes nothing.
 use Rattle.std.specs.Prelude.{ℕ, List, [], ◌∷◌, Bool, true, false, not, ◌&&◌}
-use Rattle.order.specs.Order.{cmp_bytes, is_equal, is_less}
 use Rattle.std.specs.declared.cmp.Ordering.{Ordering}
+use Rattle.order.specs.Order.{cmp_bytes, is_equal, is_less}
 
 -- below hi, by how it compares with hi; an empty hi is none, and everything is below it
 abbrev pub below_by : Ordering → List ℕ → Bool

@@ -12,12 +12,13 @@ use Rattle.spans.specs.Span.{part}
 use Rattle.spans.proofs.Part.{length_part, part-one}
 use Rattle.numbers.specs.Number.{Bytes, of_le, of_be, be_at}
 use Rattle.numbers.proofs.Numbers.{of_be_lt, bytes-part}
+use Rattle.std.specs.declared.cmp.Ordering.{Ordering}
+use Rattle.std.specs.declared.cmp.Ordering.TheVariants.{Equal}
 use Rattle.order.specs.Order.{by_number, cmp_bytes}
 use Rattle.order.proofs.Laws.{case_order, is-less, is_greater, is_same}
 use Rattle.order.proofs.Words.{step}
 use Rattle.order_pair.specs.Word.{word_of}
 use Rattle.order_pair.proofs.Overlap.{two, ends_level}
-use Rattle.std.specs.declared.cmp.Ordering.{Ordering}
 
 -- a number of two digits: the higher decides first
 joined : (m x y u v : ℕ) (k : Ordering) → u < m → v < m → by_number (m * x + u) (m * y + v) k ≡ by_number x y (by_number u v k)
@@ -62,25 +63,25 @@ module _ (t : List ℕ) (n : ℕ) (e : n ≡ length t) where
 module _ (a b : List ℕ) (ha : Bytes a) (hb : Bytes b) (n : ℕ) (ea : n ≡ length a) (eb : n ≡ length b) where
   -- two words that cover a string
   covered : (w : ℕ) → w ≤ n → n ≤ w + w
-      → cmp_bytes a b ≡ by_number (256 ^ w * be_at w a 0 + be_at w a (n - w)) (256 ^ w * be_at w b 0 + be_at w b (n - w)) Ordering.Equal
+      → cmp_bytes a b ≡ by_number (256 ^ w * be_at w a 0 + be_at w a (n - w)) (256 ^ w * be_at w b 0 + be_at w b (n - w)) Equal
   covered w h l =
       two a b ha hb w 0 (n - w) (omega arith) (omega arith) (omega arith) (omega arith)
       ∙ ap (λ (k : Ordering). by_number (be_at w a 0) (be_at w b 0) (by_number (be_at w a (n - w)) (be_at w b (n - w)) k)) (ends_level a b (n - w + w) (omega arith) (omega arith))
-      ∙ sym (joined (256 ^ w) (be_at w a 0) (be_at w b 0) (be_at w a (n - w)) (be_at w b (n - w)) Ordering.Equal (be_at_lt a (n - w) w (omega arith) ha) (be_at_lt b (n - w) w (omega arith) hb))
+      ∙ sym (joined (256 ^ w) (be_at w a 0) (be_at w b 0) (be_at w a (n - w)) (be_at w b (n - w)) Equal (be_at_lt a (n - w) w (omega arith) ha) (be_at_lt b (n - w) w (omega arith) hb))
 
   -- fewer than eight bytes stand as their numbers
-  pub by_word : n < 8 → cmp_bytes a b ≡ by_number (word_of a) (word_of b) Ordering.Equal
+  pub by_word : n < 8 → cmp_bytes a b ≡ by_number (word_of a) (word_of b) Equal
   by_word h =
       elim (dec_le 4 n) [
-        | yes p ↦ covered 4 p (omega arith) ∙ sym (ap₂ (λ (x y : ℕ). by_number x y Ordering.Equal) (word_4 a n ea p) (word_4 b n eb p))
+        | yes p ↦ covered 4 p (omega arith) ∙ sym (ap₂ (λ (x y : ℕ). by_number x y Equal) (word_4 a n ea p) (word_4 b n eb p))
         | no p ↦ elim (dec_le 2 n) [
-          | yes q ↦ covered 2 q (omega arith) ∙ sym (ap₂ (λ (x y : ℕ). by_number x y Ordering.Equal) (word_2 a n ea (omega arith) q) (word_2 b n eb (omega arith) q))
+          | yes q ↦ covered 2 q (omega arith) ∙ sym (ap₂ (λ (x y : ℕ). by_number x y Equal) (word_2 a n ea (omega arith) q) (word_2 b n eb (omega arith) q))
           | no q ↦ elim (dec_le 1 n) [
             | yes r ↦ step a b ha hb 1 0 (omega arith) (omega arith)
                 ∙ ap (λ (k : Ordering). by_number (be_at 1 a 0) (be_at 1 b 0) k) (ends_level a b 1 (omega arith) (omega arith))
-                ∙ sym (ap₂ (λ (x y : ℕ). by_number x y Ordering.Equal) (word_1 a n ea (omega arith)) (word_1 b n eb (omega arith)))
+                ∙ sym (ap₂ (λ (x y : ℕ). by_number x y Equal) (word_1 a n ea (omega arith)) (word_1 b n eb (omega arith)))
             | no r ↦ ends_level a b 0 (omega arith) (omega arith)
-                ∙ sym (ap₂ (λ (x y : ℕ). by_number x y Ordering.Equal) (word_0 a n ea (omega arith)) (word_0 b n eb (omega arith)))
+                ∙ sym (ap₂ (λ (x y : ℕ). by_number x y Equal) (word_0 a n ea (omega arith)) (word_0 b n eb (omega arith)))
           ]
         ]
       ]

@@ -11,18 +11,18 @@ use Rattle.spans.specs.Span.{part}
 use Rattle.spans.proofs.Part.{length_part}
 use Rattle.numbers.specs.Number.{Bytes, le_at, be_at}
 use Rattle.numbers.proofs.Numbers.{of_be_inj, of_le_inj, bytes-part}
+use Rattle.std.specs.declared.cmp.Ordering.TheVariants.{Equal}
 use Rattle.order.specs.Order.{by_number, cmp_bytes}
 use Rattle.order.proofs.Laws.{case_order, is-less, is_greater, is_same, cmp_front}
 use Rattle.order.proofs.Words.{step, ends}
-use Rattle.std.specs.declared.cmp.Ordering.{Ordering}
 
 front : (a : List ℕ) (i w : ℕ) → drop i a ≡ part a i w ++ drop (i + w) a
 unfolding part
 front a i w = sym (take-append-drop w (drop i a)) ∙ ap (λ (r : List ℕ). take w (drop i a) ++ r) (drop-drop w i a)
 
 -- strings of one length are equal where both end
-pub ends_level : (a b : List ℕ) (k : ℕ) → k ≡ length a → length a ≡ length b → cmp_bytes (drop k a) (drop k b) ≡ Ordering.Equal
-ends_level a b k h e = ends a b k (omega arith) (omega arith) (inl (omega arith)) ∙ is_same (length a) (length b) Ordering.Equal e
+pub ends_level : (a b : List ℕ) (k : ℕ) → k ≡ length a → length a ≡ length b → cmp_bytes (drop k a) (drop k b) ≡ Equal
+ends_level a b k h e = ends a b k (omega arith) (omega arith) (inl (omega arith)) ∙ is_same (length a) (length b) Equal e
 
 -- behind a common front
 pub behind : (a b : List ℕ) (p : ℕ) → take p a ≡ take p b → cmp_bytes a b ≡ cmp_bytes (drop p a) (drop p b)

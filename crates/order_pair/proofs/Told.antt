@@ -7,6 +7,7 @@ use Prim.Native.Nat.{ℕ, ◌+◌, ◌≤◌, ◌<◌}
 use native.Mathlib.Omega.{arith}
 use lib.ListN.{length, take, drop}
 use Rattle.numbers.specs.Number.{Bytes, be_at}
+use Rattle.std.specs.declared.cmp.Ordering.{Ordering}
 use Rattle.order.specs.Order.{by_number, cmp_bytes}
 use Rattle.order.proofs.Laws.{case_order, is-less, is_greater, is_same}
 use Rattle.order.proofs.Words.{step}
@@ -15,7 +16,6 @@ use Rattle.order_pair.specs.Word.{word_of}
 use Rattle.order_pair.specs.Apart.{StandsAs}
 use Rattle.order_pair.proofs.Overlap.{behind, ends_level}
 use Rattle.order_pair.proofs.Joined.{by_word}
-use Rattle.std.specs.declared.cmp.Ordering.{Ordering}
 
 -- numbers that differ, whatever follows
 unlike : (x y : ℕ) (k l : Ordering) → (x ≡ y → ⊥) → by_number x y k ≡ by_number x y l

@@ -1,9 +1,9 @@
 -- What two numbers say of two strings.
 -- Assumes nothing.
 use Rattle.std.specs.Prelude.{ℕ, ◌≡◌, List, true}
+use Rattle.std.specs.declared.cmp.Ordering.{Ordering}
 use Rattle.order.specs.Order.{by_number, cmp_bytes}
 use Rattle.order_pair.specs.declared.Pair.{Pair}
-use Rattle.std.specs.declared.cmp.Ordering.{Ordering}
 
 -- the strings stand as the numbers where these differ, and are the same where these are and say all
 pub record StandsAs (a b : List ℕ) (r : Pair) : Type 0 where

@@ -11,17 +11,15 @@ fn pairs(a: &[u8], b: &[u8], n: usize) -> usize
     requires { (n ≤ length a.now) × (n ≤ length b.now) }
     ensures { (result ≤ n) × (take result a.now ≡ take result b.now) }
 {
-    let mut i: usize = 0;
-    while 16 <= n - i {
-        if numbers::read_u64(a, i) != numbers::read_u64(b, i) {
+    for k in 0..n / 16 {
+        let i = 16 * k;
+        if numbers::read_u64(a, i) != numbers::read_u64(b, i)
+            || numbers::read_u64(a, i + 8) != numbers::read_u64(b, i + 8)
+        {
             return i;
         }
-        if numbers::read_u64(a, i + 8) != numbers::read_u64(b, i + 8) {
-            return i;
-        }
-        i += 16;
     }
-    i
+    n - n % 16
 }
 
 // The same, eight at a time: plain loads, in either byte order.
@@ -29,17 +27,18 @@ fn same(a: &[u8], b: &[u8], n: usize) -> usize
     requires { (n ≤ length a.now) × (n ≤ length b.now) }
     ensures { (result ≤ n) × (take result a.now ≡ take result b.now) }
 {
-    let mut i = pairs(a, b, n);
-    while 8 <= n - i {
+    let from = pairs(a, b, n);
+    for k in 0..(n - from) / 8 {
+        let i = from + 8 * k;
         if numbers::read_u64(a, i) != numbers::read_u64(b, i) {
             return i;
         }
-        i += 8;
     }
-    i
+    n - (n - from) % 8
 }
 
 // Where eight bytes decide: behind what is the same, or the last eight.
+#[tactic(auto, using(crate::proofs::Overlap::nearer))]
 fn spot_of(a: &[u8], b: &[u8], n: usize) -> usize
     requires le_n { 8 ≤ n }
     requires n_in_bounds { (n ≤ length a.now) × (n ≤ length b.now) }

@@ -1,15 +1,14 @@
 -- The laws of `part`.
 -- Assumes nothing.
-use mathlib.Core.Path.{◌≡◌, refl, sym, ap, ap₂, ◌∙◌, subst}
+use mathlib.Core.Path.{◌≡◌, refl, sym, ap, ap₂, ◌∙◌}
 use mathlib.Core.List.{List, [], ◌∷◌, ◌++◌}
 use Prim.Native.Nat.{ℕ, zero, suc, ◌+◌, ◌-◌, ◌≤◌, ◌<◌}
-use native.Mathlib.Nat.{add-zero}
 use native.Mathlib.Numerals.{add-one}
 use native.Mathlib.Omega.{arith}
 use native.Mathlib.Decide.{dec_le}
 use native.Mathlib.Nat.{lt_of_not-le}
-use lib.ListN.{length, take, drop, get_or, length-take, length-drop, get_or-eq_default}
-use lib.Seq.{take-take, drop-drop, get_or-take, get_or-drop, take-add, drop-cons, take-append_seam, drop-append_seam, take-length, drop-append-le, take-append-le, take_all}
+use lib.ListN.{length, take, drop, get_or, length-take, length-drop}
+use lib.Seq.{take-take, drop-drop, get_or-take, get_or-drop, take-add, drop-cons, take-append_seam, drop-append_seam, take-length, take_all}
 use borrow.Author.Tests.{le-leb, lt-leb}
 use Rattle.spans.specs.Span.{part, part_or}
 

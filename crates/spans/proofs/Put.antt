@@ -1,15 +1,16 @@
--- The laws of `put`: lengths, stretches that touch, what lies below and above, and the turn of every loop that stores.
+-- The laws of `put`: lengths, stretches that touch, what lies below and above, and what is written to a part of a slice.
 -- Assumes nothing.
-use mathlib.Core.Path.{◌≡◌, refl, sym, ap, ap₂, ◌∙◌, subst}
+use mathlib.Core.Path.{◌≡◌, refl, sym, ap, ap₂, ◌∙◌}
 use mathlib.Core.List.{List, [], ◌∷◌, ◌++◌, append_assoc}
-use mathlib.Core.Bool.{Bool, true, false, cond}
-use Prim.Native.Nat.{ℕ, zero, suc, ◌+◌, ◌-◌, ◌≤◌, ◌<◌}
-use native.Mathlib.Nat.{add-zero, add_assoc}
+use mathlib.Core.Bool.{Bool, true, false}
+use Prim.Native.Nat.{ℕ, ◌+◌, ◌≤◌, ◌<◌}
+use native.Mathlib.Nat.{add-zero}
 use native.Mathlib.Numerals.{add-one}
 use native.Mathlib.Omega.{arith}
-use lib.ListN.{length, take, drop, get_or, set, length-set, drop_of_length-le, replicate}
+use lib.ListN.{length, take, drop, get_or, set, length-set}
 use borrow.Author.Tests.{le-leb, lt-leb}
-use lib.Seq.{sets, sets-eq, take-set-le, drop-cons, take-append_seam, drop_at, length-take-le, get_or-set_other}
+use borrow.Rule.Slice.PartMut.{put_mid}
+use lib.Seq.{sets, drop-drop, sets-eq, take-set-le, drop-cons, take-append_seam, drop_at, length-take-le, get_or-set_other}
 use Rattle.spans.specs.Span.{part, put, put_if, count_if, Stored}
 use Rattle.spans.proofs.Part.{part_agree}
 
@@ -68,6 +69,11 @@ put_sets a i (b ∷ x) = put_sets (set a i b) (i + 1) x ∙ ap (λ (k : ℕ). se
 pub put_cut : (a : List ℕ) (i : ℕ) (x : List ℕ) → i + length x ≤ length a → put a i x ≡ take i a ++ x ++ drop (i + length x) a
 put_cut a i x h = put_sets a i x ∙ sets-eq x a i h
 
+-- what is written to a part of a slice is stored there
+pub put_mid-put : (a : List ℕ) (i k : ℕ) (x : List ℕ) → k ≡ length x → i + k ≤ length a → put_mid i k a x ≡ put a i x
+put_mid-put a i k x e h =
+    sym (put_cut a i x (omega arith) ∙ append_assoc (take i a) x (drop (i + length x) a) ∙ ap (λ (r : List ℕ). take i a ++ (x ++ r)) (ap (λ (n : ℕ). drop (i + n) a) (sym e) ∙ sym (drop-drop k i a)))
+
 -- what was stored is read back
 pub part-put : (a : List ℕ) (i : ℕ) (x : List ℕ) → i + length x ≤ length a → part (put a i x) i (length x) ≡ x
 unfolding part
@@ -77,8 +83,7 @@ part-put a i x h =
     ∙ ap (λ (l : List ℕ). take (length x) l) (drop_at (take i a) (x ++ drop (i + length x) a) i (length-take-le i a (omega arith)))
     ∙ take-append_seam x (drop (i + length x) a))
 
--- ---- a loop that stores s from i on, a byte a turn: storing what is still to come gives the whole
-
+-- the turn of a loop that stores s from i on, a byte a turn: storing what is still to come gives the whole
 pub put_turn : (a : List ℕ) (i : ℕ) (s : List ℕ) (j v : ℕ) → j < length s → get_or s j 0 ≡ v
     → put (set a (i + j) v) (i + (j + 1)) (drop (j + 1) s) ≡ put a (i + j) (drop j s)
 put_turn a i s j v h e =
@@ -87,18 +92,6 @@ put_turn a i s j v h e =
     (ap (put a (i + j)) (drop-cons s j 0 h ∙ ap₂ (λ (x n : ℕ). x ∷ drop n s) e (sym (add-one j)))
     ∙ put_cons a (i + j) v (drop (j + 1) s)
     ∙ ap (λ (n : ℕ). put (set a (i + j) v) n (drop (j + 1) s)) k)
-
-pub put_begin : (a : List ℕ) (i : ℕ) (s : List ℕ) → put a (i + 0) (drop 0 s) ≡ put a i s
-put_begin a i s = ap (λ (n : ℕ). put a n s) (add-zero i)
-
-pub put-end : (a : List ℕ) (i : ℕ) (s : List ℕ) (j : ℕ) → length s ≤ j → put a i (drop j s) ≡ a
-put-end a i s j h = ap (put a i) (drop_of_length-le s h) ∙ put_nil a i
-
--- zeros
-pub get_d_zeros : (n k : ℕ) → ◌≡◌ {A = ℕ} (get_or (replicate n 0) k 0) 0
-get_d_zeros zero k = refl
-get_d_zeros (suc n) zero = refl
-get_d_zeros (suc n) (suc k) = get_d_zeros n k
 
 -- ---- a store that takes any index
 

@@ -9,11 +9,7 @@ pub fn copy(dst: &mut [u8], at: usize, src: &[u8])
     requires { at + length src.now ≤ length dst.old }
     ensures { dst.new ≡ put dst.old at src.now }
 {
-    let mut j = 0;
-    while j < src.len() {
-        dst[at + j] = src[j];
-        j += 1;
-    }
+    dst[at..at + src.len()].copy_from_slice(src);
 }
 
 // Stores the n bytes from index from on once more, from index to on, which lies behind them.
@@ -21,11 +17,7 @@ pub fn copy_within(arena: &mut [u8], from: usize, to: usize, n: usize)
     requires { (from + n ≤ to) × (to + n ≤ length arena.old) }
     ensures { arena.new ≡ put arena.old to (part arena.old from n) }
 {
-    let mut j = 0;
-    while j < n {
-        arena[to + j] = arena[from + j];
-        j += 1;
-    }
+    arena.copy_within(from..from + n, to);
 }
 
 // Stores n zeros from at on.
@@ -33,18 +25,14 @@ pub fn zeros(dst: &mut [u8], at: usize, n: usize)
     requires { at + n ≤ length dst.old }
     ensures { dst.new ≡ put dst.old at (replicate n 0) }
 {
-    let mut j = 0;
-    while j < n {
-        dst[at + j] = 0;
-        j += 1;
-    }
+    dst[at..at + n].fill(0);
 }
 
 // The difference, 0 where it would be less.
 pub fn less(a: usize, b: usize) -> usize
     ensures { result ≡ a - b }
 {
-    if b <= a { a - b } else { 0 }
+    a.saturating_sub(b)
 }
 
 // The next index of a walk, or, back, the one before, not below 0.
@@ -52,37 +40,24 @@ pub fn onward(back: bool, i: usize) -> usize
     requires { i + 1 < 2 ^ 64 }
     ensures { result ≡ cond back (i - 1) (i + 1) }
 {
-    if back {
-        if i == 0 {
-            return 0;
-        }
-        return i - 1;
-    }
-    i + 1
+    if back { i.saturating_sub(1) } else { i + 1 }
 }
 
 // Whether n bytes from at on lie in len: no sum that could wrap.
 pub fn room(len: usize, at: usize, n: usize) -> bool
     ensures { result ≡ leb (at + n) len }
 {
-    if len < n {
-        return false;
-    }
-    at <= len - n
+    n <= len && at <= len - n
 }
 
 // The n bytes from at on, lent on; the empty part where they are not all there. Total, so its callers show nothing.
+#[tactic(auto, unfolding(crate::specs::Span::part, crate::specs::Span::part_or))]
 pub fn part_of(s: &[u8], at: usize, n: usize) -> &[u8]
     ensures { result.now ≡ part_or s.now at n }
 {
-    if at <= s.len() {
-        if n <= s.len() - at {
-            let e = at + n;
-            &s[at..e]
-        } else {
-            &s[..0]
-        }
+    if room(s.len(), at, n) {
+        &s[at..at + n]
     } else {
-        &s[..0]
+        &[]
     }
 }

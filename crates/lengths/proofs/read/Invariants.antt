@@ -1,12 +1,9 @@
 use mathlib.Core.Path.{◌≡◌}
-use Prim.Native.Nat.{◌-◌, ◌<◌, ◌≤◌}
-use lib.ListN.{drop}
+use Prim.Native.Nat.{◌+◌, ◌-◌, ◌<◌, ◌≤◌}
+use lib.ListN.{drop, length}
 use Rattle.lengths.specs.Leb128.{read_len, within, carry, dec}
 use Rattle.lengths.proofs.Laws.{weight}
 use Rattle.lengths.proofs.read.Given as goal
 
-abbrev pub invariant-loop-left : goal.invariant-loop-left
-invariant-loop-left l = (l.left ≤ 4) × (l.p ≡ weight l.left) × (l.v < l.p) × (read_len l.s l.at ≡ within (carry l.v l.p (dec l.left (drop l.here l.s) l.here)))
-
-abbrev pub decreases-loop-left : goal.decreases-loop-left
-decreases-loop-left l = l.left
+abbrev pub invariant-loop-k : goal.invariant-loop-k
+invariant-loop-k l = (l.p ≡ weight (5 - l.k)) × (l.v < l.p) × (l.at + l.k ≤ length l.s) × (read_len l.s l.at ≡ within (carry l.v l.p (dec (5 - l.k) (drop (l.at + l.k) l.s) (l.at + l.k))))

@@ -1,15 +1,9 @@
-use mathlib.Core.Path.{refl, ap, ◌∙◌}
-use Prim.Native.Nat.{◌-◌}
+use mathlib.Core.Path.{ap, ◌∙◌}
 use native.Mathlib.Omega.{arith}
 use lib.ListN.{length}
-use Rattle.spans.specs.Span.{put}
-use Rattle.lengths.specs.Leb128.{uleb}
 use Rattle.lengths.proofs.Laws.{put_more, put_last, uleb-last, uleb_more}
 use borrow.Author.Rules.{rules}
 use Rattle.lengths.proofs.store.Goals as goal
-
-pub loop-n-init : goal.loop-n-init
-loop-n-init c = (omega arith, refl, refl, refl)
 
 pub bounds-buf-i : goal.bounds-buf-i
 bounds-buf-i c = omega (arith, ap length (uleb_more c.loop-n.n (omega arith) (omega arith)))

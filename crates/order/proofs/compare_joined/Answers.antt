@@ -18,5 +18,5 @@ pub returns-then-starts_with : goal.returns-then-starts_with
 returns-then-starts_with c = let e : c.compare.result ≡ cmp_bytes c.args.r.now (drop (length c.args.p.now) c.args.x.now) = simp (c.compare.ensures, tail_part) in
     e ∙ joined_starts c.args.p.now c.args.r.now c.args.x.now (sym c.starts_with.ensures ∙ c.if-starts_with.true)
 
-pub returns : goal.returns
-returns c = c.compare-2.ensures ∙ sym (cmp_beside c.args.p.now c.args.r.now c.args.x.now (sym c.starts_with.ensures ∙ c.if-starts_with.false))
+pub returns-else-starts_with : goal.returns-else-starts_with
+returns-else-starts_with c = c.compare-else-starts_with.ensures ∙ sym (cmp_beside c.args.p.now c.args.r.now c.args.x.now (sym c.starts_with.ensures ∙ c.if-starts_with.false))

@@ -12,9 +12,6 @@ pub returns-then-n-ge2 : goal.returns-then-n-ge2
 returns-then-n-ge2 c = let t = c.args.t.now in
     omega (arith, c.read_u16_be-x.ensures, c.read_u16_be-y.ensures, word_2 t (length t) refl (omega (arith, c.if-n-ge4.false)) (omega (arith, c.if-n-ge2.true)))
 
-pub overflow_cast-result : goal.overflow_cast-result
-overflow_cast-result c = omega (arith, c.type_inv.t 0)
-
 pub returns-then-n-eq1 : goal.returns-then-n-eq1
 returns-then-n-eq1 c = let t = c.args.t.now in
     sym (word_1 t (length t) refl c.if-n-eq1.true ∙ be_at-one t 0 (omega (arith, c.if-n-eq1.true)))

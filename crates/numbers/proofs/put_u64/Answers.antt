@@ -1,6 +1,0 @@
-use Rattle.numbers.proofs.Numbers.{both_le}
-use Rattle.numbers.proofs.put_u64.Goals as goal
-
-pub returns : goal.returns
-returns c = let a = c.args in
-    both_le a.buf.now _ _ a.at 4 4 a.x c.put_u32.ensures c.put_u32-2.ensures
