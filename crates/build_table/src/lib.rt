@@ -283,15 +283,10 @@ pub fn build_leaves(
     ensures a_after { a.new ≡ leaf_arena a.old next m (bounds_of none.now none.now (take next a.old) e) (in_leaves (take next a.old) b from end d n) }
 {
     let len = a.len();
-    let v = judge_leaves(&a[..next], b, from, end, d, n, len, next, m, none, e);
-    match v {
-        Err(r) => Err(r),
-        Ok(t) => {
-            let stop = t.end;
-            let leaf = build_leaf::write_leaves(a, next, b, from, end, d, n, next, m, t, none, e);
-            Ok((Addr(leaf as u64), stop))
-        }
-    }
+    let t = judge_leaves(&a[..next], b, from, end, d, n, len, next, m, none, e)?;
+    let stop = t.end;
+    let leaf = build_leaf::write_leaves(a, next, b, from, end, d, n, next, m, t, none, e);
+    Ok((Addr(leaf as u64), stop))
 }
 
 // ---- why a list is refused
@@ -373,15 +368,10 @@ pub fn build_list(
     ensures a_after { a.new ≡ of_list list.now (take next a.old) 0 a.old (leaf_arena a.old next m (bounds_of lo.now hi.now (take next a.old) e)) }
 {
     let len = a.len();
-    let v = judge_list(list, &a[..next], from, len, next, m, lo, hi, e);
-    match v {
-        Err(r) => Err(r),
-        Ok(t) => {
-            let end = t.end;
-            let leaf = build_leaf::write_list(a, next, list, next, m, t, lo, hi, e);
-            Ok((Addr(leaf as u64), end))
-        }
-    }
+    let t = judge_list(list, &a[..next], from, len, next, m, lo, hi, e)?;
+    let end = t.end;
+    let leaf = build_leaf::write_list(a, next, list, next, m, t, lo, hi, e);
+    Ok((Addr(leaf as u64), end))
 }
 
 // ---- an index list
@@ -432,14 +422,9 @@ pub fn build_index_list(
     ensures a_after { a.new ≡ of_list list.now (take next a.old) 1 a.old (index_arena a.old next m (bounds_of lo.now hi.now (take next a.old) e)) }
 {
     let len = a.len();
-    let v = judge_index_list(list, &a[..next], from, len, next, lo, hi, e);
-    match v {
-        Err(r) => Err(r),
-        Ok((n, size)) => {
-            build_index::write_list(a, next, list, next, m, n, size, lo, hi, e);
-            Ok((Addr(next as u64), next + frames::frame_len(size as u32)))
-        }
-    }
+    let (n, size) = judge_index_list(list, &a[..next], from, len, next, lo, hi, e)?;
+    build_index::write_list(a, next, list, next, m, n, size, lo, hi, e);
+    Ok((Addr(next as u64), next + frames::frame_len(size as u32)))
 }
 
 // ---- two index pages
@@ -500,12 +485,7 @@ pub fn build_indexes(
     ensures a_after { a.new ≡ index_arena a.old next m (bounds_of none.now none.now (take next a.old) e) (index_entries (take next a.old) b (end - from) from ++ index_entries (take next a.old) d count 0) }
 {
     let len = a.len();
-    let v = judge_indexes(&a[..next], b, from, end, d, count, len, next, none, e);
-    match v {
-        Err(r) => Err(r),
-        Ok((n, size)) => {
-            build_index::write_pages(a, next, b, from, end, d, count, next, m, n, size, none, e);
-            Ok((Addr(next as u64), next + frames::frame_len(size as u32)))
-        }
-    }
+    let (n, size) = judge_indexes(&a[..next], b, from, end, d, count, len, next, none, e)?;
+    build_index::write_pages(a, next, b, from, end, d, count, next, m, n, size, none, e);
+    Ok((Addr(next as u64), next + frames::frame_len(size as u32)))
 }

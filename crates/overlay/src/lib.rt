@@ -44,20 +44,14 @@ fn page_value(s: &[u8], b: Body, i: usize) -> Result<Laid, Refusal>
 fn is_probe(t: &[u8], key: Place, probe: &[u8]) -> bool
     ensures { result ≡ is_probe t.now key probe.now }
 {
-    match order::compare(pages::part_at(t, key), probe) {
-        Ordering::Less => false,
-        Ordering::Equal => true,
-        Ordering::Greater => false,
-    }
+    order::is_equal(order::compare(pages::part_at(t, key), probe))
 }
 
 fn delta_value(t: &[u8], d: Addr) -> Result<Laid, Refusal>
     ensures { result ≡ delta_value t.now d }
 {
-    match delta::val(t, d) {
-        Ok(p) => Ok(Laid::Delta(p)),
-        Err(r) => Err(r),
-    }
+    let p = delta::val(t, d)?;
+    Ok(Laid::Delta(p))
 }
 
 // ---- both
@@ -101,13 +95,9 @@ fn laid_by(
 pub fn answer(s: &[u8], a: Addr, t: &[u8], d: Addr, probe: &[u8]) -> Result<Laid, Refusal>
     ensures { result ≡ laid_at s.now a t.now d probe.now }
 {
-    match delta::key(t, d) {
-        Err(r) => Err(r),
-        Ok(LeafKey { ver, key }) => {
-            let mine = is_probe(t, key, probe);
-            laid_by(s, a, t, d, probe, mine, ver)
-        }
-    }
+    let k = delta::key(t, d)?;
+    let mine = is_probe(t, k.key, probe);
+    laid_by(s, a, t, d, probe, mine, k.ver)
 }
 
 // ---- the value, lent on

@@ -1,6 +1,6 @@
 -- `build_table::build_indexes` meets its contract. Assumes nothing.
 use native.Mathlib.Omega.{arith}
-use mathlib.Core.Path.{sym}
+use mathlib.Core.Path.{sym, ◌∙◌}
 use lib.Seq.{length-take-le}
 use Rattle.build_table.proofs.Judging.{index_refused, index_ready, index_small, index_built_lem}
 use Rattle.build_table.proofs.build_indexes.Goals as goal
@@ -11,8 +11,8 @@ slice_bounds-judge_indexes-end c = c.requires.next_in_bounds
 pub slice_bounds-judge_indexes-end-2 : goal.slice_bounds-judge_indexes-end-2
 slice_bounds-judge_indexes-end-2 c = sym (length-take-le _ _ c.requires.next_in_bounds)
 
-pub judge_indexes-v-requires : goal.judge_indexes-v-requires
-judge_indexes-v-requires c = record {
+pub judge_indexes-requires : goal.judge_indexes-requires
+judge_indexes-requires c = record {
   judged = c.requires.judged;
   from_le_end = c.requires.from_le_end;
   held = c.requires.held;
@@ -25,23 +25,23 @@ pub write_pages-requires : goal.write_pages-requires
 write_pages-requires c = record {
   judged = c.requires.judged;
   from_le_end = c.requires.from_le_end;
-  ready = index_ready _ _ c.args.m _ _ _ _ c.requires.next_in_bounds c.requires.held _ c.judge_indexes-v.ensures _ _ c.in-Ok.is;
+  ready = index_ready _ _ c.args.m _ _ _ _ c.requires.next_in_bounds c.requires.held _ c.judge_indexes.ensures _ _ c.in_ok-judge_indexes.was;
 }
 
 pub overflow_cast-size : goal.overflow_cast-size
-overflow_cast-size c = omega (arith, index_small _ _ c.args.m _ _ _ _ c.requires.next_in_bounds c.requires.held _ c.judge_indexes-v.ensures _ _ c.in-Ok.is)
+overflow_cast-size c = omega (arith, index_small _ _ c.args.m _ _ _ _ c.requires.next_in_bounds c.requires.held _ c.judge_indexes.ensures _ _ c.in_ok-judge_indexes.was)
 
 pub overflow_add-result : goal.overflow_add-result
-overflow_add-result c = omega (arith, (index_ready _ _ c.args.m _ _ _ _ c.requires.next_in_bounds c.requires.held _ c.judge_indexes-v.ensures _ _ c.in-Ok.is).room, c.frame_len.ensures, c.well_formed.0)
+overflow_add-result c = omega (arith, (index_ready _ _ c.args.m _ _ _ _ c.requires.next_in_bounds c.requires.held _ c.judge_indexes.ensures _ _ c.in_ok-judge_indexes.was).room, c.frame_len.ensures, c.well_formed.0)
 
-pub returns-in-Err : goal.returns-in-Err
-returns-in-Err c = let all = index_refused _ _ c.args.m _ _ _ _ c.requires.next_in_bounds c.requires.held _ c.judge_indexes-v.ensures _ c.in-Err.is in record {
-  value = all.0;
+pub returns-in_err-judge_indexes : goal.returns-in_err-judge_indexes
+returns-in_err-judge_indexes c = let all = index_refused _ _ c.args.m _ _ _ _ c.requires.next_in_bounds c.requires.held _ c.judge_indexes.ensures _ c.in_err-judge_indexes.was in record {
+  value = c.from_residual.ensures ∙ all.0;
   a_after = all.1;
 }
 
-pub returns-in-Ok : goal.returns-in-Ok
-returns-in-Ok c = let all = index_built_lem _ _ c.args.m _ _ _ _ c.requires.next_in_bounds c.requires.held _ c.judge_indexes-v.ensures _ _ c.in-Ok.is _ _ c.write_pages.ensures c.frame_len.ensures in record {
+pub returns : goal.returns
+returns c = let all = index_built_lem _ _ c.args.m _ _ _ _ c.requires.next_in_bounds c.requires.held _ c.judge_indexes.ensures _ _ c.in_ok-judge_indexes.was _ _ c.write_pages.ensures c.frame_len.ensures in record {
   value = all.0;
   a_after = all.1;
 }

@@ -17,4 +17,4 @@ returns-in_default-key_in c = simp (← c.delta_of.ensures, c.in-Some.is, ← c.
 
 pub returns : goal.returns
 unfolding index_key_at
-returns c = simp (← c.delta_of.ensures, c.in-Some.is, ← c.key_in.ensures, c.in-Some.is)
+returns c = simp (← c.delta_of.ensures, c.in-Some.is, ← c.key_in.ensures, c.in-Some-key_in.is)

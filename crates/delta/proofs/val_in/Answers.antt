@@ -16,17 +16,17 @@ slice_bounds-decode_from-end c = sym (length-take-le c.args.d.end c.args.s.now c
 pub overflow_cast-size : goal.overflow_cast-size
 overflow_cast-size c = omega (arith, (remote-place (take c.args.d.end c.args.s.now) c.args.d.val_at false _ c.in-Remote.addr c.in-Remote.size c.in-Remote.next (sym c.decode_from.ensures ∙ c.in-Some.is ∙ ap Some c.in-Remote.is)).small)
 
-pub returns-in_default : goal.returns-in_default
+pub returns-in_default-remote_at : goal.returns-in_default-remote_at
 unfolding val_in
-returns-in_default c = simp (← c.decode_from.ensures, c.in-Some.is, c.in-Remote.is, ← c.remote_at.ensures, c.in_default.is)
+returns-in_default-remote_at c = simp (← c.decode_from.ensures, c.in-Some.is, c.in-Remote.is, ← c.remote_at.ensures, c.in_default-remote_at.is)
 
 pub returns-in-Inline : goal.returns-in-Inline
 unfolding val_in
 returns-in-Inline c = simp (← c.decode_from.ensures, c.in-Some.is, c.in-Inline.is, c.value_to.ensures)
 
-pub returns-in-Some : goal.returns-in-Some
+pub returns-in-Remote : goal.returns-in-Remote
 unfolding val_in
-returns-in-Some c = simp (← c.decode_from.ensures, c.in-Some.is, c.in-Remote.is, ← c.remote_at.ensures, c.in-Some.is, c.value_to-in-Remote.ensures)
+returns-in-Remote c = simp (← c.decode_from.ensures, c.in-Some.is, c.in-Remote.is, ← c.remote_at.ensures, c.in-Some-remote_at.is, c.value_to-in-Remote.ensures)
 
 pub returns-in_default : goal.returns-in_default
 unfolding val_in

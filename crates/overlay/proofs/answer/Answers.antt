@@ -1,11 +1,12 @@
 -- `overlay::answer` meets its contract. Assumes nothing.
+use mathlib.Core.Path.{◌∙◌}
 use Rattle.overlay.specs.Overlay.{laid_at}
 use Rattle.overlay.proofs.answer.Goals as goal
 
-pub returns-in-Err : goal.returns-in-Err
+pub returns-in_err-k : goal.returns-in_err-k
 unfolding laid_at
-returns-in-Err c = simp (← c.key.ensures, c.in-Err.is)
+returns-in_err-k c = c.from_residual.ensures ∙ simp (← c.key.ensures, c.in_err-k.was)
 
-pub returns-in-Ok : goal.returns-in-Ok
+pub returns : goal.returns
 unfolding laid_at
-returns-in-Ok c = simp (← c.key.ensures, c.in-Ok.is, c.laid_by.ensures, c.is_probe-mine.ensures)
+returns c = simp (← c.key.ensures, c.in_ok-k.was, c.laid_by.ensures, c.is_probe-mine.ensures)
