@@ -1,7 +1,7 @@
 // The language of the judge's vectors (rust/oracle/README.md): a command's words read, and the pieces of an answer printed.
 #![tactic(auto)]
 
-ghost use Rattle.std.specs.Prelude.{◌≡◌, ◌++◌, codes, OnOk};
+ghost use Rattle.std.specs.Prelude.{◌≡◌, ◌≤◌, ◌++◌, length, codes, OnOk};
 ghost use Rattle.std.specs.Io.KnownBytes.{Appends};
 ghost use Rattle.frames.specs.Refusals.{number_of};
 ghost use Rattle.replay_text.specs.Text.{runs_text};
@@ -55,6 +55,14 @@ pub fn byte(l: &[u8], k: usize) -> u8 {
 
 pub fn word32(l: &[u8], k: usize) -> u32 {
     (number(l, k) % 4294967296) as u32
+}
+
+// The bytes that the k-th word gives, as far as there is room for them.
+pub fn bytes<'a>(l: &[u8], k: usize, room: &'a mut [u8]) -> &'a [u8]
+    ensures { length result.now ≤ length room.old }
+{
+    let n = replay_text::bytes_at(l, place(l, k), room);
+    &room[..n]
 }
 
 // A signed number: those below -2 stand for any that low.
