@@ -172,9 +172,7 @@ fn unlength<W: Write>(out: &mut W, b: &[u8]) -> io::Result<()> {
 // ---- searches and overlays
 
 fn nothing_after<W: Write>(out: &mut W, reads: usize) -> io::Result<()> {
-    replay_script::say(out, b"none")?;
-    replay_script::say_number(out, reads as u64)?;
-    replay_script::end_line(out)
+    writeln!(out, "none {reads}")
 }
 
 fn lower<W: Write>(out: &mut W, s: &[u8], a: Addr, key: &[u8], v: Ver) -> io::Result<()> {
@@ -187,13 +185,7 @@ fn lower<W: Write>(out: &mut W, s: &[u8], a: Addr, key: &[u8], v: Ver) -> io::Re
 
 fn floor<W: Write>(out: &mut W, s: &[u8], a: Addr, key: &[u8]) -> io::Result<()> {
     match sst::floor_pid_by_raw(s, a, key) {
-        Floor::Is { slot, page, reads } => {
-            replay_script::say(out, b"=")?;
-            replay_script::say_number(out, slot as u64)?;
-            replay_script::say_number(out, page.0)?;
-            replay_script::say_number(out, reads as u64)?;
-            replay_script::end_line(out)
-        }
+        Floor::Is { slot, page, reads } => writeln!(out, "= {slot} {} {reads}", page.0),
         Floor::Nothing { reads } => nothing_after(out, reads),
         Floor::Refused(r) => replay_script::refused(out, r),
     }

@@ -107,9 +107,7 @@ pub fn say_bytes<W: Write>(out: &mut W, b: &[u8]) -> io::Result<()>
 pub fn refused<W: Write>(out: &mut W, r: Refusal) -> io::Result<()>
     ensures { OnOk result (Appends (W.contents out.old) (W.contents out.new) (refused_text (number_of r))) }
 {
-    out.write_all(b"!")?;
-    say_number(out, frames::number(r) as u64)?;
-    end_line(out)
+    writeln!(out, "! {}", frames::number(r))
 }
 
 pub fn nothing<W: Write>(out: &mut W) -> io::Result<()>
@@ -129,16 +127,11 @@ pub fn is_bytes<W: Write>(out: &mut W, b: &[u8]) -> io::Result<()>
 pub fn is_number<W: Write>(out: &mut W, n: u64) -> io::Result<()>
     ensures { OnOk result (Appends (W.contents out.old) (W.contents out.new) (codes "=" ++ (number_text n ++ codes "\n"))) }
 {
-    out.write_all(b"=")?;
-    say_number(out, n)?;
-    end_line(out)
+    writeln!(out, "= {n}")
 }
 
 pub fn are_numbers<W: Write>(out: &mut W, a: u64, b: u64) -> io::Result<()>
     ensures { OnOk result (Appends (W.contents out.old) (W.contents out.new) (codes "=" ++ (number_text a ++ (number_text b ++ codes "\n")))) }
 {
-    out.write_all(b"=")?;
-    say_number(out, a)?;
-    say_number(out, b)?;
-    end_line(out)
+    writeln!(out, "= {a} {b}")
 }

@@ -27,11 +27,6 @@ pub fn next_word(s: &[u8], at: usize) -> usize
     if p < s.len() { p + 1 } else { p }
 }
 
-// Whether the text from at on begins with a word.
-pub fn says(s: &[u8], at: usize, word: &[u8]) -> bool {
-    rest_of(s, at).starts_with(word)
-}
-
 // What is left of the text from at on.
 pub fn rest_of(s: &[u8], at: usize) -> &[u8]
     ensures { length result.now ≡ length s.now - at }
