@@ -12,10 +12,6 @@ is_below a b h = grind (arith, nat_tests)
 is_not_below : (a b : ℕ) → b ≤ a → nat_lt a b ≡ false
 is_not_below a b h = grind (arith, nat_tests)
 
-within_nil : (k : ℕ) → runs_within k [] ≡ []
-within_nil zero = refl
-within_nil (suc k) = refl
-
 -- a writer went from a to b, and what it took and what rest is still to give are the text of the whole list
 pub record Told (a b : Option (List ℕ)) (s rest : List ℕ) : Type 0 where
   pub fuel : ℕ
