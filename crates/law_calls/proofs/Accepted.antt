@@ -17,8 +17,8 @@ use Rattle.build_image.proofs.Tables.{All, all_go, passes}
 use Rattle.law_calls.proofs.Stored.{stored, others_stay, from-then-on}
 use Rattle.std.proofs.Common.{Result, Ok, Err}
 
-module _ (rows : List Row) (at to : ℕ) (p : Addr) (end : ℕ) (built : judged rows Err (Ok (addr at, to)) ≡ Ok (p, end)) where
-  apart : (r : Refusal) → Err r ≡ Ok (p, end) → ⊥
+module _ (rows : List Row) (at to : ℕ) (p : Addr) (end : ℕ) (built : judged {X = Result (Addr × ℕ) Refusal} rows Err (Ok (addr at, to)) ≡ Ok (p, end)) where
+  apart : (r : Refusal) → ◌≡◌ {A = Result (Addr × ℕ) Refusal} (Err r) (Ok (p, end)) → ⊥
   apart r e = let z : ◌≡◌ {A = ℕ} 0 1 = cc in omega arith
 
   passed : (◌≡◌ {A = Result (Addr × ℕ) Refusal} (Ok (addr at, to)) (Ok (p, end))) × All rows
@@ -28,12 +28,12 @@ module _ (rows : List Row) (at to : ℕ) (p : Addr) (end : ℕ) (built : judged 
   all_hold = passed.1
 
   page-is : addr at ≡ p
-  page-is = let e = passed.0 in cc
+  page-is = let e = passed.0 in grind arith
 
   pub end_is : to ≡ end
-  end_is = let e = passed.0 in cc
+  end_is = let e = passed.0 in grind arith
 
-module _ (rows : List Row) (a : List ℕ) (next at : ℕ) (image : List ℕ) (p : Addr) (end : ℕ) (built : judged rows Err (Ok (addr at, next + length image)) ≡ Ok (p, end))
+module _ (rows : List Row) (a : List ℕ) (next at : ℕ) (image : List ℕ) (p : Addr) (end : ℕ) (built : judged {X = Result (Addr × ℕ) Refusal} rows Err (Ok (addr at, next + length image)) ≡ Ok (p, end))
     (room : next + length image ≤ length a) (after : List ℕ) (is : after ≡ judged rows (λ r. a) (put a next image)) where
   ends : next + length image ≡ end
   ends = end_is rows at (next + length image) p end built

@@ -34,7 +34,7 @@ use Rattle.law_calls.proofs.Stored.{index_stored}
 use Rattle.law_calls.proofs.Listing.{index_each}
 use Rattle.law_calls.proofs.Fitting.{bounds_fit, address, index_fit}
 use Rattle.law_calls.proofs.Accepted.{all_hold, after-long, answered_says, answered_others}
-use Rattle.std.proofs.Common.{Ok, Err}
+use Rattle.std.proofs.Common.{Ok, Err, Result}
 use Rattle.frames.specs.declared.Refusal.{Refusal}
 
 -- what the types of the call's arguments say: bytes, and numbers of their widths
@@ -49,7 +49,7 @@ module _ (a : List ℕ) (next : ℕ) (l : List ℕ) (m : Call) (lo hi : List ℕ
   after = new_index_arena a next l m b
 
   module _ (p : Addr) (end : ℕ) (built : new_index_answer a next l m b ≡ Ok (p, end)) where
-    built' : judged (new_index_rows a next l m b) Err (Ok (addr next, next + length (index_image m b es))) ≡ Ok (p, end)
+    built' : judged {X = Result (Addr × ℕ) Refusal} (new_index_rows a next l m b) Err (Ok (addr next, next + length (index_image m b es))) ≡ Ok (p, end)
     unfolding new_index_answer index_end
     built' = built
 

@@ -1,5 +1,6 @@
 -- A leaf build from a record list by document 01's table: where it answers a page, all rows held, and that page says the list.
 -- Assumes nothing.
+use Rattle.frames.specs.declared.Refusal.{Refusal}
 use Prim.Native.Nat.{ℕ, ◌+◌, ◌-◌, ◌^◌, ◌≤◌, ◌<◌}
 use mathlib.Core.Path.{◌≡◌, refl}
 use mathlib.Core.Bool.{Bool, true}
@@ -36,7 +37,7 @@ use Rattle.law_calls.proofs.Stored.{leaf_stored}
 use Rattle.law_calls.proofs.Listing.{record_each}
 use Rattle.law_calls.proofs.Fitting.{bounds_fit, call_fits, address_below, leaf_fit}
 use Rattle.law_calls.proofs.Accepted.{all_hold, after-long, answered_says, answered_others}
-use Rattle.std.proofs.Common.{Ok, Err}
+use Rattle.std.proofs.Common.{Ok, Err, Result}
 
 -- what row 1 asks of a leaf build
 pub record Limits (m : Call) (lo hi : List ℕ) : Type 0 where
@@ -61,7 +62,7 @@ module _ (a : List ℕ) (next : ℕ) (l : List ℕ) (m : Call) (lo hi : List ℕ
   abbrev at : ℕ
   at = history_end m.limit next (cuts_of m es) (olds es)
 
-  module _ (p : Addr) (end : ℕ) (built : judged rows Err (Ok (addr at, next + length image)) ≡ Ok (p, end))
+  module _ (p : Addr) (end : ℕ) (built : judged {X = Result (Addr × ℕ) Refusal} rows Err (Ok (addr at, next + length image)) ≡ Ok (p, end))
       (after : List ℕ) (is : after ≡ judged rows (λ r. a) (put a next image)) where
     holds : All rows
     holds = all_hold rows at (next + length image) p end built

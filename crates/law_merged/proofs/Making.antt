@@ -25,7 +25,7 @@ use Rattle.law_calls.proofs.Index.{index_long}
 use Rattle.law_calls.proofs.Accepted.{all_hold, end_is}
 use Rattle.law_merged.specs.Trees.{Input, Tree, built, joined, Typed, Answer, Arena, boundaries_of, Made}
 use Rattle.law_merged.proofs.Trees.{made_later}
-use Rattle.std.proofs.Common.{Ok, Err}
+use Rattle.std.proofs.Common.{Ok, Err, Result}
 
 -- ---- what every call keeps
 
@@ -81,7 +81,7 @@ module _ (a : List ℕ) (next : ℕ) (m : Call) (left right : Addr) (p : Addr) (
   abbrev at : ℕ
   at = place_by next m (merged (take next a) left right) (kinds_in (take next a) left right)
 
-  answers : judged (merge_rows a next m left right) Err (Ok (addr at, to)) ≡ Ok (p, end)
+  answers : judged {X = Result (Addr × ℕ) Refusal} (merge_rows a next m left right) Err (Ok (addr at, to)) ≡ Ok (p, end)
   unfolding merge_answer
   answers = h
 

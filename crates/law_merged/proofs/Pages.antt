@@ -1,5 +1,6 @@
 -- A merge of two sound pages that answered a page: what that page says, in every arena that keeps the bytes below the new next free address.
 -- Assumes nothing.
+use Rattle.frames.specs.declared.Refusal.{Refusal}
 use Prim.Native.Nat.{ℕ, ◌+◌, ◌≤◌}
 use mathlib.Core.Path.{◌≡◌, refl, sym, ap, ◌∙◌}
 use mathlib.Core.Bool.{Bool, true}
@@ -41,7 +42,7 @@ use Rattle.law_calls.proofs.Listing.{each_both}
 use Rattle.law_calls.proofs.Fitting.{call_fits, address, address_below, leaf_fit, index_fit}
 use Rattle.law_calls.proofs.Accepted.{all_hold, answered_says, answered_others}
 use Rattle.law_merged.specs.Trees.{Typed, Later}
-use Rattle.std.proofs.Common.{Ok, Err}
+use Rattle.std.proofs.Common.{Ok, Err, Result}
 
 module _ (a : List ℕ) (next : ℕ) (m : Call) (left right : Addr) (typed : Typed a m) (p : Addr) (end : ℕ) (answers : merge_answer a next m left right ≡ Ok (p, end)) where
   -- what a merge reads
@@ -92,7 +93,7 @@ module _ (a : List ℕ) (next : ℕ) (m : Call) (left right : Addr) (typed : Typ
       abbrev image : List ℕ
       image = leaf_image m b next es
 
-      leaf_built_lem : judged (rows Kinds.Leaves) Err (Ok (addr at, next + length image)) ≡ Ok (p, end)
+      leaf_built_lem : judged {X = Result (Addr × ℕ) Refusal} (rows Kinds.Leaves) Err (Ok (addr at, next + length image)) ≡ Ok (p, end)
       unfolding leaf_end leaf_at
       leaf_built_lem = answers_by Kinds.Leaves are_leaves
 
@@ -147,7 +148,7 @@ module _ (a : List ℕ) (next : ℕ) (m : Call) (left right : Addr) (typed : Typ
       abbrev page : List ℕ
       page = index_image m b es
 
-      index_built_lem : judged (rows Kinds.Indexes) Err (Ok (addr next, next + length page)) ≡ Ok (p, end)
+      index_built_lem : judged {X = Result (Addr × ℕ) Refusal} (rows Kinds.Indexes) Err (Ok (addr next, next + length page)) ≡ Ok (p, end)
       unfolding index_end
       index_built_lem = answers_by Kinds.Indexes are_indexes_lem
 

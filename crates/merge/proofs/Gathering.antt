@@ -174,6 +174,6 @@ module _ (w : List ℕ) (left right : Addr) (p q : Page) (m : meaning w left ≡
   pub gathered_ready : (c : Cursor) (e : Boundaries) → gathered w left right ≡ Some (c, e) → Ready w left right c e
   gathered_ready c e f =
       let z : ◌≡◌ {A = Option (Cursor × Boundaries)} (Some (front, held_boundaries)) (Some (c, e)) = sym gathered-is ∙ f in
-      let x : front ≡ c = cc in
-      let y : held_boundaries ≡ e = cc in
+      let x : front ≡ c = grind arith in
+      let y : held_boundaries ≡ e = grind arith in
       rw (← x, ← y) ready

@@ -11,5 +11,5 @@ returns-then-b-eq1 c = kind_index _ _ (sym c.check.ensures ∙ c.in-Ok.is) _ (sy
 pub returns-in_default : goal.returns-in_default
 returns-in_default c = kind_bad _ _ _ (sym c.check.ensures ∙ c.in_default.is)
 
-pub returns-else-b-eq1 : goal.returns-else-b-eq1
-returns-else-b-eq1 c = kind_leaf _ _ (sym c.check.ensures ∙ c.in-Ok.is) _ (sym c.open_at.ensures ∙ c.in_ok-b.was) c.if-b-eq1.false
+pub returns : goal.returns
+returns c = kind_leaf _ _ (sym c.check.ensures ∙ c.in-Ok.is) _ (sym c.open_at.ensures ∙ c.in_ok-b.was) c.if-b-eq1.false
