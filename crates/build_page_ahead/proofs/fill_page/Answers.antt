@@ -27,12 +27,6 @@ fill_run-x-requires c = record {
   ready = c.loop-i.invariant.ready;
 }
 
-pub overflow_add-i : goal.overflow_add-i
-overflow_add-i c = omega (arith, c.loop-i-test.true, c.ranges.end)
-
-pub loop-i-smaller : goal.loop-i-smaller
-loop-i-smaller c = omega (arith, c.loop-i-test.true)
-
 pub loop-i-preserved : goal.loop-i-preserved
 loop-i-preserved c = page-on _ _ _ _ _ _ _ _ _ c.loop-i.invariant c.requires.judged c.requires.end_le_elems c.loop-i-test.true _ c.past_here-h.ensures _ c.fill_run-x.ensures.ready_2 c.fill_run-x.ensures.filled_by
 
