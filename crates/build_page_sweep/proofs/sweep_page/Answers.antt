@@ -44,12 +44,6 @@ sweep_run-x-requires c = record {
   run_due = page-due _ _ _ _ _ _ _ _ _ _ _ _ _ c.loop-i.invariant c.requires.judged c.requires.end_le_elems c.loop-i-test.true _ c.head_here-r.ensures (omega (arith, c.if-t-h-gt-MAX_ENTRIES.false)) _ c.with_head-t.ensures;
 }
 
-pub overflow_add-i : goal.overflow_add-i
-overflow_add-i c = omega (arith, c.loop-i-test.true, c.ranges.end)
-
-pub loop-i-smaller : goal.loop-i-smaller
-loop-i-smaller c = omega (arith, c.loop-i-test.true)
-
 pub loop-i-preserved : goal.loop-i-preserved
 loop-i-preserved c = page-on _ _ _ _ _ _ _ _ _ _ _ _ _ c.loop-i.invariant c.requires.judged c.requires.end_le_elems c.loop-i-test.true _ c.head_here-r.ensures (omega (arith, c.if-t-h-gt-MAX_ENTRIES.false)) _ c.with_head-t.ensures _ _ c.sweep_run-x.ensures.run_swept_by _ c.sweep_run-x.ensures.known_2
 
