@@ -19,8 +19,8 @@ rec_at-requires c = head_inside c.args.s.now c.args.a c.args.probe.now _ _ _ _ _
 
 pub returns-in_err-head : goal.returns-in_err-head
 unfolding as_of_at
-returns-in_err-head c = let e : c.from_residual.result ≡ Err c.in_err-head.field-0.0 = search rules in
-    e ∙ ap (as_of_head c.args.s.now c.args.v) (sym (sym c.head_at.ensures ∙ c.in_err-head.was))
+returns-in_err-head c = let refused : c.from_residual.result ≡ Err c.in_err-head.field-0.0 = search rules in
+    refused ∙ ap (as_of_head c.args.s.now c.args.v) (sym (sym c.head_at.ensures ∙ c.in_err-head.was))
 
 pub returns-in-Nothing : goal.returns-in-Nothing
 unfolding as_of_at

@@ -1,6 +1,7 @@
 -- `build_table::build_index_list` meets its contract. Assumes nothing.
+use Rattle.std.proofs.Common.{Err, rules}
 use native.Mathlib.Omega.{arith}
-use mathlib.Core.Path.{sym, ◌∙◌}
+use mathlib.Core.Path.{sym, ◌∙◌, ◌≡◌}
 use lib.Seq.{length-take-le}
 use Rattle.build_table.proofs.Listing.{index_list_refused, index_fit_well, index_fit_ready, index_fit_built}
 use Rattle.build_table.proofs.build_index_list.Goals as goal
@@ -32,8 +33,9 @@ pub overflow_add-result : goal.overflow_add-result
 overflow_add-result c = let z = (index_fit_ready c.args.a.now c.args.list.now c.args.next c.args.m c.args.lo.now c.args.hi.now c.args.e c.requires.next_in_bounds c.requires.held _ c.judge_index_list.ensures _ _ c.in_ok-judge_index_list.was).room in omega (arith, z, c.frame_len.ensures, c.well_formed.0)
 
 pub returns-in_err-judge_index_list : goal.returns-in_err-judge_index_list
-returns-in_err-judge_index_list c = let all = index_list_refused c.args.a.now c.args.list.now c.args.next c.args.m c.args.lo.now c.args.hi.now c.args.e c.requires.next_in_bounds c.requires.held _ c.judge_index_list.ensures _ c.in_err-judge_index_list.was in record {
-  value = c.from_residual.ensures ∙ all.0;
+returns-in_err-judge_index_list c = let refused : c.from_residual.result ≡ Err c.in_err-judge_index_list.field-0.0 = search rules in
+    let all = index_list_refused c.args.a.now c.args.list.now c.args.next c.args.m c.args.lo.now c.args.hi.now c.args.e c.requires.next_in_bounds c.requires.held _ c.judge_index_list.ensures _ c.in_err-judge_index_list.was in record {
+  value = refused ∙ all.0;
   a_after = all.1;
 }
 

@@ -1,6 +1,7 @@
 -- `build_table::build_indexes` meets its contract. Assumes nothing.
+use Rattle.std.proofs.Common.{Err, rules}
 use native.Mathlib.Omega.{arith}
-use mathlib.Core.Path.{sym, ◌∙◌}
+use mathlib.Core.Path.{sym, ◌∙◌, ◌≡◌}
 use lib.Seq.{length-take-le}
 use Rattle.build_table.proofs.Judging.{index_refused, index_ready, index_small, index_built_lem}
 use Rattle.build_table.proofs.build_indexes.Goals as goal
@@ -35,8 +36,9 @@ pub overflow_add-result : goal.overflow_add-result
 overflow_add-result c = omega (arith, (index_ready _ _ c.args.m _ _ _ _ c.requires.next_in_bounds c.requires.held _ c.judge_indexes.ensures _ _ c.in_ok-judge_indexes.was).room, c.frame_len.ensures, c.well_formed.0)
 
 pub returns-in_err-judge_indexes : goal.returns-in_err-judge_indexes
-returns-in_err-judge_indexes c = let all = index_refused _ _ c.args.m _ _ _ _ c.requires.next_in_bounds c.requires.held _ c.judge_indexes.ensures _ c.in_err-judge_indexes.was in record {
-  value = c.from_residual.ensures ∙ all.0;
+returns-in_err-judge_indexes c = let refused : c.from_residual.result ≡ Err c.in_err-judge_indexes.field-0.0 = search rules in
+    let all = index_refused _ _ c.args.m _ _ _ _ c.requires.next_in_bounds c.requires.held _ c.judge_indexes.ensures _ c.in_err-judge_indexes.was in record {
+  value = refused ∙ all.0;
   a_after = all.1;
 }
 
