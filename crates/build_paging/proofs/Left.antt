@@ -12,3 +12,6 @@ some_left n i h = omega arith
 
 pub next_left : (n i : ℕ) → n - (i + 1) ≡ n - i - 1
 next_left n i = omega arith
+
+pub left_again : (n i : ℕ) → i < n → n - (n - i) ≡ i
+left_again n i h = omega arith

@@ -47,12 +47,6 @@ pen_head-n-requires c = let all = pen_asks _ _ _ _ _ _ _ _ _ c.requires.judged c
   asks = all.1.1.1;
 }
 
-pub overflow_add-i : goal.overflow_add-i
-overflow_add-i c = omega (arith, c.loop-i-test.true, c.well_formed)
-
-pub loop-i-smaller : goal.loop-i-smaller
-loop-i-smaller c = omega (arith, c.loop-i-test.true)
-
 pub loop-i-preserved : goal.loop-i-preserved
 loop-i-preserved c = page_turn _ _ _ _ _ _ _ _ _ c.requires.judged c.requires.judged_2 c.requires.end_le_elems _ _ _ _ _ _ _ _ c.loop-i.invariant c.loop-i-test.true _ c.head_here-r.ensures _ _ c.pen_run-x.ensures.by_index_2 c.pen_run-x.ensures.known_2 _ c.remote_addr-addr.ensures _ _ c.put_hint-hint.ensures.value c.put_hint-hint.ensures.a_after _ _ c.pen_head-n.ensures.value c.pen_head-n.ensures.a_after
 
