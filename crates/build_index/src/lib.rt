@@ -302,12 +302,10 @@ pub fn sum_page(s: &[u8], b: Body, from: usize, end: usize, p: usize) -> usize
     ensures value { result ≡ index_sums p (index_entries s.now b (end - from) from) }
     ensures upper_bound { result ≤ 4109 * (end - from) }
 {
-    let mut i = from;
     let mut n: usize = 0;
-    while i < end {
+    for i in from..end {
         let c = build_rows::child_here(s, b, i);
         n += values::index_key_size(spans::less(b.prefix_len + c.rest_len, p) as u16) + 8;
-        i += 1;
     }
     n
 }
@@ -349,15 +347,13 @@ fn pen_page(
     ensures value { result ≡ recs + index_sums p (index_entries (take next a.old) b (end - from) from) }
     ensures a_after { a.new ≡ draws a.old (index_left slots recs base p (index_entries (take next a.old) b (end - from) from)) }
 {
-    let mut i = from;
     let mut slot = slots;
     let mut rec = recs;
-    while i < end {
+    for i in from..end {
         let c = build_rows::child_here(&a[..next], b, i);
         numbers::put_u32(a, slot, (rec - base) as u32);
         rec = pen_child(a, b, c, rec, p);
         slot += 4;
-        i += 1;
     }
     rec
 }
