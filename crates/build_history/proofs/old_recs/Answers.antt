@@ -1,8 +1,6 @@
 use native.Mathlib.Omega.{arith}
-use mathlib.Core.Path.{sym, ap}
-use mathlib.Core.Bool.{true, false}
+use mathlib.Core.Path.{sym}
 use Prim.Native.Nat.{◌-◌}
-use lib.ListN.{length, take}
 use lib.Seq.{length-take-le}
 use Rattle.build_paging.proofs.Left.{all_left, some_left, next_left}
 use Rattle.build_sources.proofs.Sourced.{one, no_one}

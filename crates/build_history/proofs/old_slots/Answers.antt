@@ -1,10 +1,7 @@
 use native.Mathlib.Omega.{arith}
-use mathlib.Core.Path.{sym, ap}
-use mathlib.Core.Bool.{true, false}
+use mathlib.Core.Path.{sym}
 use Prim.Native.Nat.{◌-◌}
-use lib.ListN.{length, take}
 use lib.Seq.{length-take-le}
-use Rattle.spans.specs.Span.{put}
 use Rattle.build_paging.proofs.Left.{all_left, some_left, next_left}
 use Rattle.build_sources.proofs.Sourced.{one, no_one}
 use Rattle.spans.proofs.Writing.{begin, finished}

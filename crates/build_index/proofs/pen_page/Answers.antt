@@ -1,8 +1,6 @@
 -- `build_index::pen_page` meets its contract. Assumes nothing.
 use native.Mathlib.Omega.{arith}
-use Prim.Native.Nat.{◌-◌}
 use mathlib.Core.Path.{sym}
-use lib.ListN.{take}
 use lib.Seq.{length-take-le}
 use Rattle.build_index.proofs.PagePen.{walk_begin, walk_end, walk-low, walk-judged, off_fits, slot-fits, child_asks, walk_turn}
 use Rattle.build_index.proofs.pen_page.Goals as goal

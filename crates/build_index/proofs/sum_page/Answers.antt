@@ -1,6 +1,5 @@
 -- `build_index::sum_page` meets its contract. Assumes nothing.
 use native.Mathlib.Omega.{arith}
-use Prim.Native.Nat.{◌-◌}
 use Rattle.build_index.proofs.Children.{child-here, count_begin, count-end, count_small, count_turn, count_fits}
 use Rattle.build_index.proofs.sum_page.Goals as goal
 

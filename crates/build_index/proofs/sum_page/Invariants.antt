@@ -1,5 +1,4 @@
 -- `build_index::sum_page` meets its contract. Assumes nothing.
-use Prim.Native.Nat.{◌-◌}
 use Rattle.build_index.proofs.Children.{Counting}
 use Rattle.build_index.proofs.sum_page.Given as goal
 

@@ -1,6 +1,5 @@
 -- `build_page_ahead::fill_page` meets its contract. Assumes nothing.
 use native.Mathlib.Omega.{arith}
-use Prim.Native.Nat.{◌-◌}
 use Rattle.build_page_ahead.proofs.Paging.{page_begin, page_full, page_done, page-runs, page-opens, page-on}
 use Rattle.build_page_ahead.proofs.fill_page.Goals as goal
 

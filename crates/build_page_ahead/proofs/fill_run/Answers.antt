@@ -1,8 +1,6 @@
 -- `build_page_ahead::fill_run` meets its contract. Assumes nothing.
 use native.Mathlib.Omega.{arith}
 use mathlib.Core.Path.{sym, ◌∙◌}
-use mathlib.Core.Bool.{false}
-use borrow.Author.Tests.{not-true, not-false}
 use Rattle.build_paging.proofs.Left.{all_left, some_left, next_left}
 use Rattle.build_page_ahead.proofs.Filled.{open_page}
 use Rattle.build_page_ahead.proofs.Running.{run_none, run-some, run_begin, run_done, run_ready, run-answers, run-here, run-val, run-size, run_stop, run_stopped, run-remote, run_on}

@@ -2,8 +2,6 @@
 use native.Mathlib.Omega.{arith}
 use mathlib.Core.Path.{refl, sym}
 use mathlib.Core.Logic.{inl}
-use Prim.Native.Nat.{◌-◌}
-use lib.ListN.{take}
 use lib.Seq.{length-take-le}
 use Rattle.build_page_pen.proofs.Leaves.{page_begin, page-long, page-low, page-end, head_asks, run_asks, run-place, hint_asks, pen_asks, page_turn}
 use Rattle.build_page_pen.proofs.pen_page.Goals as goal

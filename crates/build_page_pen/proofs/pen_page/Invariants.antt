@@ -1,5 +1,4 @@
 -- `build_page_pen::pen_page` meets its contract. Assumes nothing.
-use Prim.Native.Nat.{◌-◌}
 use lib.ListN.{take}
 use Rattle.build_page_pen.specs.Runs.{recs_end, left_of}
 use Rattle.build_page_pen.proofs.Leaves.{page_left, PagePen}

@@ -1,7 +1,6 @@
 -- `build_page_sweep::sweep_page` meets its contract. Assumes nothing.
 use native.Mathlib.Omega.{arith}
 use mathlib.Core.Logic.{inl}
-use Prim.Native.Nat.{◌-◌}
 use Rattle.build_page_sweep.proofs.Paging.{page_begin, page_done, page-few, page-bounded, page-val, page-key, page-many, page-run, page-due, page-on}
 use Rattle.build_page_sweep.proofs.sweep_page.Goals as goal
 
