@@ -230,6 +230,7 @@ fn pen_list(a: &mut [u8], list: &[u8], slots: usize, recs: usize, base: usize, p
     let mut at: usize = 5;
     let mut slot = slots;
     let mut rec = recs;
+    // A `while`: each entry says how long it is, so no range counts them; an iterator of our own would be no plainer.
     while at < list.len() {
         let n = numbers::read_u16_be(list, at) as usize;
         let kat = at + 2;
