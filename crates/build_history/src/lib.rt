@@ -178,8 +178,7 @@ fn old_slots(
     let mut c = from;
     let mut to = at;
     let mut off = first;
-    let mut k = n;
-    while k > 0 {
+    for _ in 0..n {
         let st = build_sources::next_of(list, &a[..footing], true, c);
         let Some((i, d)) = st else {
             return;
@@ -188,7 +187,6 @@ fn old_slots(
         to += 4;
         off += 12 + Val::calc_size(false, limit, i.vlen as u32);
         c = d;
-        k -= 1;
     }
 }
 
@@ -211,8 +209,7 @@ fn old_recs(
     let mut c = from;
     let mut to = at;
     let mut next = remote;
-    let mut k = n;
-    while k > 0 {
+    for _ in 0..n {
         let st = build_sources::next_of(list, &a[..footing], true, c);
         let Some((i, d)) = st else {
             return;
@@ -224,7 +221,6 @@ fn old_recs(
         to = past;
         next = beyond;
         c = d;
-        k -= 1;
     }
 }
 
@@ -310,15 +306,13 @@ fn each_remote_frame(
 {
     let mut c = from;
     let mut to = at;
-    let mut k = n;
-    while k > 0 {
+    for _ in 0..n {
         let st = build_sources::next_of(list, &a[..footing], want, c);
         let Some((i, d)) = st else {
             return;
         };
         to = remote_frame_of(a, footing, list, i, to, m);
         c = d;
-        k -= 1;
     }
 }
 

@@ -230,6 +230,7 @@ fn pen_list(a: &mut [u8], list: &[u8], slots: usize, recs: usize, base: usize, p
     let mut at: usize = 5;
     let mut slot = slots;
     let mut rec = recs;
+    // A `while`: each entry says how long it is, so no range counts them; an iterator of our own would be no plainer.
     while at < list.len() {
         let n = numbers::read_u16_be(list, at) as usize;
         let kat = at + 2;
@@ -302,12 +303,10 @@ pub fn sum_page(s: &[u8], b: Body, from: usize, end: usize, p: usize) -> usize
     ensures value { result ≡ index_sums p (index_entries s.now b (end - from) from) }
     ensures upper_bound { result ≤ 4109 * (end - from) }
 {
-    let mut i = from;
     let mut n: usize = 0;
-    while i < end {
+    for i in from..end {
         let c = build_rows::child_here(s, b, i);
         n += values::index_key_size(spans::less(b.prefix_len + c.rest_len, p) as u16) + 8;
-        i += 1;
     }
     n
 }
@@ -349,15 +348,13 @@ fn pen_page(
     ensures value { result ≡ recs + index_sums p (index_entries (take next a.old) b (end - from) from) }
     ensures a_after { a.new ≡ draws a.old (index_left slots recs base p (index_entries (take next a.old) b (end - from) from)) }
 {
-    let mut i = from;
     let mut slot = slots;
     let mut rec = recs;
-    while i < end {
+    for i in from..end {
         let c = build_rows::child_here(&a[..next], b, i);
         numbers::put_u32(a, slot, (rec - base) as u32);
         rec = pen_child(a, b, c, rec, p);
         slot += 4;
-        i += 1;
     }
     rec
 }

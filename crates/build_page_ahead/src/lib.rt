@@ -49,8 +49,7 @@ fn fill_run(
     ensures filled_by { FilledBy s.now limit budget from.run count page first result.run }
 {
     let was = from.run;
-    let mut left = count;
-    if was.more | (left == 0) {
+    if was.more | (count == 0) {
         return from;
     }
     let mut n = was.count;
@@ -58,7 +57,7 @@ fn fill_run(
     let mut f = was.remote;
     let mut hand = build_rows::hand_at(s, page, from.hand);
     let mut slot = first;
-    while left > 0 {
+    for _ in 0..count {
         let q = build_rows::spot_at(s, hand, slot);
         let d = q.hand;
         let r = build_rows::old_here(s, d, q.slot);
@@ -81,7 +80,6 @@ fn fill_run(
         f += build_image::remote_len(limit, v.len, kept);
         hand = d;
         slot = q.slot + 1;
-        left -= 1;
     }
     Filling {
         run: PageAhead {
@@ -111,16 +109,14 @@ fn fill_page(
     ensures ready_2 { Ready s.now result }
     ensures run_value { result.run ≡ filled limit budget begun.run (leaf_entries s.now b (end - from) from) }
 {
-    let mut i = from;
     let mut x = begun;
-    while i < end {
+    for i in from..end {
         if x.run.more {
             return x;
         }
         let h = build_rows::past_here(s, b, i);
         let page = h.page;
         x = fill_run(s, page, h.slot as usize, h.count, limit, budget, x);
-        i += 1;
     }
     x
 }

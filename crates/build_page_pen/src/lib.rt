@@ -240,9 +240,8 @@ fn pen_run(
     ensures by_index_2 { (key : List ℕ) → Ready next m start (run_entries (take next a.old) key h.count h.page h.slot rest) (length a.old) → RanPast next m (run_entries (take next a.old) key h.count h.page h.slot rest) a.old start a.new (rest_entries (take next a.old) rest) result.pen h.count result.page result.slot }
     ensures known_2 { Known (take next a.old) result.hand }
 {
-    let mut left = h.count;
     let mut q = start;
-    if left == 0 {
+    if h.count == 0 {
         return RunPenned {
             pen: q,
             hand: was,
@@ -255,14 +254,14 @@ fn pen_run(
     let mut at = h.slot as usize;
     let mut page: usize = 0;
     let mut slot: usize = 0;
-    while left > 0 {
+    for done in 0..h.count {
         let x = build_rows::spot_at(&a[..next], hand, at);
         let d = x.hand;
         let o = build_rows::old_here(&a[..next], d, x.slot);
-        let r = turn(a, next, d, x.slot, left, rest, q, m);
+        let r = turn(a, next, d, x.slot, h.count - done, rest, q, m);
         let l = r.loc;
         let n = r.nib;
-        let run = (h.count - left) as usize;
+        let run = done as usize;
         page = build_pen::first_of(run, l.page, page);
         slot = build_pen::first_of(run, l.slot, slot);
         let kept = o.bytes.remote;
@@ -282,7 +281,6 @@ fn pen_run(
         };
         hand = d;
         at = x.slot + 1;
-        left -= 1;
     }
     RunPenned {
         pen: q,
@@ -321,12 +319,11 @@ fn pen_page(
     requires all_laid { AllLaid next (length a.old) begun.pen begun.nib begun.hint base m p (leaf_entries (take next a.old) b (end - from) from ++ leaf_entries (take next a.old) then count 0) }
     ensures { PartPenned next base m p a.old begun (leaf_entries (take next a.old) b (end - from) from ++ leaf_entries (take next a.old) then count 0) a.new result (leaf_entries (take next a.old) then count 0) }
 {
-    let mut i = from;
     let mut q = begun.pen;
     let mut n = begun.nib;
     let mut hint = begun.hint;
     let mut hand = build_rows::no_hand();
-    while i < end {
+    for i in from..end {
         let r = build_rows::head_here(&a[..next], b, i);
         let h = r.hist;
         let rest = Rest {
@@ -348,7 +345,6 @@ fn pen_page(
         n = pen_head(a, next, b, r, n, base, m, p, new);
         q = x.pen;
         hand = x.hand;
-        i += 1;
     }
     Penned {
         pen: q,

@@ -41,8 +41,7 @@ fn sweep_run(
 {
     let mut t = from;
     let mut g = begun;
-    let mut left = h.count;
-    if left == 0 {
+    if h.count == 0 {
         return RunSwept {
             tally: t,
             cut: g,
@@ -52,7 +51,7 @@ fn sweep_run(
     let page = h.page;
     let mut hand = build_rows::hand_at(s, page, was);
     let mut slot = h.slot as usize;
-    while left > 0 {
+    for _ in 0..h.count {
         let q = build_rows::spot_at(s, hand, slot);
         let d = q.hand;
         let r = build_rows::old_here(s, d, q.slot);
@@ -62,7 +61,6 @@ fn sweep_run(
         t = build_sweep::with_old(limit, t, v.len, kept);
         hand = d;
         slot = q.slot + 1;
-        left -= 1;
     }
     RunSwept {
         tally: t,
@@ -89,11 +87,10 @@ pub fn sweep_page(
     requires due { Due p limit budget (leaf_entries s.now b (end - from) from) first begun }
     ensures { PageSweptBy s.now b from end p limit budget first begun result }
 {
-    let mut i = from;
     let mut t = first;
     let mut g = begun;
     let mut hand = build_rows::no_hand();
-    while i < end {
+    for i in from..end {
         let r = build_rows::head_here(s, b, i);
         let h = r.hist;
         if BaseHeader::MAX_ENTRIES < t.heads + t.olds + 1 + (h.count as usize) {
@@ -106,7 +103,6 @@ pub fn sweep_page(
         t = x.tally;
         g = x.cut;
         hand = x.hand;
-        i += 1;
     }
     Some((t, g))
 }

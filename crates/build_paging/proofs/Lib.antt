@@ -2,3 +2,4 @@
 pub mod Cutting
 pub mod Cases
 pub mod Decided
+pub mod Left

@@ -5,8 +5,5 @@ use Rattle.build_image.specs.Image.{remote_frames}
 use Rattle.build_history.specs.Runs.{these}
 use Rattle.build_history.proofs.each_remote_frame.Given as goal
 
-abbrev pub invariant-loop-k : goal.invariant-loop-k
-invariant-loop-k l = Writing l.initial.a l.footing (put l.initial.a l.at (remote_frames l.m (these l.list l.initial.a l.footing l.want l.initial.c l.n))) l.a l.to (remote_frames l.m (these l.list l.initial.a l.footing l.want l.c l.k))
-
-abbrev pub decreases-loop-k : goal.decreases-loop-k
-decreases-loop-k l = l.k
+abbrev pub invariant-loop : goal.invariant-loop
+invariant-loop l = Writing l.initial.a l.footing (put l.initial.a l.at (remote_frames l.m (these l.list l.initial.a l.footing l.want l.initial.c l.n))) l.a l.to (remote_frames l.m (these l.list l.initial.a l.footing l.want l.c (l.n - l.counter)))

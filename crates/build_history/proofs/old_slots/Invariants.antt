@@ -8,8 +8,5 @@ use Rattle.build_paging.specs.Cuts.{total}
 use Rattle.build_history.specs.Runs.{these}
 use Rattle.build_history.proofs.old_slots.Given as goal
 
-abbrev pub invariant-loop-k : goal.invariant-loop-k
-invariant-loop-k l = (Writing l.initial.a l.footing (put l.initial.a l.at (old_slots l.limit l.first (these l.list l.initial.a l.footing true l.initial.c l.n))) l.a l.to (old_slots l.limit l.off (these l.list l.initial.a l.footing true l.c l.k))) × (l.off + total (costs_of l.limit (these l.list l.initial.a l.footing true l.c l.k)) ≤ 4294967295)
-
-abbrev pub decreases-loop-k : goal.decreases-loop-k
-decreases-loop-k l = l.k
+abbrev pub invariant-loop : goal.invariant-loop
+invariant-loop l = (Writing l.initial.a l.footing (put l.initial.a l.at (old_slots l.limit l.first (these l.list l.initial.a l.footing true l.initial.c l.n))) l.a l.to (old_slots l.limit l.off (these l.list l.initial.a l.footing true l.c (l.n - l.counter)))) × (l.off + total (costs_of l.limit (these l.list l.initial.a l.footing true l.c (l.n - l.counter))) ≤ 4294967295)

@@ -1,8 +1,6 @@
 -- `build_index::pen_page` meets its contract. Assumes nothing.
 use native.Mathlib.Omega.{arith}
-use Prim.Native.Nat.{◌-◌}
 use mathlib.Core.Path.{sym}
-use lib.ListN.{take}
 use lib.Seq.{length-take-le}
 use Rattle.build_index.proofs.PagePen.{walk_begin, walk_end, walk-low, walk-judged, off_fits, slot-fits, child_asks, walk_turn}
 use Rattle.build_index.proofs.pen_page.Goals as goal
@@ -40,12 +38,6 @@ pen_child-rec-requires c = let all = child_asks _ _ _ _ _ _ _ _ _ _ _ _ c.loop-i
 
 pub overflow_add-slot : goal.overflow_add-slot
 overflow_add-slot c = omega (arith, slot-fits _ _ _ _ _ _ _ _ _ _ _ _ c.loop-i.invariant c.requires.judged c.requires.end_le_elems c.loop-i-test.true _ c.child_here-c.ensures, c.well_formed)
-
-pub overflow_add-i : goal.overflow_add-i
-overflow_add-i c = omega (arith, c.loop-i-test.true, c.well_formed)
-
-pub loop-i-smaller : goal.loop-i-smaller
-loop-i-smaller c = omega (arith, c.loop-i-test.true)
 
 pub loop-i-preserved : goal.loop-i-preserved
 loop-i-preserved c = walk_turn _ _ _ _ _ _ _ _ _ _ _ _ c.loop-i.invariant c.requires.judged c.requires.end_le_elems c.loop-i-test.true _ c.child_here-c.ensures _ c.put_u32.ensures _ _ c.pen_child-rec.ensures.value c.pen_child-rec.ensures.a_after

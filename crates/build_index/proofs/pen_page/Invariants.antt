@@ -10,6 +10,3 @@ use Rattle.build_index.proofs.pen_page.Given as goal
 
 abbrev pub invariant-loop-i : goal.invariant-loop-i
 invariant-loop-i l = Walking l.initial.a l.next (draws l.initial.a (index_left l.slots l.recs l.base l.p (index_entries (take l.next l.initial.a) l.b (l.end - l.from) l.from))) l.b l.end l.base l.p (l.recs + index_sums l.p (index_entries (take l.next l.initial.a) l.b (l.end - l.from) l.from)) l.a l.i l.slot l.rec
-
-abbrev pub decreases-loop-i : goal.decreases-loop-i
-decreases-loop-i l = l.end - l.i

@@ -1,6 +1,5 @@
 -- `build_index::sum_page` meets its contract. Assumes nothing.
 use native.Mathlib.Omega.{arith}
-use Prim.Native.Nat.{◌-◌}
 use Rattle.build_index.proofs.Children.{child-here, count_begin, count-end, count_small, count_turn, count_fits}
 use Rattle.build_index.proofs.sum_page.Goals as goal
 
@@ -24,12 +23,6 @@ overflow_add-n c = omega (arith, count_small _ _ _ _ _ _ _ c.loop-i.invariant c.
 
 pub overflow_add-n-in-loop-i : goal.overflow_add-n-in-loop-i
 overflow_add-n-in-loop-i c = omega (arith, count_fits _ _ _ _ _ _ _ c.loop-i.invariant c.loop-i-test.true _ (child-here _ _ _ _ _ c.requires.judged c.requires.end_le_elems.0 c.loop-i-test.true c.child_here-c.ensures) _ _ c.less.ensures c.index_key_size.ensures c.requires.end_le_elems.1)
-
-pub overflow_add-i : goal.overflow_add-i
-overflow_add-i c = omega arith
-
-pub loop-i-smaller : goal.loop-i-smaller
-loop-i-smaller c = omega (arith, c.loop-i-test.true)
 
 pub loop-i-preserved : goal.loop-i-preserved
 loop-i-preserved c = count_turn _ _ _ _ _ _ _ c.loop-i.invariant c.loop-i-test.true _ (child-here _ _ _ _ _ c.requires.judged c.requires.end_le_elems.0 c.loop-i-test.true c.child_here-c.ensures) _ _ c.less.ensures c.index_key_size.ensures

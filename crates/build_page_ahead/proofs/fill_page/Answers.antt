@@ -1,6 +1,5 @@
 -- `build_page_ahead::fill_page` meets its contract. Assumes nothing.
 use native.Mathlib.Omega.{arith}
-use Prim.Native.Nat.{◌-◌}
 use Rattle.build_page_ahead.proofs.Paging.{page_begin, page_full, page_done, page-runs, page-opens, page-on}
 use Rattle.build_page_ahead.proofs.fill_page.Goals as goal
 
@@ -26,12 +25,6 @@ fill_run-x-requires c = record {
   opens = page-opens _ _ _ _ _ _ _ _ _ c.loop-i.invariant c.requires.judged c.requires.end_le_elems c.loop-i-test.true _ c.past_here-h.ensures;
   ready = c.loop-i.invariant.ready;
 }
-
-pub overflow_add-i : goal.overflow_add-i
-overflow_add-i c = omega (arith, c.loop-i-test.true, c.ranges.end)
-
-pub loop-i-smaller : goal.loop-i-smaller
-loop-i-smaller c = omega (arith, c.loop-i-test.true)
 
 pub loop-i-preserved : goal.loop-i-preserved
 loop-i-preserved c = page-on _ _ _ _ _ _ _ _ _ c.loop-i.invariant c.requires.judged c.requires.end_le_elems c.loop-i-test.true _ c.past_here-h.ensures _ c.fill_run-x.ensures.ready_2 c.fill_run-x.ensures.filled_by

@@ -2,8 +2,6 @@
 use native.Mathlib.Omega.{arith}
 use mathlib.Core.Path.{refl, sym}
 use mathlib.Core.Logic.{inl}
-use Prim.Native.Nat.{◌-◌}
-use lib.ListN.{take}
 use lib.Seq.{length-take-le}
 use Rattle.build_page_pen.proofs.Leaves.{page_begin, page-long, page-low, page-end, head_asks, run_asks, run-place, hint_asks, pen_asks, page_turn}
 use Rattle.build_page_pen.proofs.pen_page.Goals as goal
@@ -46,12 +44,6 @@ pen_head-n-requires c = let all = pen_asks _ _ _ _ _ _ _ _ _ c.requires.judged c
   above = all.1.1.0;
   asks = all.1.1.1;
 }
-
-pub overflow_add-i : goal.overflow_add-i
-overflow_add-i c = omega (arith, c.loop-i-test.true, c.well_formed)
-
-pub loop-i-smaller : goal.loop-i-smaller
-loop-i-smaller c = omega (arith, c.loop-i-test.true)
 
 pub loop-i-preserved : goal.loop-i-preserved
 loop-i-preserved c = page_turn _ _ _ _ _ _ _ _ _ c.requires.judged c.requires.judged_2 c.requires.end_le_elems _ _ _ _ _ _ _ _ c.loop-i.invariant c.loop-i-test.true _ c.head_here-r.ensures _ _ c.pen_run-x.ensures.by_index_2 c.pen_run-x.ensures.known_2 _ c.remote_addr-addr.ensures _ _ c.put_hint-hint.ensures.value c.put_hint-hint.ensures.a_after _ _ c.pen_head-n.ensures.value c.pen_head-n.ensures.a_after

@@ -1,7 +1,6 @@
 -- `build_page_sweep::sweep_page` meets its contract. Assumes nothing.
 use native.Mathlib.Omega.{arith}
 use mathlib.Core.Logic.{inl}
-use Prim.Native.Nat.{◌-◌}
 use Rattle.build_page_sweep.proofs.Paging.{page_begin, page_done, page-few, page-bounded, page-val, page-key, page-many, page-run, page-due, page-on}
 use Rattle.build_page_sweep.proofs.sweep_page.Goals as goal
 
@@ -43,12 +42,6 @@ sweep_run-x-requires c = record {
   known = c.loop-i.invariant.known;
   run_due = page-due _ _ _ _ _ _ _ _ _ _ _ _ _ c.loop-i.invariant c.requires.judged c.requires.end_le_elems c.loop-i-test.true _ c.head_here-r.ensures (omega (arith, c.if-t-h-gt-MAX_ENTRIES.false)) _ c.with_head-t.ensures;
 }
-
-pub overflow_add-i : goal.overflow_add-i
-overflow_add-i c = omega (arith, c.loop-i-test.true, c.ranges.end)
-
-pub loop-i-smaller : goal.loop-i-smaller
-loop-i-smaller c = omega (arith, c.loop-i-test.true)
 
 pub loop-i-preserved : goal.loop-i-preserved
 loop-i-preserved c = page-on _ _ _ _ _ _ _ _ _ _ _ _ _ c.loop-i.invariant c.requires.judged c.requires.end_le_elems c.loop-i-test.true _ c.head_here-r.ensures (omega (arith, c.if-t-h-gt-MAX_ENTRIES.false)) _ c.with_head-t.ensures _ _ c.sweep_run-x.ensures.run_swept_by _ c.sweep_run-x.ensures.known_2
