@@ -14,21 +14,7 @@ use frames::{Addr, PageId, Refusal};
 pub fn calc_prefix(lo: &[u8], hi: &[u8]) -> usize
     ensures { result ≡ common lo.now hi.now }
 {
-    let mut k: usize = 0;
-    loop {
-        if lo.len() <= k {
-            return k;
-        }
-        if hi.len() <= k {
-            return k;
-        }
-        let x = lo[k];
-        let y = hi[k];
-        if x != y {
-            return k;
-        }
-        k += 1;
-    }
+    lo.iter().zip(hi.iter()).take_while(|(x, y)| *x == *y).count()
 }
 
 // Builds an index page of an index list: its address and the new next free address, or a refusal that changes nothing.
