@@ -1,6 +1,5 @@
 -- `pages::index_ok` meets its contract. Assumes nothing.
 use native.Mathlib.Omega.{arith}
-use Prim.Native.Nat.{◌-◌}
 use mathlib.Core.Path.{sym, ap, ◌∙◌}
 use Rattle.records.specs.Records.{child_of}
 use Rattle.records.proofs.Inside.{at-inside}

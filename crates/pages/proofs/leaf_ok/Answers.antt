@@ -1,10 +1,9 @@
 -- `pages::leaf_ok` meets its contract. Assumes nothing.
 use native.Mathlib.Omega.{arith}
-use Prim.Native.Nat.{◌-◌}
 use mathlib.Core.Path.{refl, sym, ◌∙◌}
 use mathlib.Core.Logic.{inl}
 use Rattle.records.proofs.Inside.{at-inside, ver-inside}
-use Rattle.pages.proofs.Turns.{slots_bad, slots_gap, slots_fall, slots_more, slots_start, slots_end, chains_broken, chains_more, chains_start, chains-end, recs-slots, recs-chains, recs_both, not-true, not-false}
+use Rattle.pages.proofs.Turns.{slots_bad, slots_gap, slots_fall, slots_more, slots_start, slots_end, chains_broken, chains_more, chains_start, chains-end, recs-slots, recs-chains, recs_both}
 use Rattle.pages.proofs.leaf_ok.Goals as goal
 
 pub loop-i-init : goal.loop-i-init

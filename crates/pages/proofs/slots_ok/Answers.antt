@@ -1,6 +1,5 @@
 -- `pages::slots_ok` meets its contract. Assumes nothing.
 use native.Mathlib.Omega.{arith}
-use Prim.Native.Nat.{◌-◌}
 use mathlib.Core.Path.{sym, ◌∙◌}
 use Rattle.records.proofs.Inside.{at-inside}
 use Rattle.pages.proofs.Turns.{slots_bad, slots_gap, slots_fall, slots_more, slots_start, slots_end}
