@@ -127,6 +127,7 @@ fn old_as_of(s: &[u8], from: OldPlace, v: Ver, slot: usize, reads: usize) -> Res
     ensures { result ≡ old_as_of s.now v slot reads from.left from }
 {
     let mut older = from;
+    // No range to walk: each turn passes as many as the page in hand tells, and then one more.
     loop {
         match in_hand(s, older, v) {
             InHand::Is(ver, value) => {

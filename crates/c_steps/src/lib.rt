@@ -374,6 +374,7 @@ pub fn fill(s: &[u8], from: Walk, out: &mut [u64], first: usize, room: usize) ->
     let mut known: u64 = 0;
     let mut at: usize = first;
     let mut k: usize = 0;
+    // No range to walk: a turn tells as many records as it finds in a row.
     while k < room {
         match next(s, w, known, out, at, room - k, spans::less(fit, k)) {
             Turn::On(n, v, seen) => {

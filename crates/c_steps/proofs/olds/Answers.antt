@@ -1,8 +1,8 @@
 -- `c_steps::olds` meets its contract. Assumes nothing.
 use Rattle.std.proofs.Common.{Some}
 use native.Mathlib.Omega.{arith}
-use Prim.Native.Nat.{◌+◌, ◌-◌}
-use mathlib.Core.Path.{sym, ap, ◌∙◌}
+use Prim.Native.Nat.{◌+◌}
+use mathlib.Core.Path.{◌≡◌, sym, ap, ◌∙◌}
 use Rattle.frames.specs.declared.Body.{Body}
 use Rattle.records.proofs.Quick.{quick_is}
 use Rattle.records.proofs.Inside.{ver-inside}
@@ -59,9 +59,10 @@ pub loop-n-preserved : goal.loop-n-preserved
 loop-n-preserved c = olding_next _ _ _ _ _ _ _ _ _ _ c.loop-n.invariant c.in-Some-quick_old.r (omega arith) (quick_is (Some c.in-Some-quick_old.r) c.quick_old.ensures c.in-Some-quick_old.is (rec_none c.in-Some-quick_old.r)) c.tell_rec.ensures
 
 pub returns : goal.returns
-returns c = let all = olds_are _ _ _ _ _ _ _ _ _ _ c.loop-n.invariant in record {
-  upper_bound = all.0;
-  result_bound = all.1.0;
-  out_unchanged = all.1.1.0;
-  filling = all.1.1.1;
-}
+returns c = let e : c.loop-n.n ≡ c.least-most.result = omega arith in
+    let all = rw e at (olds_are _ _ _ _ _ _ _ _ _ _ c.loop-n.invariant) in record {
+      upper_bound = all.0;
+      result_bound = all.1.0;
+      out_unchanged = all.1.1.0;
+      filling = all.1.1.1;
+    }

@@ -1,8 +1,7 @@
 -- `c_steps::plains` meets its contract. Assumes nothing.
 use Rattle.std.proofs.Common.{Some, None}
 use native.Mathlib.Omega.{arith}
-use Prim.Native.Nat.{◌-◌}
-use mathlib.Core.Path.{sym, ◌∙◌}
+use mathlib.Core.Path.{◌≡◌, sym, ◌∙◌}
 use Rattle.records.proofs.Quick.{quick_is}
 use Rattle.walks.specs.Walk.{moved_of}
 use Rattle.c_steps.proofs.Heading.{heading_begin, heading_next, plains_none, plains_are, leaf_kind, leaf_inside, leaf_below, leaf_ver}
@@ -28,7 +27,7 @@ pub returns-in_default-quick_head : goal.returns-in_default-quick_head
 returns-in_default-quick_head c = record { plains = rw c.heads_read-in_default-quick_head.ensures (plains_are _ _ _ _ _ _ _ _ _ _ _ _ _ c.loop-n.invariant None (λ r z. absurd (rec_none r z))); count_lt_fit = rw c.heads_read-in_default-quick_head.ensures (λ r z. absurd (rec_none r z)) }
 
 pub returns-then-r-ne0 : goal.returns-then-r-ne0
-returns-then-r-ne0 c = record { plains = rw c.heads_read-then-r-ne0.ensures (plains_are _ _ _ _ _ _ _ _ _ _ _ _ _ c.loop-n.invariant (Some c.in-Some-quick_head.r) (λ r z. ((omega arith), quick_is (Some r) c.quick_head.ensures (c.in-Some-quick_head.is ∙ z) (rec_none r)))); count_lt_fit = rw c.heads_read-then-r-ne0.ensures (λ r z. omega (arith, c.least-most.ensures.upper_bound, (omega arith))) }
+returns-then-r-ne0 c = record { plains = rw c.heads_read-then-r-ne0.ensures (plains_are _ _ _ _ _ _ _ _ _ _ _ _ _ c.loop-n.invariant (Some c.in-Some-quick_head.r) (λ r z. (omega arith, quick_is (Some r) c.quick_head.ensures (c.in-Some-quick_head.is ∙ z) (rec_none r)))); count_lt_fit = rw c.heads_read-then-r-ne0.ensures (λ r z. omega (arith, c.least-most.ensures.upper_bound)) }
 
 pub tell_rec-requires : goal.tell_rec-requires
 tell_rec-requires c = record {
@@ -47,4 +46,5 @@ unfolding moved_of
 loop-n-preserved c = heading_next _ _ _ _ _ _ _ _ _ _ _ _ _ c.loop-n.invariant c.in-Some-quick_head.r (omega arith) (quick_is (Some c.in-Some-quick_head.r) c.quick_head.ensures c.in-Some-quick_head.is (rec_none c.in-Some-quick_head.r)) c.if-r-ne0.false c.onward-pos.ensures c.tell_rec.ensures
 
 pub returns : goal.returns
-returns c = record { plains = rw c.heads_read-2.ensures (plains_are _ _ _ _ _ _ _ _ _ _ _ _ _ c.loop-n.invariant None (λ r z. absurd (rec_none r z))); count_lt_fit = rw c.heads_read-2.ensures (λ r z. absurd (rec_none r z)) }
+returns c = let e : c.loop-n.n ≡ c.least-most.result = omega arith in
+    record { plains = rw (c.heads_read-2.ensures, sym e) (plains_are _ _ _ _ _ _ _ _ _ _ _ _ _ c.loop-n.invariant None (λ r z. absurd (rec_none r z))); count_lt_fit = rw c.heads_read-2.ensures (λ r z. absurd (rec_none r z)) }
