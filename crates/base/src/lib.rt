@@ -14,7 +14,13 @@ use frames::{Addr, PageId, Refusal};
 pub fn calc_prefix(lo: &[u8], hi: &[u8]) -> usize
     ensures { result ≡ common lo.now hi.now }
 {
-    lo.iter().zip(hi.iter()).take_while(|(x, y)| *x == *y).count()
+    let n = lo.len().min(hi.len());
+    for k in 0..n {
+        if lo[k] != hi[k] {
+            return k;
+        }
+    }
+    n
 }
 
 // Builds an index page of an index list: its address and the new next free address, or a refusal that changes nothing.

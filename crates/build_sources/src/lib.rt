@@ -96,8 +96,11 @@ fn compare_keys(s: &[u8], a: Key, t: &[u8], b: Key) -> Ordering
 fn joined_begins(pre: &[u8], p: &[u8], r: &[u8]) -> bool
     ensures { result ≡ starts_with pre.now (p.now ++ r.now) }
 {
-    let joined = p.iter().chain(r.iter());
-    pre.len() <= p.len() + r.len() && pre.iter().zip(joined).all(|(x, y)| *x == *y)
+    if order::starts_with(p, pre) {
+        order::starts_with(&pre[p.len()..], r)
+    } else {
+        order::starts_with(pre, p)
+    }
 }
 
 fn begins_in(s: &[u8], k: Key, pre: &[u8]) -> bool
