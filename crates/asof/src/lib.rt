@@ -138,22 +138,24 @@ fn old_as_of(s: &[u8], from: OldPlace, v: Ver, slot: usize, reads: usize) -> Res
                     reads,
                 });
             }
-            InHand::On(here) => match here.aged(s) {
-                Some(Aged::Is { ver, slot: i, rest }) => {
-                    if ver.newer(v) {
-                        older = rest;
-                    } else {
-                        let page = rest.page;
-                        return handed(walks::read(s, page, Body::HISTORY, i), slot, ver, reads);
+            InHand::On(here) => {
+                let Some(aged) = here.aged(s) else {
+                    return Err(Refusal::BadFrame);
+                };
+                match aged {
+                    Aged::Is { ver, slot: i, rest } => {
+                        if ver.newer(v) {
+                            older = rest;
+                        } else {
+                            let page = rest.page;
+                            return handed(walks::read(s, page, Body::HISTORY, i), slot, ver, reads);
+                        }
+                    }
+                    Aged::End => {
+                        return Ok(AsOf::Nothing { reads });
                     }
                 }
-                Some(Aged::End) => {
-                    return Ok(AsOf::Nothing { reads });
-                }
-                None => {
-                    return Err(Refusal::BadFrame);
-                }
-            },
+            }
         }
     }
 }

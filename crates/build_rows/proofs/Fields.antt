@@ -79,9 +79,9 @@ ref-here t at remote h far next e =
     let y = Some (front_places h far next) in
     let a1 = ask (leb (at + 14) (length t)) _ None y (front_no h far next) e in
     let a2 = dont (eqb (le_at 4 t (at + 10)) 0) None _ y (front_no h far next) a1.1 in
-    let x1 : hist_of (le_at 8 t at) (le_at 2 t (at + 8)) (le_at 4 t (at + 10)) ≡ h = cc in
-    let x2 : remote ≡ far = cc in
-    let x3 : at + 14 ≡ next = cc in
+    let x1 : hist_of (le_at 8 t at) (le_at 2 t (at + 8)) (le_at 4 t (at + 10)) ≡ h = grind arith in
+    let x2 : remote ≡ far = grind arith in
+    let x3 : at + 14 ≡ next = grind arith in
     record { fits = leb-true (at + 14) (length t) a1.0; hist = x1; same = x2; next = x3 }
 
 front-here : (t : List ℕ) (q : ℕ) (head : Bool) (h : HistRef) (far : Bool) (at : ℕ) → front_at t q head ≡ Some (front_places h far at) → FrontHere t q head h far at
@@ -96,9 +96,9 @@ front-here t q head h far at e =
     none : (f : ℕ) → get_or t q 0 ≡ f → q < length t → f ≤ 3 → has_of f ≡ false → far_of f ≡ eqb f 2
         → Some (front_places no_hist (eqb f 2) (q + 1)) ≡ Some (front_places h far at) → FrontHere t q head h far at
     none f u l k m n e' =
-        let x1 : no_hist ≡ h = cc in
-        let x2 : eqb f 2 ≡ far = cc in
-        let x3 : q + 1 ≡ at = cc in
+        let x1 : no_hist ≡ h = grind arith in
+        let x2 : eqb f 2 ≡ far = grind arith in
+        let x3 : q + 1 ≡ at = grind arith in
         let m' : has_of (get_or t q 0) ≡ false = ap has_of u ∙ m in
         record {
           inside = l;
@@ -223,10 +223,10 @@ module _ (w : List ℕ) (b : Body) (i : Inside w b) (q : ℕ) (h : HistRef) (p n
       → Some (val_parts h' (at + 4) (le_at 4 t at) null_addr (at + 4 + le_at 4 t at)) ≡ Some (val_parts h p n a next) → ValueHere w q head h p n a
   unfolding bytes_at
   near h' at f l m r e' =
-      let x1 : h' ≡ h = cc in
-      let x2 : at + 4 ≡ p = cc in
-      let x3 : le_at 4 t at ≡ n = cc in
-      let x4 : null_addr ≡ a = cc in
+      let x1 : h' ≡ h = grind arith in
+      let x2 : at + 4 ≡ p = grind arith in
+      let x3 : le_at 4 t at ≡ n = grind arith in
+      let x4 : null_addr ≡ a = grind arith in
       let g : le_at 4 t at ≡ le_at 4 w at = number-front w b.end 4 at l in
       let k = below in
       rw (← x1, ← x2, ← x3, ← x4)
@@ -236,10 +236,10 @@ module _ (w : List ℕ) (b : Body) (i : Inside w b) (q : ℕ) (h : HistRef) (p n
       → remote_of h' (addr (le_at 8 t (at + 4))) (le_at 4 t at) (at + 12) r ≡ Some (val_parts h p n a next) → ValueHere w q head h p n a
   unfolding bytes_at
   distant h' at f m r (Some c) u e' =
-      let x1 : h' ≡ h = cc in
-      let x2 : c ≡ p = cc in
-      let x3 : le_at 4 t at ≡ n = cc in
-      let x4 : addr (le_at 8 t (at + 4)) ≡ a = cc in
+      let x1 : h' ≡ h = grind arith in
+      let x2 : c ≡ p = grind arith in
+      let x3 : le_at 4 t at ≡ n = grind arith in
+      let x4 : addr (le_at 8 t (at + 4)) ≡ a = grind arith in
       let g : le_at 4 t at ≡ le_at 4 w at = number-front w b.end 4 at (omega arith) in
       let g' : le_at 8 t (at + 4) ≡ le_at 8 w (at + 4) = number-front w b.end 8 (at + 4) (omega arith) in
       let y : le_at 8 t (at + 4) + 40 ≡ c = remote-place w (addr (le_at 8 t (at + 4))) (le_at 4 t at) c u in
@@ -320,9 +320,9 @@ key-short t p kind v ra rn k l m e =
     let e' : key_of t kind (Some (get_or t p 0, p + 1)) ≡ Some (key_parts v ra rn) = rw (ne_eqb kind 2 k, read_one t p l m) at e in
     let a1 = ask (leb (skip_of kind) (get_or t p 0)) _ None y (key_no v ra rn) e' in
     let a2 = ask (leb (p + 1 + get_or t p 0) (length t)) _ None y (key_no v ra rn) a1.1 in
-    let x : p + 1 ≡ v = cc in
-    let z : p + 1 + skip_of kind ≡ ra = cc in
-    let u : get_or t p 0 - skip_of kind ≡ rn = cc in
+    let x : p + 1 ≡ v = grind arith in
+    let z : p + 1 + skip_of kind ≡ ra = grind arith in
+    let u : get_or t p 0 - skip_of kind ≡ rn = grind arith in
     (x, omega (arith, leb-true (skip_of kind) (get_or t p 0) a1.0))
 
 -- a version alone
@@ -331,9 +331,9 @@ unfolding key_at
 key-old t p kind v ra rn k e =
     let e' : cond (leb (p + 12) (length t)) (Some (key_parts p (p + 12) 0)) None ≡ Some (key_parts v ra rn) = rw (eq-eqb kind 2 k) at e in
     let a1 = ask (leb (p + 12) (length t)) _ None (Some (key_parts v ra rn)) (key_no v ra rn) e' in
-    let x : p ≡ v = cc in
-    let z : p + 12 ≡ ra = cc in
-    let u : 0 ≡ rn = cc in
+    let x : p ≡ v = grind arith in
+    let z : p + 12 ≡ ra = grind arith in
+    let u : 0 ≡ rn = grind arith in
     (x, omega arith)
 
 key-page : (w : List ℕ) (b : Body) (p v ra rn : ℕ) → key_in w b p ≡ Some (key_parts v ra rn) → (key_at (take b.end w) p b.kind ≡ Some (key_parts v ra rn)) × (b.prefix_len + rn ≤ max_key)

@@ -61,9 +61,9 @@ stands w a b i p q r e = go (rec_at w b i) refl e
   where
     go : (x : Option Rec) → rec_at w b i ≡ x → old_rec a i x ≡ Some (old_version p q r) → Stands w a b i p q r
     go (Some y) u e' =
-        let x1 : a ≡ p = cc in
-        let x2 : i ≡ q = cc in
-        let x3 : y ≡ r = cc in
+        let x1 : a ≡ p = grind arith in
+        let x2 : i ≡ q = grind arith in
+        let x3 : y ≡ r = grind arith in
         record { page = x1; slot = x2; read = u ∙ ap Some x3 }
     go None u e' = absurd (old_no p q r e')
 

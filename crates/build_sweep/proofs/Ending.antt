@@ -69,7 +69,7 @@ ent-key s at k v e =
     let a₃ = ask (leb (at + 2 + (j + 16)) (length s)) _ None (Some (k, v)) no_ent a₂.1 in
     let a₄ = ask (leb u max_value) _ None (Some (k, v)) no_ent a₃.1 in
     let a₅ = ask (leb (at + 2 + j + 16 + u) (length s)) (Some (j, u)) None (Some (k, v)) no_ent a₄.1 in
-    let q : k ≡ be_at 2 s at = let z = a₅.1 in cc in
+    let q : k ≡ be_at 2 s at = let z = a₅.1 in grind arith in
     (q, leb-true _ _ a₁.0)
 
 index_key_lem : (s : List ℕ) (at k v : ℕ) → index_ent_at s at ≡ Some (k, v) → (k ≡ be_at 2 s at) × (at + 2 ≤ length s)
@@ -79,7 +79,7 @@ index_key_lem s at k v e =
     let a₁ = ask (leb (at + 2) (length s)) _ None (Some (k, v)) no_ent e in
     let a₂ = ask (leb j max_key) _ None (Some (k, v)) no_ent a₁.1 in
     let a₃ = ask (leb (at + 2 + (j + 8)) (length s)) (Some (j, 0)) None (Some (k, v)) no_ent a₂.1 in
-    let q : k ≡ be_at 2 s at = let z = a₃.1 in cc in
+    let q : k ≡ be_at 2 s at = let z = a₃.1 in grind arith in
     (q, leb-true _ _ a₁.0)
 
 module _ (l : List ℕ) where

@@ -28,7 +28,7 @@ use Rattle.std.specs.declared.cmp.Ordering.{Ordering}
 
 -- ---- the lengths
 
-flat : (a b : Bool) → None ≡ cond a (cond b None None) None
+flat : {A : Type 0} (a b : Bool) → ◌≡◌ {A = Option A} None (cond a (cond b None None) None)
 flat true true = refl
 flat true false = refl
 flat false b = refl

@@ -79,7 +79,7 @@ ent-room s at k v e =
     let a₁ = ask (leb (at + 2) (length s)) _ None (Some (k, v)) no_ent (sym e) in
     let a₂ = ask (leb j max_key) _ None (Some (k, v)) no_ent a₁.1 in
     let a₃ = ask (leb (at + 2 + (j + 8)) (length s)) (Some (j, 0)) None (Some (k, v)) no_ent a₂.1 in
-    let q : k ≡ be_at 2 s at = let z = a₃.1 in cc in
+    let q : k ≡ be_at 2 s at = let z = a₃.1 in grind arith in
     let h : at + 2 + (be_at 2 s at + 8) ≤ length s = leb-true _ _ a₃.0 in
     omega (arith, q, h)
 

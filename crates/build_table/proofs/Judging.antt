@@ -235,10 +235,10 @@ same_end : (next : ℕ) (m : Call) (b : Borders) (es : List Entry) → next + fr
 unfolding index_end
 same_end next m b es = ap (λ (k : ℕ). next + k) (sym (length_index m b es))
 
-apart : (n s : ℕ) (r : Refusal) → ◌≡◌ {A = Result (ℕ × ℕ) Refusal} (Ok (n, s)) Err r → ⊥
+apart : (n s : ℕ) (r : Refusal) → ◌≡◌ {A = Result (ℕ × ℕ) Refusal} (Ok (n, s)) (Err r) → ⊥
 apart n s r e = absurd (let z : ◌≡◌ {A = ℕ} 0 1 = cc in omega arith)
 
-one_no : (r q : Refusal) → Err r ≡ Err q → r ≡ q
+one_no : (r q : Refusal) → ◌≡◌ {A = Result (ℕ × ℕ) Refusal} (Err r) (Err q) → r ≡ q
 one_no r q e = cc
 
 module _ (a : List ℕ) (next : ℕ) (m : Call) (lo hi : List ℕ) (e : Boundaries) (es : List Entry) (le : next ≤ length a) (h : Held lo hi (take next a) e) where
@@ -269,10 +269,10 @@ module _ (a : List ℕ) (next : ℕ) (m : Call) (lo hi : List ℕ) (e : Boundari
       passed = passes Err (Ok (length es, index_size b es)) rows (Ok (n, s)) (λ r z. apart n s r (sym z)) (sym (ev ∙ judge_is) ∙ q)
 
       n-is : n ≡ length es
-      n-is = let z = passed.0 in cc
+      n-is = let z = passed.0 in grind arith
 
       s_is : s ≡ index_size b es
-      s_is = let z = passed.0 in cc
+      s_is = let z = passed.0 in grind arith
 
       both : (leb (length es) max_entries ≡ true) × (leb (index_size b es) max_size ≡ true)
       both = and_both _ _ passed.1.1.1.1.0
@@ -300,6 +300,6 @@ module _ (a : List ℕ) (next : ℕ) (m : Call) (lo hi : List ℕ) (e : Boundari
       pub index_built_lem : (a₁ : List ℕ) (x : ℕ) → a₁ ≡ put a next (index_image m b es) → x ≡ frame_len s → (Ok (addr next, next + x) ≡ index_answer a next m b es) × (a₁ ≡ index_arena a next m b es)
       unfolding index_answer index_arena
       index_built_lem a₁ x p ex = (
-        ap (λ (k : ℕ). Ok (addr next, next + k)) (ex ∙ ap frame_len s_is) ∙ ap ((λ x0 x1. Ok (x0, x1)) (addr next)) (same_end next m b es) ∙ sym (all_go rows Err (Ok (addr next, index_end next m b es)) passed.1),
+        ap (λ (k : ℕ). Ok (addr next, next + k)) (ex ∙ ap frame_len s_is) ∙ ap (λ (k : ℕ). Ok (addr next, k)) (same_end next m b es) ∙ sym (all_go rows Err (Ok (addr next, index_end next m b es)) passed.1),
         p ∙ sym (all_go rows (λ (k : Refusal). a) (put a next (index_image m b es)) passed.1),
       )

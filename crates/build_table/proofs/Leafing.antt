@@ -258,10 +258,10 @@ module _ (m : Call) (lo hi w : List ℕ) (e : Boundaries) (h : Held lo hi w e) (
 apart : (t : Totals) (r : Refusal) → Ok t ≡ Err r → ⊥
 apart t r e = absurd (let z : ◌≡◌ {A = ℕ} 0 1 = cc in omega arith)
 
-one_no : (r q : Refusal) → Err r ≡ Err q → r ≡ q
+one_no : (r q : Refusal) → ◌≡◌ {A = Result Totals Refusal} (Err r) (Err q) → r ≡ q
 one_no r q e = cc
 
-one_fit : (t u : Totals) → Ok t ≡ Ok u → t ≡ u
+one_fit : (t u : Totals) → ◌≡◌ {A = Result Totals Refusal} (Ok t) (Ok u) → t ≡ u
 one_fit t u e = cc
 
 module _ (a : List ℕ) (next : ℕ) (m : Call) (lo hi : List ℕ) (e : Boundaries) (h : Held lo hi (take next a) e) (es : List Entry) where
@@ -288,7 +288,7 @@ module _ (a : List ℕ) (next : ℕ) (m : Call) (lo hi : List ℕ) (e : Boundari
         )
 
     module _ (t : Totals) (q : v ≡ Ok t) where
-      passed : (Ok tot ≡ Ok t) × All rows
+      passed : (◌≡◌ {A = Result Totals Refusal} (Ok tot) (Ok t)) × All rows
       passed = passes Err (Ok tot) rows (Ok t) (λ r z. apart t r (sym z)) (sym (ev ∙ judge_is) ∙ q)
 
       pub leaf_totals : t ≡ totals_of m (bounds_of lo hi (take next a) e) next es

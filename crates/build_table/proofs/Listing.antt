@@ -163,10 +163,10 @@ module _ (l w : List ℕ) (len next : ℕ) (lo hi : List ℕ) (e : Boundaries) (
 
 -- ---- what is built
 
-one_leaf : (r q : Refusal) → Err r ≡ Err q → r ≡ q
+one_leaf : (r q : Refusal) → ◌≡◌ {A = Result Totals Refusal} (Err r) (Err q) → r ≡ q
 one_leaf r q e = cc
 
-one_index : (r q : Refusal) → Err r ≡ Err q → r ≡ q
+one_index : (r q : Refusal) → ◌≡◌ {A = Result (ℕ × ℕ) Refusal} (Err r) (Err q) → r ≡ q
 one_index r q e = cc
 
 module _ (a l : List ℕ) (next : ℕ) (m : Call) (lo hi : List ℕ) (e : Boundaries) where

@@ -161,7 +161,7 @@ module _ (a : List ℕ) (m : Call) (next : ℕ) (ver : Ver) (key v : List ℕ) (
   stands : leaf_at m next (length v) ≡ x.0
   stands =
       let q = left.0 ∙ e in
-      let y : addr (leaf_at m next (length v)) ≡ x = cc in
+      let y : addr (leaf_at m next (length v)) ≡ x = grind arith in
       ap (λ (b : Addr). b.0) y
 
   leaf_fit : LeafFit after m next ver key v
@@ -205,7 +205,7 @@ module _ (a : List ℕ) (m : Call) (next : ℕ) (key : List ℕ) (page : PageId)
   index_stands : next ≡ x.0
   index_stands =
       let q = index_left_lem.0 ∙ e in
-      let y : addr next ≡ x = cc in
+      let y : addr next ≡ x = grind arith in
       ap (λ (b : Addr). b.0) y
 
   index_fit : IndexFit index_after m next key page

@@ -14,6 +14,7 @@ use Rattle.pages.specs.Boundaries.{place}
 use Rattle.pages.specs.Frames.{key_fills, val_fills}
 use Rattle.delta.specs.declared.LeafKey.{LeafKey}
 use Rattle.frames.specs.declared.PageId.{PageId}
+use Rattle.order.specs.declared.Ver.{Ver}
 use Rattle.pages.specs.declared.Place.{Place}
 use Rattle.records.specs.declared.ValParts.{ValParts}
 use Rattle.values.specs.declared.KeyParts.{KeyParts}

@@ -464,7 +464,7 @@ fn history(x: BoxHeader, h: BaseHeader, at: usize, len: usize) -> bool
         & (h.size == x.payload_size)
 }
 
-// The history page at an address, judged quickly; Bad says nothing.
+// The history page at an address, judged quickly; None says nothing.
 pub fn quick_history(s: &[u8], a: Addr) -> Option<Body>
     ensures { (b : Body) → result ≡ Some b → (open_at s.now a ≡ Some b) × (b.kind ≡ 2) }
 {

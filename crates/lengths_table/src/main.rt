@@ -2,31 +2,21 @@
 // GNU as wrote them. Then forms that are no shortest form of a u32, each of which the reader must refuse.
 #![tactic(auto)]
 
-ghost use Rattle.std.specs.Prelude.{◌≤◌};
-
-use replay_text::Number;
 use std::io;
 use std::io::{BufWriter, Write};
 
 // Whether a form is refused.
-fn refused(s: &[u8]) -> u64
-    ensures { result ≤ 1 }
-{
+fn refused(s: &[u8]) -> bool {
     match lengths::read(s, 0) {
-        Some((_, _)) => 0,
-        None => 1,
+        Some((_, _)) => false,
+        None => true,
     }
 }
 
 // Whether the length at place 1 reads back as x and ends where n bytes end.
 fn reads_back(s: &[u8], x: u32, n: usize) -> bool {
     match lengths::read(s, 1) {
-        Some((v, next)) => {
-            if next == 0 {
-                return false;
-            }
-            (v == x) & (next - 1 == n) & (lengths::size(x) == n)
-        }
+        Some((v, next)) => v == x && next.checked_sub(1) == Some(n) && lengths::size(x) == n,
         None => false,
     }
 }
@@ -44,19 +34,16 @@ fn line<W: Write>(out: &mut W, x: u32) -> io::Result<()> {
 }
 
 fn lines<W: Write>(out: &mut W, s: &[u8]) -> io::Result<()> {
-    let mut at = 0;
-    while at < s.len() {
-        let Number::Is(v, next) = replay_text::number_at(s, at) else {
+    let mut rest = s;
+    while !rest.is_empty() {
+        let Some((v, next)) = replay_text::number_at(rest, 0) else {
             return out.write_all(b"no number\n");
         };
-        if 4294967295 < v {
+        let Ok(x) = u32::try_from(v) else {
             return out.write_all(b"no u32\n");
-        }
-        line(out, v as u32)?;
-        if s.len() <= next {
-            return Ok(());
-        }
-        at = next + 1;
+        };
+        line(out, x)?;
+        rest = replay_text::rest_of(rest, next + 1);
     }
     Ok(())
 }
@@ -66,13 +53,16 @@ fn main(rt: HostRuntime) -> io::Result<()> {
     let mut buf = [0u8; 65536];
     let n = replay_text::read_full(&mut rt.stdin(), &mut buf)?;
     lines(&mut out, &buf[..n])?;
-    let none = refused(b"");
-    let cut = refused(b"\x80");
-    let zeros = refused(b"\x80\x00");
-    let long = refused(b"\xff\x80\x00");
-    let above = refused(b"\xff\xff\xff\xff\x10");
-    let six = refused(b"\x80\x80\x80\x80\x80\x01");
-    let count = none + cut + zeros + long + above + six;
+    // none, cut short, zeros too many, a byte too long, over a u32, six bytes
+    let forms: [&[u8]; 6] = [
+        b"",
+        b"\x80",
+        b"\x80\x00",
+        b"\xff\x80\x00",
+        b"\xff\xff\xff\xff\x10",
+        b"\x80\x80\x80\x80\x80\x01",
+    ];
+    let count = forms.iter().filter(|form| refused(**form)).count();
     writeln!(out, "refused {count} of 6")?;
     out.flush()
 }

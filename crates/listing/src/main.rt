@@ -2,23 +2,23 @@
 // an arena of 49,152 bytes from 8 on, and lists what the page says by walking it; or prints the number of the refusal.
 #![tactic(auto)]
 
-ghost use Rattle.std.specs.Prelude.{◌≡◌, length};
-
 use frames::{Addr, NULL_PID, Refusal};
+use order::Ver;
 use std::io;
 use std::io::{BufWriter, Write};
 use walks::{Item, Step, Walk};
 
+// The most records that a walk is followed for: a list of this size holds fewer than a thousand.
+const MOST: usize = 16384;
+
 fn refused<W: Write>(out: &mut W, r: Refusal) -> io::Result<()> {
-    let n = frames::number(r);
-    writeln!(out, "refused {n}")
+    writeln!(out, "refused {}", frames::number(r))
 }
 
-// How many records a walk finds: a list of this size holds fewer than a thousand.
+// How many records a walk finds.
 fn count(s: &[u8], from: Walk) -> usize {
     let mut w = from;
-    let mut k: usize = 0;
-    while k < 16384 {
+    for k in 0..MOST {
         match w.step(s) {
             Ok(Step::Found(_, next)) => {
                 w = next;
@@ -33,16 +33,13 @@ fn count(s: &[u8], from: Walk) -> usize {
                 return k;
             }
         }
-        k += 1;
     }
-    k
+    MOST
 }
 
 // KEYHEX TXID CMD VALUEHEX
 fn line<W: Write>(out: &mut W, s: &[u8], x: Item) -> io::Result<()> {
-    let v = x.ver;
-    let txid = v.txid;
-    let cmd = v.cmd;
+    let Ver { txid, cmd } = x.ver;
     replay_text::print_bytes(out, walks::rest_of(s, x))?;
     write!(out, " {txid} {cmd} ")?;
     replay_text::print_bytes(out, walks::value_of(s, x))?;
@@ -51,8 +48,7 @@ fn line<W: Write>(out: &mut W, s: &[u8], x: Item) -> io::Result<()> {
 
 fn lines<W: Write>(out: &mut W, s: &[u8], from: Walk) -> io::Result<()> {
     let mut w = from;
-    let mut k: usize = 0;
-    while k < 16384 {
+    for _ in 0..MOST {
         match w.step(s) {
             Ok(Step::Found(x, next)) => {
                 line(out, s, x)?;
@@ -68,7 +64,6 @@ fn lines<W: Write>(out: &mut W, s: &[u8], from: Walk) -> io::Result<()> {
                 return refused(out, r);
             }
         }
-        k += 1;
     }
     Ok(())
 }
@@ -99,13 +94,6 @@ fn built<W: Write>(out: &mut W, arena: &mut [u8], list: &[u8]) -> io::Result<()>
     }
 }
 
-// Zeros for an arena. The `ensures` gives the length, which lending the array needs.
-fn whole_arena() -> [u8; 49152]
-    ensures { 49152 ≡ length result }
-{
-    [0; 49152]
-}
-
 fn main(rt: HostRuntime) -> io::Result<()> {
     let mut out = BufWriter::new(rt.alloc(), io::writer(&rt))?;
     let mut buf = [0u8; 65536];
@@ -114,7 +102,7 @@ fn main(rt: HostRuntime) -> io::Result<()> {
         refused(&mut out, Refusal::BadList)?;
         return out.flush();
     }
-    let mut arena = whole_arena();
+    let mut arena = [0u8; 49152];
     built(&mut out, &mut arena, &buf[..n])?;
     out.flush()
 }

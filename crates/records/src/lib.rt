@@ -204,7 +204,7 @@ pub fn rec_at(s: &[u8], b: Body, i: usize) -> Option<Rec>
 }
 
 // ---- the common record, for the loop that takes many steps: a value that stands in its page, a head's key with a length of one byte. Any
-// other is left to the decoder above: the answer is then Bad, which says nothing.
+// other is left to the decoder above: the answer is then None, which says nothing.
 
 // A value's size and bytes behind its front.
 fn bytes_at(t: &[u8], at: usize, h: HistRef) -> Option<Val>

@@ -1,11 +1,12 @@
 // The language of the judge's vectors (rust/oracle/README.md): a command's words read, and the pieces of an answer printed.
 #![tactic(auto)]
 
-ghost use Rattle.std.specs.Prelude.{◌++◌, codes, OnOk};
+ghost use Rattle.std.specs.Prelude.{◌≡◌, ◌≤◌, ◌++◌, length, codes, OnOk};
 ghost use Rattle.std.specs.Io.KnownBytes.{Appends};
 ghost use Rattle.frames.specs.Refusals.{number_of};
 ghost use Rattle.replay_text.specs.Text.{runs_text};
 ghost use Rattle.replay_script.specs.Pieces.{number_text, refused_text};
+ghost use Rattle.replay_script.specs.Words.{first_word};
 
 use frames::{Addr, Refusal};
 use std::io;
@@ -15,22 +16,25 @@ use std::io::Write;
 
 // Whether a line is an answer.
 pub fn is_answer(l: &[u8]) -> bool {
-    replay_text::says(l, 0, b"=")
-        | replay_text::says(l, 0, b"!")
-        | replay_text::says(l, 0, b"none")
-        | replay_text::says(l, 0, b"r ")
-        | replay_text::says(l, 0, b"i ")
-        | replay_text::says(l, 0, b"end")
-        | replay_text::says(l, 0, b"bytes ")
+    let words: [&[u8]; 7] = [b"=", b"!", b"none", b"r ", b"i ", b"end", b"bytes "];
+    words.iter().any(|w| l.starts_with(*w))
+}
+
+// A line's first word, with the space behind it.
+pub fn command(l: &[u8]) -> &[u8]
+    ensures { result.now ≡ first_word l.now }
+{
+    match l.iter().position(|b| *b == b' ') {
+        Some(n) => &l[..n + 1],
+        None => l,
+    }
 }
 
 // The place of the k-th word behind a line's first.
 pub fn place(l: &[u8], k: usize) -> usize {
     let mut at = 0;
-    let mut left = k;
-    while left > 0 {
+    for _ in 0..k {
         at = replay_text::next_word(l, at);
-        left -= 1;
     }
     at
 }
@@ -53,23 +57,22 @@ pub fn word32(l: &[u8], k: usize) -> u32 {
     (number(l, k) % 4294967296) as u32
 }
 
+// The bytes that the k-th word gives, as far as there is room for them.
+pub fn bytes<'a>(l: &[u8], k: usize, room: &'a mut [u8]) -> &'a [u8]
+    ensures { length result.now ≤ length room.old }
+{
+    let n = replay_text::bytes_at(l, place(l, k), room);
+    &room[..n]
+}
+
 // A signed number: those below -2 stand for any that low.
 pub fn signed(l: &[u8], k: usize) -> i64 {
-    let at = place(l, k);
-    if replay_text::says(l, at, b"-1") {
-        return -1;
+    match replay_text::rest_of(l, place(l, k)) {
+        [b'-', b'1', ..] => -1,
+        [b'-', b'2', ..] => -2,
+        [b'-', ..] => -3,
+        text => i64::try_from(replay_text::number_or_0(text, 0)).unwrap_or(i64::MAX),
     }
-    if replay_text::says(l, at, b"-2") {
-        return -2;
-    }
-    if replay_text::says(l, at, b"-") {
-        return -3;
-    }
-    let v = replay_text::number_or_0(l, at);
-    if v < 9223372036854775807 {
-        return v as i64;
-    }
-    9223372036854775807
 }
 
 // ---- an answer's pieces; a failed write ends each, and some of it may be written
@@ -104,9 +107,7 @@ pub fn say_bytes<W: Write>(out: &mut W, b: &[u8]) -> io::Result<()>
 pub fn refused<W: Write>(out: &mut W, r: Refusal) -> io::Result<()>
     ensures { OnOk result (Appends (W.contents out.old) (W.contents out.new) (refused_text (number_of r))) }
 {
-    out.write_all(b"!")?;
-    say_number(out, frames::number(r) as u64)?;
-    end_line(out)
+    writeln!(out, "! {}", frames::number(r))
 }
 
 pub fn nothing<W: Write>(out: &mut W) -> io::Result<()>
@@ -126,16 +127,11 @@ pub fn is_bytes<W: Write>(out: &mut W, b: &[u8]) -> io::Result<()>
 pub fn is_number<W: Write>(out: &mut W, n: u64) -> io::Result<()>
     ensures { OnOk result (Appends (W.contents out.old) (W.contents out.new) (codes "=" ++ (number_text n ++ codes "\n"))) }
 {
-    out.write_all(b"=")?;
-    say_number(out, n)?;
-    end_line(out)
+    writeln!(out, "= {n}")
 }
 
 pub fn are_numbers<W: Write>(out: &mut W, a: u64, b: u64) -> io::Result<()>
     ensures { OnOk result (Appends (W.contents out.old) (W.contents out.new) (codes "=" ++ (number_text a ++ (number_text b ++ codes "\n")))) }
 {
-    out.write_all(b"=")?;
-    say_number(out, a)?;
-    say_number(out, b)?;
-    end_line(out)
+    writeln!(out, "= {a} {b}")
 }

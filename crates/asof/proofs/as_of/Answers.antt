@@ -1,6 +1,6 @@
 -- `asof::as_of` meets its contract. Assumes nothing.
-use Rattle.std.proofs.Common.{Ok}
-use mathlib.Core.Path.{sym, ap, ◌∙◌}
+use Rattle.std.proofs.Common.{Ok, Err, rules}
+use mathlib.Core.Path.{◌≡◌, sym, ap, ◌∙◌}
 use Rattle.asof.specs.AsOf.{handed_of, as_of_at}
 use Rattle.search_head.proofs.Heads.{head_inside}
 use Rattle.asof.specs.AsOf.{head_pick, as_of_head}
@@ -19,7 +19,8 @@ rec_at-requires c = head_inside c.args.s.now c.args.a c.args.probe.now _ _ _ _ _
 
 pub returns-in_err-head : goal.returns-in_err-head
 unfolding as_of_at
-returns-in_err-head c = c.from_residual.ensures ∙ ap (as_of_head c.args.s.now c.args.v) (sym (sym c.head_at.ensures ∙ c.in_err-head.was))
+returns-in_err-head c = let refused : c.from_residual.result ≡ Err c.in_err-head.field-0.0 = search rules in
+    refused ∙ ap (as_of_head c.args.s.now c.args.v) (sym (sym c.head_at.ensures ∙ c.in_err-head.was))
 
 pub returns-in-Nothing : goal.returns-in-Nothing
 unfolding as_of_at

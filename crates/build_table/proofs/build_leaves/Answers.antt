@@ -1,6 +1,7 @@
 -- `build_table::build_leaves` meets its contract. Assumes nothing.
+use Rattle.std.proofs.Common.{Err, rules}
 use native.Mathlib.Omega.{arith}
-use mathlib.Core.Path.{sym, ◌∙◌}
+use mathlib.Core.Path.{sym, ◌∙◌, ◌≡◌}
 use lib.ListN.{take}
 use lib.Seq.{length-take-le}
 use Rattle.build_table.specs.Pages.{in_leaves}
@@ -35,8 +36,9 @@ write_leaves-leaf-requires c = record {
 }
 
 pub returns-in_err-t : goal.returns-in_err-t
-returns-in_err-t c = let all = leaf_refused c.args.a.now c.args.next c.args.m c.args.none.now c.args.none.now c.args.e c.requires.leaves.held (in_leaves (take c.args.next c.args.a.now) c.args.b c.args.from c.args.end c.args.d c.args.n) _ c.judge_leaves.ensures _ c.in_err-t.was in record {
-  value = c.from_residual.ensures ∙ all.0;
+returns-in_err-t c = let refused : c.from_residual.result ≡ Err c.in_err-t.field-0.0 = search rules in
+    let all = leaf_refused c.args.a.now c.args.next c.args.m c.args.none.now c.args.none.now c.args.e c.requires.leaves.held (in_leaves (take c.args.next c.args.a.now) c.args.b c.args.from c.args.end c.args.d c.args.n) _ c.judge_leaves.ensures _ c.in_err-t.was in record {
+  value = refused ∙ all.0;
   a_after = all.1;
 }
 

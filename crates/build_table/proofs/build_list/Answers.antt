@@ -1,6 +1,7 @@
 -- `build_table::build_list` meets its contract. Assumes nothing.
+use Rattle.std.proofs.Common.{Err, rules}
 use native.Mathlib.Omega.{arith}
-use mathlib.Core.Path.{sym, ◌∙◌}
+use mathlib.Core.Path.{sym, ◌∙◌, ◌≡◌}
 use lib.Seq.{length-take-le}
 use Rattle.build_table.proofs.Listing.{leaf_list_refused, fit_well, fit_small, fit_long, fit_few, fit_totals, fit_room, fit_built}
 use Rattle.build_table.proofs.build_list.Goals as goal
@@ -34,8 +35,9 @@ write_list-leaf-requires c = record {
 }
 
 pub returns-in_err-t : goal.returns-in_err-t
-returns-in_err-t c = let all = leaf_list_refused c.args.a.now c.args.list.now c.args.next c.args.m c.args.lo.now c.args.hi.now c.args.e c.requires.held _ c.judge_list.ensures _ c.in_err-t.was in record {
-  value = c.from_residual.ensures ∙ all.0;
+returns-in_err-t c = let refused : c.from_residual.result ≡ Err c.in_err-t.field-0.0 = search rules in
+    let all = leaf_list_refused c.args.a.now c.args.list.now c.args.next c.args.m c.args.lo.now c.args.hi.now c.args.e c.requires.held _ c.judge_list.ensures _ c.in_err-t.was in record {
+  value = refused ∙ all.0;
   a_after = all.1;
 }
 

@@ -27,7 +27,7 @@ quick_key-n-requires c = let o = sym c.body_of.ensures ∙ c.in_ok-b.was in
     record {
       inside = leaf_inside c.args.s.now c.args.w c.in_ok-b.b o;
       kind_value = leaf_kind c.args.s.now c.args.w c.in_ok-b.b o;
-      p_lt_end = (slot-inside c.args.s.now c.in_ok-b.b c.args.w.pos c.in_ok-b.p (sym c.slot_at.ensures ∙ c.in_ok-p.was)).1;
+      p_lt_end = (slot-inside c.args.s.now c.in_ok-b.b c.args.w.pos c.in_ok-p.p (sym c.slot_at.ensures ∙ c.in_ok-p.was)).1;
     }
 
 pub returns-then-n-eq0 : goal.returns-then-n-eq0
@@ -69,5 +69,5 @@ overflow_sub-result c = omega (arith, (c.quick_key-n.ensures c.if-n-eq0.false).l
 
 pub returns : goal.returns
 returns c = let o = sym c.body_of.ensures ∙ c.in_ok-b.was in
-    let q = sym (slot-rec c.args.s.now c.in_ok-b.b c.args.w.pos c.in_ok-b.p (sym c.slot_at.ensures ∙ c.in_ok-p.was)) ∙ short_head c.args.s.now c.in_ok-b.b c.in_ok-b.p _ c.in_ok-val.val.hist c.in_ok-val.val.val_at c.in_ok-val.val.val_len c.in_ok-val.val.remote c.in_ok-val.val.next (leaf_kind c.args.s.now c.args.w c.in_ok-b.b o) (c.quick_key-n.ensures c.if-n-eq0.false) (quick_is _ c.quick_value.ensures c.in_ok-val.was (val_no _ _ _ _ _)) in
+    let q = sym (slot-rec c.args.s.now c.in_ok-b.b c.args.w.pos c.in_ok-p.p (sym c.slot_at.ensures ∙ c.in_ok-p.was)) ∙ short_head c.args.s.now c.in_ok-b.b c.in_ok-p.p _ c.in_ok-val.val.hist c.in_ok-val.val.val_at c.in_ok-val.val.val_len c.in_ok-val.val.remote c.in_ok-val.val.next (leaf_kind c.args.s.now c.args.w c.in_ok-b.b o) (c.quick_key-n.ensures c.if-n-eq0.false) (quick_is _ c.quick_value.ensures c.in_ok-val.was (val_no _ _ _ _ _)) in
     λ r e. head_ahead c.args.s.now c.args.w c.in_ok-b.b o c.requires c.if-w-eq0.false c.if-w-eq-INDEX.false r (q ∙ e)

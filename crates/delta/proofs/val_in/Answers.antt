@@ -24,9 +24,9 @@ pub returns-in-Inline : goal.returns-in-Inline
 unfolding val_in
 returns-in-Inline c = simp (← c.decode_from.ensures, c.in-Some.is, c.in-Inline.is, c.value_to.ensures)
 
-pub returns-in-Remote : goal.returns-in-Remote
+pub returns-in-Some-remote_at : goal.returns-in-Some-remote_at
 unfolding val_in
-returns-in-Remote c = simp (← c.decode_from.ensures, c.in-Some.is, c.in-Remote.is, ← c.remote_at.ensures, c.in-Some-remote_at.is, c.value_to-in-Remote.ensures)
+returns-in-Some-remote_at c = simp (← c.decode_from.ensures, c.in-Some.is, c.in-Remote.is, ← c.remote_at.ensures, c.in-Some-remote_at.is, c.value_to-in-Remote.ensures)
 
 pub returns-in_default : goal.returns-in_default
 unfolding val_in

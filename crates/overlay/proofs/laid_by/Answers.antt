@@ -1,6 +1,6 @@
 -- `overlay::laid_by` meets its contract. Assumes nothing.
-use Rattle.std.proofs.Common.{Ok}
-use mathlib.Core.Path.{sym, ◌∙◌, ap}
+use Rattle.std.proofs.Common.{Ok, Err, rules}
+use mathlib.Core.Path.{sym, ◌∙◌, ap, ◌≡◌}
 use Rattle.overlay.specs.Overlay.{laid_by}
 use Rattle.search_head.proofs.Heads.{head_inside}
 use Rattle.overlay.proofs.laid_by.Goals as goal
@@ -18,7 +18,8 @@ page_value-requires c = head_inside c.args.s.now c.args.a c.args.probe.now _ _ _
 
 pub returns-in_err-head : goal.returns-in_err-head
 unfolding laid_by
-returns-in_err-head c = c.from_residual.ensures ∙ simp (← c.head_at.ensures, c.in_err-head.was)
+returns-in_err-head c = let refused : c.from_residual.result ≡ Err c.in_err-head.field-0.0 = search rules in
+    refused ∙ simp (← c.head_at.ensures, c.in_err-head.was)
 
 pub returns-else-mine : goal.returns-else-mine
 unfolding laid_by
