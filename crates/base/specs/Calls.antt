@@ -1,6 +1,6 @@
 -- What new_leaf and new_intl answer and leave, on every input: document 01's table first, then one store of one image.
 -- Assumes nothing.
-use Rattle.std.specs.Prelude.{ℕ, List, ◌∷◌, Bool, length, take, Result, Ok, Err}
+use Rattle.std.specs.Prelude.{ℕ, List, [], ◌∷◌, Bool, true, false, ◌&&◌, length, take, leb, eqb, Result, Ok, Err}
 use Rattle.spans.specs.Span.{put}
 use Rattle.frames.specs.declared.Refusal.{Refusal}
 use Rattle.frames.specs.declared.Refusal.TheVariants.{BadLimit, BadArena, BadList}
@@ -14,7 +14,7 @@ use Rattle.build_image.specs.Image.{Borders, leaf_size, leaf_room, leaf_image, i
 use Rattle.build_totals.specs.Totals.{leaf_at}
 use Rattle.build_image.specs.Call.{next_ok}
 use Rattle.build_image.specs.Table.{Row, row, judged}
-use Rattle.build_table.specs.Table.{bounds_ok, leaf_limits, list_ok}
+use Rattle.build_table.specs.Table.{bounds_ok, leaf_limits, list_ok, entry_rows}
 use Rattle.build_table.specs.Index.{index_end, index_rows}
 use Rattle.build_table.specs.Leaf.{leaf_end, leaf_rows}
 use Rattle.frames.specs.declared.Addr.{Addr}

@@ -16,6 +16,8 @@ use Rattle.pages.specs.Sound.{in_order, slots_from, slots_ok, history_at, hist_o
 use Rattle.pages.specs.Meaning.{leaf, nothing, says, olds_from, prefix_of, head_of, rows_from, page_says, sound_body, meaning, check_of}
 use Rattle.pages.specs.HintsAt.{hints_of, history_hints_at, remote_hints_at, hint_in}
 use Rattle.pages.specs.Frames.{frame_ok}
+use Rattle.frames.specs.declared.Refusal.{Refusal}
+use Rattle.pages.specs.declared.Hints.{Hints}
 
 -- "P5 plus (3,0) "z"": key "a", version (5,0) with "xy", behind it (3,0) with "z"
 pub P7 : meaning p7 (addr 104) ≡ says (record { lo = []; hi = []; prefix = []; sibling = page_id 0; rows = leaf ((record { key = 97 ∷ []; ver = ver_of 5 0; value = 120 ∷ 121 ∷ []; olds = (record { ver = ver_of 3 0; value = 122 ∷ [] }) ∷ [] }) ∷ []) })
