@@ -73,21 +73,18 @@ fn newer_in(s: &[u8], b: Body, from: OldPlace, v: Ver) -> usize
     if BaseHeader::MAX_KEY < b.prefix_len {
         return 0;
     }
-    let mut n: usize = 0;
-    while n < from.left {
+    for n in 0..from.left {
         let Some(p) = records::slot_at(s, b, from.slot + n) else {
             return n;
         };
         if b.end - p < 12 {
             return n;
         }
-        if records::ver_at(s, p).newer(v) {
-            n += 1;
-        } else {
+        if !records::ver_at(s, p).newer(v) {
             return n;
         }
     }
-    n
+    from.left
 }
 
 // What the history page in hand comes to: the row's version and its value, or the place where the lookup goes on.
@@ -130,6 +127,7 @@ fn old_as_of(s: &[u8], from: OldPlace, v: Ver, slot: usize, reads: usize) -> Res
     ensures { result ≡ old_as_of s.now v slot reads from.left from }
 {
     let mut older = from;
+    // No range to walk: each turn passes as many as the page in hand tells, and then one more.
     loop {
         match in_hand(s, older, v) {
             InHand::Is(ver, value) => {

@@ -1,15 +1,16 @@
 -- The count of equal leading bytes: finishing from here gives the answer; and P3 of document 01.
 -- Assumes nothing.
-use mathlib.Core.Path.{◌≡◌, refl, sym, ap, ◌∙◌}
+use mathlib.Core.Path.{◌≡◌, refl, ap}
 use mathlib.Core.List.{List, [], ◌∷◌}
 use mathlib.Core.Bool.{cond}
-use Prim.Native.Nat.{ℕ, suc, ◌+◌, ◌≤◌, ◌<◌}
+use Prim.Native.Nat.{ℕ, suc, ◌+◌, ◌≤◌, ◌<◌, min}
 use native.Mathlib.Numerals.{add-one}
 use native.Mathlib.Omega.{arith}
 use lib.ListN.{length, get_or, drop, drop_of_length-le}
 use lib.Seq.{drop-cons}
 use lib.Dec.{eqb}
 use borrow.Author.Tests.{eq-eqb, ne_eqb}
+use Rattle.order.proofs.Laws.{case_order}
 use Rattle.build_image.specs.Prefix.{common}
 
 pub common_nil : (a : List ℕ) → common a [] ≡ 0
@@ -29,6 +30,9 @@ module _ (a b : List ℕ) (k : ℕ) (h : Common a b k) where
 
   pub second-ends : length b ≤ k → k ≡ common a b
   second-ends e = omega (arith, h.goes, ap (common (drop k a)) (drop_of_length-le b e), common_nil (drop k a))
+
+  pub ends : min (length a) (length b) ≤ k → k ≡ common a b
+  ends e = case_order (length a) (length b) (λ l. first_ends (omega arith)) (λ l. first_ends (omega arith)) (λ l. second-ends (omega arith))
 
   module _ (p : k < length a) (q : k < length b) where
     opened : common (drop k a) (drop k b) ≡ cond (eqb (get_or a k 0) (get_or b k 0)) (suc (common (drop (k + 1) a) (drop (k + 1) b))) 0

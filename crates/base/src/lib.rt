@@ -14,21 +14,13 @@ use frames::{Addr, PageId, Refusal};
 pub fn calc_prefix(lo: &[u8], hi: &[u8]) -> usize
     ensures { result ≡ common lo.now hi.now }
 {
-    let mut k: usize = 0;
-    loop {
-        if lo.len() <= k {
+    let n = lo.len().min(hi.len());
+    for k in 0..n {
+        if lo[k] != hi[k] {
             return k;
         }
-        if hi.len() <= k {
-            return k;
-        }
-        let x = lo[k];
-        let y = hi[k];
-        if x != y {
-            return k;
-        }
-        k += 1;
     }
+    n
 }
 
 // Builds an index page of an index list: its address and the new next free address, or a refusal that changes nothing.

@@ -9,8 +9,8 @@ use Rattle.numbers.specs.Number.{of_le, of_be, be_at}
 use Rattle.order.specs.Order.{cmp_bytes}
 use Rattle.order.specs.Version.{ver_of, newer_than}
 use Rattle.build_sources.specs.Keys.{key_bytes}
-use Rattle.build_sources.specs.Lists.{begun_of, first_of, same_key, record_at, index_at, spot_at}
-use Rattle.build_sources.specs.Source.{Entry, after, list_f, well_f, step_of, next_of, left_of, entry_of, entries, well_formed}
+use Rattle.build_sources.specs.Lists.{begun_of, first_of, same_key, record_at, spot_at}
+use Rattle.build_sources.specs.Source.{after, list_f, well_f, step_of, next_of, left_of, entry_of, entries, well_formed}
 use Rattle.build_sources.specs.Judged.{above, rising_from, rising}
 use Rattle.std.proofs.Common.{Some}
 

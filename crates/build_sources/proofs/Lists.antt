@@ -1,10 +1,9 @@
 -- The cases of an entry at a cursor of a list, in the order of the tests.
 -- Assumes nothing.
-use mathlib.Core.Path.{◌≡◌, refl, sym, ap, ◌∙◌}
+use mathlib.Core.Path.{◌≡◌, sym}
 use mathlib.Core.List.{List}
 use mathlib.Core.Bool.{Bool, false}
 use Prim.Native.Nat.{ℕ, ◌+◌, ◌≤◌, ◌<◌}
-use native.Mathlib.Omega.{arith}
 use lib.ListN.{length}
 use borrow.Author.Tests.{le-leb, lt-leb}
 use Rattle.numbers.specs.Number.{be_at}
@@ -13,8 +12,7 @@ use Rattle.order.specs.Version.{ver_of}
 use Rattle.frames.specs.Layout.{addr, page_id}
 use Rattle.frames.specs.Limits.{max_key, max_value}
 use Rattle.build_sources.specs.declared.Cursor.{Cursor}
-use Rattle.build_sources.specs.declared.EntryAt.{EntryAt}
-use Rattle.build_sources.specs.Lists.{same_key, list_key, record_item, record_at, index_item, index_at}
+use Rattle.build_sources.specs.Lists.{same_key, list_key, record_at, index_at}
 use Rattle.std.proofs.Common.{Some, None}
 
 module _ (s : List ℕ) (c : Cursor) where

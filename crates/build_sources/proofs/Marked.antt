@@ -2,7 +2,7 @@
 -- are document 01's, and an entry of a list keeps no remote and has numbers of their widths.
 -- Assumes nothing.
 use mathlib.Core.Path.{◌≡◌, refl, sym, ap, ◌∙◌}
-use mathlib.Core.List.{List, [], ◌∷◌}
+use mathlib.Core.List.{List}
 use mathlib.Core.Bool.{Bool, true, false, cond}
 use Prim.Native.Nat.{ℕ, zero, suc, ◌+◌, ◌^◌, ◌≤◌, ◌<◌}
 use native.Mathlib.Omega.{arith}
@@ -35,7 +35,7 @@ use Rattle.build_sources.specs.Lists.{same_key, record_at, index_at, spot_at, re
 use Rattle.build_sources.specs.Pages.{whole_at, first_in, page_first, page_item, page_past, item_at, walked_of, walked, turned_of, turned, pages_of, pages_next}
 use Rattle.build_sources.specs.Source.{Entry, list_next, next_of, step_of, past_of, entry_of, left_of, entries}
 use Rattle.build_sources.specs.Marks.{Each, MarkedFrom, Marked, Short, Wide}
-use Rattle.build_sources.proofs.Sourced.{Found, found, ended, odd}
+use Rattle.build_sources.proofs.Sourced.{found, ended, odd}
 use Rattle.std.proofs.Common.{Option, Some, None, Result, Ok, Err}
 use Rattle.frames.specs.declared.Refusal.{Refusal}
 use Rattle.pages.specs.declared.Bounds.{Bounds}

@@ -69,46 +69,11 @@ pub enum EntryRead {
 
 // ---- keys
 
-// The byte at index k of p with r behind it.
-fn joined_byte(p: &[u8], r: &[u8], k: usize) -> u8
-    requires { k < length p.now + length r.now }
-    ensures { result ≡ get_or (p.now ++ r.now) k 0 }
-{
-    let n = p.len();
-    if k < n {
-        return p[k];
-    }
-    let j = k - n;
-    r[j]
-}
-
-// Two strings in two parts each, byte by byte.
+// Two strings in two parts each.
 fn compare_joined(p: &[u8], r: &[u8], q: &[u8], s: &[u8]) -> Ordering
     ensures { result ≡ cmp_bytes (p.now ++ r.now) (q.now ++ s.now) }
 {
-    let n = p.len() + r.len();
-    let m = q.len() + s.len();
-    let mut k: usize = 0;
-    loop {
-        if n <= k {
-            if m <= k {
-                return Ordering::Equal;
-            }
-            return Ordering::Less;
-        }
-        if m <= k {
-            return Ordering::Greater;
-        }
-        let x = joined_byte(p, r, k);
-        let y = joined_byte(q, s, k);
-        if x < y {
-            return Ordering::Less;
-        }
-        if y < x {
-            return Ordering::Greater;
-        }
-        k += 1;
-    }
+    p.iter().chain(r.iter()).cmp(q.iter().chain(s.iter()))
 }
 
 // Two keys, by whole words where neither has a prefix of its own.
@@ -131,20 +96,11 @@ fn compare_keys(s: &[u8], a: Key, t: &[u8], b: Key) -> Ordering
 fn joined_begins(pre: &[u8], p: &[u8], r: &[u8]) -> bool
     ensures { result ≡ starts_with pre.now (p.now ++ r.now) }
 {
-    let n = p.len() + r.len();
-    let mut k: usize = 0;
-    while k < pre.len() {
-        if n <= k {
-            return false;
-        }
-        let x = pre[k];
-        let y = joined_byte(p, r, k);
-        if x != y {
-            return false;
-        }
-        k += 1;
+    if order::starts_with(p, pre) {
+        order::starts_with(&pre[p.len()..], r)
+    } else {
+        order::starts_with(pre, p)
     }
-    true
 }
 
 fn begins_in(s: &[u8], k: Key, pre: &[u8]) -> bool

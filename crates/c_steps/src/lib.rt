@@ -88,17 +88,15 @@ fn olds(s: &[u8], w: Walk, out: &mut [u64], first: usize, room: usize, fit: usiz
     };
     let most = least(fit, w.older.left);
     let mut at: usize = first;
-    let mut n: usize = 0;
-    while n < most {
+    for n in 0..most {
         let Some(r) = records::quick_old(s, b, w.older.slot + n) else {
             return n;
         };
         let key = w.key;
         tell_rec(s, out, at, key, r, NULL_ADDR);
         at += 9;
-        n += 1;
     }
-    n
+    most
 }
 
 // The walk behind n old versions.
@@ -189,8 +187,7 @@ fn plains(s: &[u8], w: Walk, out: &mut [u64], first: usize, room: usize, fit: us
     let mut pos: usize = w.pos;
     let mut key_at: usize = w.key.at;
     let mut key_len: usize = w.key.len;
-    let mut n: usize = 0;
-    while n < most {
+    for n in 0..most {
         let Some(r) = records::quick_head(s, b, pos) else {
             return heads_read(n, pos, key_at, key_len, None);
         };
@@ -212,9 +209,8 @@ fn plains(s: &[u8], w: Walk, out: &mut [u64], first: usize, room: usize, fit: us
         );
         pos = spans::onward(w.way == Walk::DOWN, pos);
         at += 9;
-        n += 1;
     }
-    heads_read(n, pos, key_at, key_len, None)
+    heads_read(most, pos, key_at, key_len, None)
 }
 
 // The walk behind heads without history.
@@ -378,6 +374,7 @@ pub fn fill(s: &[u8], from: Walk, out: &mut [u64], first: usize, room: usize) ->
     let mut known: u64 = 0;
     let mut at: usize = first;
     let mut k: usize = 0;
+    // No range to walk: a turn tells as many records as it finds in a row.
     while k < room {
         match next(s, w, known, out, at, room - k, spans::less(fit, k)) {
             Turn::On(n, v, seen) => {

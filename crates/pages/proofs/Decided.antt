@@ -1,6 +1,5 @@
 -- No second answer fits the contract of a public call. `Post` is the contract as the check reads it, so a contract that is weakened fails here.
 -- Assumes nothing.
-use mathlib.Core.Path.{◌≡◌}
 use mathlib.Core.List.{List}
 use mathlib.Core.Bool.{Bool}
 use Prim.Native.Nat.{ℕ}

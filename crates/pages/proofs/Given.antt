@@ -3,7 +3,7 @@
 use Prim.Native.Nat.{ℕ, zero, suc, ◌+◌, ◌*◌, ◌≤◌, ◌<◌}
 use mathlib.Core.Path.{◌≡◌, refl, sym, ap, ◌∙◌, subst}
 use mathlib.Core.Bool.{Bool, true, false, cond, ◌||◌}
-use mathlib.Core.List.{List, ◌++◌}
+use mathlib.Core.List.{List}
 use native.Mathlib.Omega.{arith}
 use borrow.Author.Tests.{ne_eqb, eqb-true, eqb-false, leb-true}
 use lib.Dec.{leb, eqb}
@@ -20,7 +20,7 @@ use Rattle.records.specs.declared.Rec.{Rec}
 use Rattle.values.specs.Keys.{ver_in}
 use Rattle.records.specs.Records.{rec_at}
 use Rattle.pages.specs.Sound.{in_order, slots_of, slots_from, slots_ok, hist_ok, old_at, chain_of, chain_from, entered, head_ok, multi_of, chains_of, chains_from, chains_ok, remotes_at, hints_ok, old_version}
-use Rattle.pages.specs.Meaning.{Page, Said, nothing, says, prefix_of, key_of, page_says, meaning_of, meaning, page_bounded, sound_body}
+use Rattle.pages.specs.Meaning.{Page, nothing, says, prefix_of, key_of, page_says, meaning_of, meaning, page_bounded, sound_body}
 use Rattle.std.proofs.Common.{Option, Some, None}
 use Rattle.pages.specs.declared.OldVersion.{OldVersion}
 use Rattle.std.specs.declared.cmp.Ordering.{Ordering}

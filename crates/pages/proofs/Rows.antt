@@ -1,9 +1,9 @@
 -- The records of a sound page in order: one row to each slot, and the rows of a stretch of slots are that stretch of the rows.
 -- Assumes nothing.
 use Prim.Native.Nat.{ℕ, zero, suc, ◌+◌, ◌≤◌, ◌<◌}
-use mathlib.Core.Path.{◌≡◌, refl, sym, ap, ◌∙◌}
-use mathlib.Core.Bool.{Bool, true, false, cond}
-use mathlib.Core.List.{List, [], ◌∷◌}
+use mathlib.Core.Path.{◌≡◌, refl, ap, ◌∙◌}
+use mathlib.Core.Bool.{Bool, true, false}
+use mathlib.Core.List.{List, ◌∷◌}
 use native.Mathlib.Omega.{arith}
 use borrow.Author.Tests.{eqb-true, eqb-false}
 use lib.ListN.{length, take, drop}
@@ -14,7 +14,7 @@ use Rattle.records.specs.Records.{rec_at}
 use Rattle.records.proofs.Inside.{index_count}
 use Rattle.values.specs.declared.HistRef.{HistRef}
 use Rattle.pages.specs.Sound.{head_ok, slots_ok, chains_ok}
-use Rattle.pages.specs.Meaning.{rows_of, rows_from}
+use Rattle.pages.specs.Meaning.{rows_from}
 use Rattle.pages.proofs.Turns.{head_none}
 use Rattle.pages.proofs.Given.{every_slot, every_head}
 use Rattle.std.proofs.Common.{Some}

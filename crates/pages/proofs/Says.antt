@@ -1,21 +1,18 @@
 -- What a page's meaning says of the calls: the check, and the boundaries that are lent on.
 -- Assumes nothing.
-use Prim.Native.Nat.{ℕ, ◌+◌, ◌*◌}
-use mathlib.Core.Path.{◌≡◌, refl, sym, ap, ◌∙◌}
-use mathlib.Core.List.{List, []}
+use Prim.Native.Nat.{ℕ}
+use mathlib.Core.Path.{◌≡◌, refl, ap, ◌∙◌}
+use mathlib.Core.List.{List}
 use native.Mathlib.Omega.{arith}
 use borrow.Author.Tests.{ne_eqb}
-use Rattle.spans.specs.Span.{part, part_or}
 use Rattle.records.specs.Parts.{prefix_in}
 use Rattle.records.proofs.Inside.{lo-part, hi-part, prefix-part}
 use Rattle.frames.specs.declared.Addr.{Addr}
-use Rattle.frames.specs.Layout.{open_at}
 use Rattle.frames.proofs.Frames.{open_inside}
 use Rattle.pages.specs.Meaning.{Page, Said, nothing, says, prefix_of, page_says, meaning, check_of}
 use Rattle.pages.specs.Boundaries.{bounds_of, bounds_at, lo_at, hi_at, prefix_at}
-use Rattle.pages.proofs.Given.{Sound, sound_given}
+use Rattle.pages.proofs.Given.{sound_given}
 use Rattle.std.proofs.Common.{Ok}
-use Rattle.frames.specs.declared.Refusal.{Refusal}
 
 -- the check says sound exactly where the page has a meaning
 pub checked_says : (m : Said) → check_of m ≡ Ok tt → (p : Page) × (m ≡ says p)

@@ -47,11 +47,10 @@ fn slots_ok(s: &[u8], b: Body) -> bool
     requires { Inside s.now b }
     ensures { result ≡ slots_ok s.now b }
 {
-    let mut i = 0;
     let mut want = b.first;
     let mut la = 0;
     let mut ln = 0;
-    while i < b.elems {
+    for i in 0..b.elems {
         let Some(r) = old_or_child(s, b, i) else {
             return false;
         };
@@ -59,7 +58,6 @@ fn slots_ok(s: &[u8], b: Body) -> bool
             return false;
         }
         if in_order(s, b.kind, i, la, ln, r.rest_at, r.rest_len) {
-            i += 1;
             want = r.next;
             la = r.rest_at;
             ln = r.rest_len;
@@ -202,10 +200,9 @@ fn chain(s: &[u8], first: Hand, i: usize, n: u32, t: Ver) -> Chained
     ensures held_2 { Held s.now result.hand }
 {
     let mut hand = first;
-    let mut left = n;
     let mut slot = i;
     let mut ver = t;
-    while 0 < left {
+    for _ in 0..n {
         let Some(p) = spot_at(s, hand, slot) else {
             return Chained { ok: false, hand };
         };
@@ -218,7 +215,6 @@ fn chain(s: &[u8], first: Hand, i: usize, n: u32, t: Ver) -> Chained
         }
         hand = h;
         slot = p.slot + 1;
-        left -= 1;
     }
     Chained { ok: true, hand }
 }
@@ -292,7 +288,6 @@ fn leaf_ok(s: &[u8], b: Body) -> bool
     requires kind_value { b.kind ≡ 0 }
     ensures { result ≡ recs_ok s.now b }
 {
-    let mut i = 0;
     let mut want = b.first;
     let mut la = 0;
     let mut ln = 0;
@@ -303,7 +298,7 @@ fn leaf_ok(s: &[u8], b: Body) -> bool
         elems: 0,
         link: NULL_ADDR,
     };
-    while i < b.elems {
+    for i in 0..b.elems {
         let Some(head) = head_at(s, b, i) else {
             return false;
         };
@@ -318,7 +313,6 @@ fn leaf_ok(s: &[u8], b: Body) -> bool
             let page = h.hand;
             hand = page;
             m = multi_of(m, head.hist.count);
-            i += 1;
             want = head.next;
             la = head.rest_at;
             ln = head.rest_len;
@@ -351,11 +345,10 @@ fn index_ok(s: &[u8], b: Body) -> bool
     requires kind_value { b.kind ≡ 1 }
     ensures { result ≡ recs_ok s.now b }
 {
-    let mut i = 0;
     let mut want = b.first;
     let mut la = 0;
     let mut ln = 0;
-    while i < b.elems {
+    for i in 0..b.elems {
         let Some(child) = records::child_at(s, b, i) else {
             return false;
         };
@@ -363,7 +356,6 @@ fn index_ok(s: &[u8], b: Body) -> bool
             return false;
         }
         if rises(s, b.kind, i, la, ln, child.rest_at, child.rest_len) {
-            i += 1;
             want = child.rest_at + child.rest_len + 8;
             la = child.rest_at;
             ln = child.rest_len;

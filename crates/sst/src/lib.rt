@@ -155,6 +155,7 @@ fn narrow(s: &[u8], b: Body, rest: &[u8], mark: usize, from: Stand) -> Stand
     let mut lo = from.lo;
     let mut hi = from.hi;
     let mut reads = from.reads;
+    // A halving: no range to walk.
     while lo < hi {
         let mid = lo + (hi - lo) / 2;
         let Some(p) = marked_at(s, b, mid, mark) else {
@@ -248,6 +249,7 @@ fn halve_keys(s: &[u8], b: Body, rest: &[u8], w: Want) -> Option<Halved>
     let mut lo = 0;
     let mut hi = b.elems;
     let mut reads = 0;
+    // A halving: no range to walk.
     while lo < hi {
         let g = narrow(
             s,

@@ -1,7 +1,7 @@
 -- `asof::newer_in` meets its contract. Assumes nothing.
 use native.Mathlib.Omega.{arith}
 use Prim.Native.Nat.{◌+◌, ◌-◌}
-use mathlib.Core.Path.{sym, ◌∙◌}
+use mathlib.Core.Path.{◌≡◌, sym, ◌∙◌}
 use Rattle.records.proofs.Inside.{slot-inside}
 use Rattle.walks.proofs.Lying.{body-inside}
 use Rattle.asof.proofs.Hand.{passes_none, passes_more}
@@ -35,10 +35,10 @@ ver_at-requires c = let i = body-inside c.args.s.now c.args.from.page 2 c.args.b
 
 pub loop-n-preserved : goal.loop-n-preserved
 loop-n-preserved c = let k = slot-inside c.args.s.now c.args.b (c.args.from.slot + c.loop-n.n) c.in-Some.p (sym c.slot_at.ensures ∙ c.in-Some.is) in
-    passes_more c.args.s.now c.args.v c.args.from c.args.b c.requires c.loop-n.n c.loop-n.invariant (omega (arith, c.well_formed)) c.loop-n-test.true c.in-Some.p (sym c.slot_at.ensures ∙ c.in-Some.is) (omega (arith, c.if-b-p-lt12.false, k.1)) (omega (arith, c.if-b-gt-MAX_KEY.false)) c.ver_at.ensures (sym c.newer.ensures ∙ c.if-newer.true)
+    passes_more c.args.s.now c.args.v c.args.from c.args.b c.requires c.loop-n.n c.loop-n.invariant (omega (arith, c.well_formed)) (omega arith) c.in-Some.p (sym c.slot_at.ensures ∙ c.in-Some.is) (omega (arith, c.if-b-p-lt12.false, k.1)) (omega (arith, c.if-b-gt-MAX_KEY.false)) c.ver_at.ensures (sym c.newer.ensures ∙ c.if-not-newer.false)
 
-pub returns-else-newer : goal.returns-else-newer
-returns-else-newer c = c.loop-n.invariant
+pub returns-then-not-newer : goal.returns-then-not-newer
+returns-then-not-newer c = c.loop-n.invariant
 
 pub returns : goal.returns
-returns c = c.loop-n.invariant
+returns c = let e : c.loop-n.n ≡ c.args.from.left = omega (arith, c.loop-n.invariant.few, c.loop-n-test.false) in rw e at c.loop-n.invariant

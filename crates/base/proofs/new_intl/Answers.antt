@@ -1,5 +1,4 @@
 -- `base::new_intl` meets its contract. Assumes nothing.
-use borrow.Author.Tests.{not-true, not-false}
 use mathlib.Core.List.{[]}
 use Rattle.build_image.specs.Call.{call_of}
 use Rattle.base.specs.Calls.{bounds_from}

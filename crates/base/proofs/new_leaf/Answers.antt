@@ -1,6 +1,5 @@
 -- `base::new_leaf` meets its contract. Assumes nothing.
 use mathlib.Core.Path.{refl}
-use borrow.Author.Tests.{not-true, not-false}
 use mathlib.Core.List.{[]}
 use Rattle.build_image.specs.Call.{call_of}
 use Rattle.base.specs.Calls.{bounds_from}

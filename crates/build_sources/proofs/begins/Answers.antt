@@ -1,6 +1,4 @@
 use mathlib.Core.Path.{refl, sym, ◌∙◌}
-use borrow.Author.Tests.{not-true, not-false}
-use Rattle.build_sources.specs.Judged.{prefixed}
 use Rattle.build_sources.proofs.Sourced.{got, at-end, at_bad}
 use Rattle.build_sources.proofs.Judging.{prefixed-end, prefixed_not, prefixed-on}
 use Rattle.build_sources.proofs.begins.Goals as goal

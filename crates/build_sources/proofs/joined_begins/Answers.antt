@@ -1,36 +1,21 @@
-use native.Mathlib.Omega.{arith}
-use mathlib.Core.Path.{refl}
-use Prim.Native.Nat.{◌-◌}
-use lib.ListN.{length, length-append}
-use Rattle.build_sources.proofs.Joined.{beginning, too_short, begins_so, differs, begins-on}
+use mathlib.Core.Path.{◌≡◌, sym, ◌∙◌}
+use lib.ListN.{length, drop}
+use borrow.Author.Rules.{rules}
+use Rattle.order.specs.Order.{starts_with}
+use Rattle.spans.proofs.Part.{tail_part}
+use Rattle.order.proofs.Laws.{starts-length}
+use Rattle.build_sources.proofs.Joined.{begins_behind, begins_within}
 use Rattle.build_sources.proofs.joined_begins.Goals as goal
 
-pub overflow_add-n : goal.overflow_add-n
-overflow_add-n c = omega arith
+pub slice_bounds-starts_with-count : goal.slice_bounds-starts_with-count
+slice_bounds-starts_with-count c = starts-length c.args.p.now c.args.pre.now (sym c.starts_with.ensures ∙ c.if-starts_with.true)
 
-pub loop-k-init : goal.loop-k-init
-loop-k-init c = beginning c.args.pre.now c.args.p.now c.args.r.now
+pub slice_bounds-starts_with-start : goal.slice_bounds-starts_with-start
+slice_bounds-starts_with-start c = let h = starts-length c.args.p.now c.args.pre.now (sym c.starts_with.ensures ∙ c.if-starts_with.true) in search rules
 
-pub returns-then-n-k : goal.returns-then-n-k
-returns-then-n-k c = too_short _ _ _ _ c.loop-k.invariant c.loop-k-test.true c.if-n-k.true
+pub returns-then-starts_with : goal.returns-then-starts_with
+returns-then-starts_with c = let e : c.starts_with-then-starts_with.result ≡ starts_with (drop (length c.args.p.now) c.args.pre.now) c.args.r.now = simp (c.starts_with-then-starts_with.ensures, tail_part) in
+    e ∙ begins_behind c.args.pre.now c.args.p.now c.args.r.now (sym c.starts_with.ensures ∙ c.if-starts_with.true)
 
-pub bounds-pre-k : goal.bounds-pre-k
-bounds-pre-k c = omega arith
-
-pub joined_byte-y-requires : goal.joined_byte-y-requires
-joined_byte-y-requires c = omega (arith, c.loop-k.invariant.long, length-append c.args.p.now c.args.r.now)
-
-pub returns-then-x-y : goal.returns-then-x-y
-returns-then-x-y c = differs _ _ _ _ c.loop-k.invariant _ _ c.loop-k-test.true c.if-n-k.false refl c.joined_byte-y.ensures c.if-x-y.true
-
-pub overflow_add-k : goal.overflow_add-k
-overflow_add-k c = omega arith
-
-pub loop-k-smaller : goal.loop-k-smaller
-loop-k-smaller c = omega arith
-
-pub loop-k-preserved : goal.loop-k-preserved
-loop-k-preserved c = begins-on _ _ _ _ c.loop-k.invariant _ _ c.loop-k-test.true c.if-n-k.false refl c.joined_byte-y.ensures c.if-x-y.false
-
-pub returns : goal.returns
-returns c = begins_so _ _ _ _ c.loop-k.invariant c.loop-k-test.false
+pub returns-else-starts_with : goal.returns-else-starts_with
+returns-else-starts_with c = c.starts_with-else-starts_with.ensures ∙ begins_within c.args.pre.now c.args.p.now c.args.r.now (sym c.starts_with.ensures ∙ c.if-starts_with.false)

@@ -1,7 +1,6 @@
 -- `build_sources::rises_from` meets its contract. Assumes nothing.
 use mathlib.Core.Path.{refl, sym, ◌∙◌}
 use native.Mathlib.Omega.{arith}
-use borrow.Author.Tests.{not-true, not-false}
 use Rattle.build_sources.proofs.Sourced.{got, at-end, at_bad}
 use Rattle.build_sources.proofs.Judging.{rising_begin, risen_end, risen_stop, risen_turn, left-long}
 use Rattle.build_sources.proofs.rises_from.Goals as goal

@@ -1,5 +1,5 @@
 -- `c_steps::next` meets its contract. Assumes nothing.
-use Prim.Native.Nat.{ℕ, ◌-◌}
+use Prim.Native.Nat.{ℕ}
 use mathlib.Core.Path.{subst}
 use mathlib.Core.List.{List}
 use Rattle.c_steps.specs.declared.Turn.{Turn}

@@ -3,7 +3,7 @@ use Rattle.walks.specs.declared.Walk.{Walk}
 use Rattle.records.specs.declared.Rec.{Rec}
 use Rattle.std.proofs.Common.{Option, Some}
 use native.Mathlib.Omega.{arith}
-use Prim.Native.Nat.{◌-◌, ◌<◌, ℕ}
+use Prim.Native.Nat.{◌<◌, ℕ}
 use mathlib.Core.Path.{subst}
 use Rattle.c_steps.specs.Turns.{Heads}
 use Rattle.c_steps.proofs.Heading.{plains_head}

@@ -1,5 +1,4 @@
 -- `c_steps::tell_rec` meets its contract. Assumes nothing.
-use Prim.Native.Nat.{◌-◌}
 use Rattle.walks.specs.Walk.{item_of}
 use Rattle.c_steps.proofs.tell_rec.Goals as goal
 

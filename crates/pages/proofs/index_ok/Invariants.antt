@@ -6,7 +6,4 @@ use Rattle.pages.specs.Sound.{slots_from, recs_ok}
 use Rattle.pages.proofs.index_ok.Given as goal
 
 abbrev pub invariant-loop-i : goal.invariant-loop-i
-invariant-loop-i l = (l.i ≤ l.b.elems) × (l.la + l.ln ≤ length l.s) × (recs_ok l.s l.b ≡ slots_from l.s l.b (l.b.elems - l.i) l.i l.want l.la l.ln)
-
-abbrev pub decreases-loop-i : goal.decreases-loop-i
-decreases-loop-i l = l.b.elems - l.i
+invariant-loop-i l = (l.la + l.ln ≤ length l.s) × (recs_ok l.s l.b ≡ slots_from l.s l.b (l.b.elems - l.i) l.i l.want l.la l.ln)

@@ -7,7 +7,4 @@ use Rattle.pages.specs.Hand.{Known}
 use Rattle.pages.proofs.leaf_ok.Given as goal
 
 abbrev pub invariant-loop-i : goal.invariant-loop-i
-invariant-loop-i l = (l.i ≤ l.b.elems) × (l.la + l.ln ≤ length l.s) × Known l.s l.hand × (slots_ok l.s l.b ≡ slots_from l.s l.b (l.b.elems - l.i) l.i l.want l.la l.ln) × (chains_ok l.s l.b ≡ chains_from l.s l.b (l.b.elems - l.i) l.i l.m)
-
-abbrev pub decreases-loop-i : goal.decreases-loop-i
-decreases-loop-i l = l.b.elems - l.i
+invariant-loop-i l = (l.la + l.ln ≤ length l.s) × Known l.s l.hand × (slots_ok l.s l.b ≡ slots_from l.s l.b (l.b.elems - l.i) l.i l.want l.la l.ln) × (chains_ok l.s l.b ≡ chains_from l.s l.b (l.b.elems - l.i) l.i l.m)
