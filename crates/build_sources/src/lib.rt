@@ -642,7 +642,7 @@ pub fn next(list: &[u8], footing: &[u8], c: Cursor) -> EntryRead
 fn is_wanted(want: bool, old: bool) -> bool
     ensures { result ≡ wanted want old }
 {
-    if want { old } else { !old }
+    want == old
 }
 
 // The next old version, or the next head, with the cursor past it.

@@ -374,7 +374,7 @@ pub fn room_in(len: usize) -> usize
     ensures value { result ≡ room_in len }
     ensures result_bound { 1 + 9 * result < 2 ^ 64 }
 {
-    if len == 0 { 0 } else { (len - 1) / 9 }
+    len.saturating_sub(1) / 9
 }
 
 // The count goes in front of the records, the walk moved on back to its words; a refused first step changes neither.
