@@ -21,7 +21,7 @@ use build_image::Call;
 use build_page_ahead::Rest;
 use build_pen::{Nib, Pen};
 use build_rows::{Bytes, Hand, Head, Old};
-use frames::{Addr, BaseHeader, Body, BoxHeader, NULL_ADDR};
+use frames::{Addr, BaseHeader, Body, BoxHeader};
 use values::{HistRef, Val};
 
 // The pen with a page at hand, where an old version is left.

@@ -139,7 +139,7 @@ pub fn store_nine(
 fn word(words: &[u64], k: usize) -> u64
     ensures { result ≡ get_or words.now k 0 }
 {
-    if k < words.len() { words[k] } else { 0 }
+    words.get(k).copied().unwrap_or(0)
 }
 
 pub fn no(r: Refusal) -> u32
