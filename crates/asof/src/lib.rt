@@ -54,13 +54,10 @@ fn further(p: OldPlace, n: usize) -> OldPlace
     requires n_le_left { n ≤ p.left }
     ensures { result ≡ further_of p n }
 {
-    let page = p.page;
-    let link = p.link;
     OldPlace {
-        page,
-        link,
         slot: p.slot + n,
         left: p.left - n,
+        ..p
     }
 }
 
@@ -98,8 +95,7 @@ enum InHand {
 fn in_hand(s: &[u8], from: OldPlace, v: Ver) -> InHand
     ensures { InHands s.now v from result }
 {
-    let page = from.page;
-    let Some(b) = walks::body_of(s, page, Body::HISTORY) else {
+    let Some(b) = walks::body_of(s, from.page, Body::HISTORY) else {
         return InHand::On(from);
     };
     let here = further(from, newer_in(s, b, from, v));
@@ -182,8 +178,7 @@ fn older_as_of(
     requires { Inside s.now b }
     ensures { result ≡ older_as_of s.now v slot reads b at }
 {
-    let e = b.end;
-    let Some(val) = Val::decode_from(&s[..e], at, true) else {
+    let Some(val) = Val::decode_from(&s[..b.end], at, true) else {
         return Err(Refusal::BadFrame);
     };
     match val {

@@ -60,16 +60,6 @@ rec-long l w i q limit p remote h x y b ex ey eb =
 
 -- ---- what an entry names, and its frame
 
-pub named_old : (b : Bool) (k : ℕ) → b ≡ true → true ≡ named_by b k
-named_old b k e = rw e
-
-pub named_none : (b : Bool) (k : ℕ) → b ≡ false → k ≡ 0 → false ≡ named_by b k
-named_none b k e z = rw (e, z)
-
-pub named_some : (b : Bool) (k : ℕ) → b ≡ false → (k ≡ 0 → ⊥) → true ≡ named_by b k
-named_some b zero e z = absurd (z refl)
-named_some b (suc k) e z = rw e
-
 pub remote_none : (b : Bool) (limit n kept : ℕ) → b ≡ true → 0 ≡ remote_if b limit n kept
 unfolding remote_if
 remote_none b limit n kept e = rw e

@@ -34,20 +34,18 @@ pub fn put_rest(a: &mut [u8], footing: usize, list: &[u8], i: EntryAt, at: usize
     ensures value { result ≡ at + length (drop p (entry_of list.now (take footing a.old) i).key) }
     ensures a_after { a.new ≡ put a.old at (drop p (entry_of list.now (take footing a.old) i).key) }
 {
-    let k = i.key;
-    let n = k.plen;
+    let n = i.key.plen;
     if n < p {
         let skip = p - n;
-        let j = k.klen - skip;
-        build_history::copy_part(a, footing, list, i.footing, k.kat + skip, j, at);
+        let j = i.key.klen - skip;
+        build_history::copy_part(a, footing, list, i.footing, i.key.kat + skip, j, at);
         return at + j;
     }
     let f = n - p;
-    build_history::copy_part(a, footing, list, i.footing, k.pat + p, f, at);
+    build_history::copy_part(a, footing, list, i.footing, i.key.pat + p, f, at);
     let v = at + f;
-    let r = k.klen;
-    build_history::copy_part(a, footing, list, i.footing, k.kat, r, v);
-    v + r
+    build_history::copy_part(a, footing, list, i.footing, i.key.kat, i.key.klen, v);
+    v + i.key.klen
 }
 
 // A head's record.
@@ -68,9 +66,8 @@ pub fn head_rec(
     requires i_in_bounds { at + length (head_rec limit p remote h (entry_of list.now (take footing a.old) i)) ≤ length a.old }
     ensures { a.new ≡ put a.old at (head_rec limit p remote h (entry_of list.now (take footing a.old) i)) }
 {
-    let v = i.ver;
     let n = i.key.plen + i.key.klen - p;
-    let k = values::write_leaf_front(a, at, v, n);
+    let k = values::write_leaf_front(a, at, i.ver, n);
     let s = put_rest(a, footing, list, i, at + k, p);
     build_history::put_val(a, footing, list, i, s, h, limit, remote);
 }
@@ -85,8 +82,7 @@ pub fn old_run(list: &[u8], footing: &[u8], from: Cursor) -> usize
         let st = build_sources::next(list, footing, c);
         match st {
             EntryRead::Got(i, d) => {
-                let old = i.old;
-                if !old {
+                if !i.old {
                     return n;
                 }
                 n += 1;
@@ -174,8 +170,7 @@ pub fn head_slots(
         match st {
             EntryRead::Got(i, d) => {
                 let n = slot_step(list, &a[..footing], i, d, p, limit);
-                let old = i.old;
-                to = put_slot(a, to, off, old);
+                to = put_slot(a, to, off, i.old);
                 off += n;
                 c = d;
             }
@@ -200,24 +195,19 @@ fn settle(list: &[u8], footing: &[u8], c: Cursor, p: Loc, named: bool, m: Call) 
     if !named {
         return p;
     }
-    let left = p.left;
-    if left > 0 {
+    if p.left > 0 {
         return p;
     }
     let s = build_history::look_ahead(list, footing, c, m.limit, m.budget);
-    let r = s.run;
-    let n = r.count;
-    if n == 0 {
+    if s.run.count == 0 {
         return p;
     }
-    let start = p.next;
-    let end = start + frames::frame_len(r.size as u32);
-    let behind = end + r.remote;
+    let end = p.next + frames::frame_len(s.run.size as u32);
     Loc {
-        page: start,
+        page: p.next,
         slot: 0,
-        left: n,
-        next: behind,
+        left: s.run.count,
+        next: end + s.run.remote,
     }
 }
 
@@ -231,10 +221,9 @@ fn onward(q: Loc, old: bool) -> Loc
         return q;
     }
     Loc {
-        page: q.page,
         slot: q.slot + 1,
         left: q.left - 1,
-        next: q.next,
+        ..q
     }
 }
 
@@ -252,13 +241,7 @@ fn run_of(list: &[u8], footing: &[u8], d: Cursor, old: bool) -> usize
 fn names(old: bool, k: usize) -> bool
     ensures { result ≡ named_by old k }
 {
-    if old {
-        return true;
-    }
-    if k == 0 {
-        return false;
-    }
-    true
+    old | (k != 0)
 }
 
 // The remote frame that an entry's head takes; nothing for an old version.
@@ -266,12 +249,10 @@ fn remote_step(i: EntryAt, limit: usize) -> usize
     requires { i.vlen ≤ max_value }
     ensures { result ≡ remote_if i.old limit i.vlen i.kept.0 }
 {
-    let old = i.old;
-    let kept = i.kept;
-    if old {
+    if i.old {
         return 0;
     }
-    build_image::remote_len(limit, i.vlen, kept)
+    build_image::remote_len(limit, i.vlen, i.kept)
 }
 
 // A head's record; none for an old version. The address past it.
@@ -293,8 +274,7 @@ fn put_head(
     ensures value { result ≡ at + length (rec_if limit p remote h (entry_of list.now (take footing a.old) i)) }
     ensures a_after { a.new ≡ put a.old at (rec_if limit p remote h (entry_of list.now (take footing a.old) i)) }
 {
-    let old = i.old;
-    if old {
+    if i.old {
         return at;
     }
     let k = key_len(p, i.key.plen + i.key.klen);
@@ -338,9 +318,8 @@ pub fn head_recs(
         let st = build_sources::next(list, &a[..footing], c);
         match st {
             EntryRead::Got(i, d) => {
-                let old = i.old;
-                let k = run_of(list, &a[..footing], d, old);
-                let named = names(old, k);
+                let k = run_of(list, &a[..footing], d, i.old);
+                let named = names(i.old, k);
                 let q = settle(list, &a[..footing], c, loc, named, m);
                 let h = HistRef {
                     page: Addr(q.page as u64),
@@ -350,7 +329,7 @@ pub fn head_recs(
                 let beyond = next + remote_step(i, m.limit);
                 to = put_head(a, footing, list, i, to, p, m.limit, next, h);
                 next = beyond;
-                loc = onward(q, old);
+                loc = onward(q, i.old);
                 c = d;
             }
             EntryRead::End => {

@@ -71,10 +71,9 @@ pub fn look_ahead(list: &[u8], footing: &[u8], from: Cursor, limit: usize, budge
                 rest: c,
             };
         }
-        let kept = i.kept;
         n += 1;
         t += s;
-        f += build_image::remote_len(limit, i.vlen, kept);
+        f += build_image::remote_len(limit, i.vlen, i.kept);
         c = d;
     }
 }
@@ -121,7 +120,6 @@ pub fn put_val(
     ensures { a.new ≡ put a.old at (val_bytes limit remote h (entry_of list.now (take footing a.old) i)) }
 {
     let n = i.vlen;
-    let kept = i.kept;
     if n < limit {
         let k = Val::write_front(a, at, h, false, n);
         let v = at + k;
@@ -129,7 +127,7 @@ pub fn put_val(
     } else {
         let j = Val::write_front(a, at, h, true, n);
         let w = at + j;
-        let addr = build_image::remote_addr(remote, kept);
+        let addr = build_image::remote_addr(remote, i.kept);
         numbers::put_u64(a, w, addr);
     }
 }
@@ -149,14 +147,8 @@ fn old_rec(
     requires i_in_bounds { at + length (old_rec limit remote (entry_of list.now (take footing a.old) i)) ≤ length a.old }
     ensures { a.new ≡ put a.old at (old_rec limit remote (entry_of list.now (take footing a.old) i)) }
 {
-    let v = i.ver;
-    let k = values::write_ver(a, at, v);
-    let h = HistRef {
-        page: NULL_ADDR,
-        slot: 0,
-        count: 0,
-    };
-    put_val(a, footing, list, i, at + k, h, limit, remote);
+    let k = values::write_ver(a, at, i.ver);
+    put_val(a, footing, list, i, at + k, HistRef::NONE, limit, remote);
 }
 
 // The slots of the next n old versions; first is the first record's offset.
@@ -278,11 +270,10 @@ fn remote_frame_of(
     ensures a_after { a.new ≡ put a.old at (remote_frame_of m (entry_of list.now (take footing a.old) i)) }
 {
     let n = i.vlen;
-    let kept = i.kept;
     if n < m.limit {
         return at;
     }
-    if kept.0 != 0 {
+    if i.kept.0 != 0 {
         return at;
     }
     remote_frame(a, footing, list, i.footing, i.vat, n, at, m);
@@ -361,7 +352,8 @@ pub fn hist_head(a: &mut [u8], at: usize, m: Call, link: usize, n: usize, size: 
     );
 }
 
-fn link_of(more: bool, to: usize) -> usize
+// The link of a history page: where the next stands, 0 where there is none.
+pub fn link_of(more: bool, to: usize) -> usize
     ensures { result ≡ cond more to 0 }
 {
     if more { to } else { 0 }
@@ -385,14 +377,10 @@ fn hist_page(
     ensures a_after { a.new ≡ put a.old at (run_page m at r (only true (entries list.now (take footing a.old) from))) }
 {
     let n = r.count;
-    let size = r.size;
-    let remote = r.remote;
-    let more = r.more;
-    let limit = m.limit;
-    let end = at + frames::frame_len(size as u32);
-    let next = end + remote;
-    let link = link_of(more, next);
-    hist_head(a, at, m, link, n, size);
+    let end = at + frames::frame_len(r.size as u32);
+    let next = end + r.remote;
+    let link = link_of(r.more, next);
+    hist_head(a, at, m, link, n, r.size);
     let s = at + BaseHeader::SLOTS_AT;
     old_slots(
         a,
@@ -402,13 +390,13 @@ fn hist_page(
         n,
         s,
         BaseHeader::HDR_LEN + 4 * n,
-        limit,
+        m.limit,
     );
     let q = s + 4 * n;
-    old_recs(a, footing, list, from, n, q, limit, end);
-    let z = at + (BoxHeader::HDR_LEN + size);
+    old_recs(a, footing, list, from, n, q, m.limit, end);
+    let z = at + (BoxHeader::HDR_LEN + r.size);
     spans::zeros(a, z, end - z);
-    remote_frames(a, footing, list, true, from, n, end, m, remote);
+    remote_frames(a, footing, list, true, from, n, end, m, r.remote);
     next
 }
 
@@ -431,11 +419,10 @@ pub fn save_hist_regions(
     let mut to = at;
     loop {
         let s = look_ahead(list, &a[..footing], c, m.limit, m.budget);
-        let r = s.run;
-        if r.count == 0 {
+        if s.run.count == 0 {
             return to;
         }
-        to = hist_page(a, footing, list, c, to, m, r);
+        to = hist_page(a, footing, list, c, to, m, s.run);
         c = s.rest;
     }
 }

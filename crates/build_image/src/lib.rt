@@ -27,7 +27,7 @@ pub struct Call {
 fn larger(x: u64, y: u64) -> u64
     ensures { result ≡ larger x y }
 {
-    if x < y { y } else { x }
+    x.max(y)
 }
 
 // What a call is told, as one value.

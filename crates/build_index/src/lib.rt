@@ -109,10 +109,9 @@ fn index_rec(a: &mut [u8], footing: usize, list: &[u8], i: EntryAt, at: usize, p
     ensures a_after { a.new ≡ put a.old at (index_rec p (entry_of list.now (take footing a.old) i)) }
 {
     let n = i.key.plen + i.key.klen - p;
-    let id = i.page;
     let k = lengths::write(a, at, n as u32);
     let v = build_heads::put_rest(a, footing, list, i, at + k, p);
-    numbers::put_u64(a, v, id.0);
+    numbers::put_u64(a, v, i.page.0);
     v + 8
 }
 
@@ -150,13 +149,10 @@ fn index_head(a: &mut [u8], at: usize, m: Call, n: usize, size: usize, e: Bounda
     requires len_le_size { (e.lo.len ≤ size) × (e.hi.len ≤ size) × (e.prefix ≤ size) }
     ensures { a.new ≡ put a.old at (index_head m n size e.sibling.0 e.lo.len e.hi.len e.prefix) }
 {
-    let x = e.lo;
-    let y = e.hi;
-    let sibling = e.sibling;
     let payload = size as u32;
-    let lo = x.len as u32;
-    let hi = y.len as u32;
-    let b = BaseHeader::new(payload, n as u16, sibling, lo, hi, e.prefix as u32, 1, 0);
+    let lo = e.lo.len as u32;
+    let hi = e.hi.len as u32;
+    let b = BaseHeader::new(payload, n as u16, e.sibling, lo, hi, e.prefix as u32, 1, 0);
     build_image::page_head(a, at, m, payload, BoxHeader::INDEX, 0, NULL_ADDR, b);
 }
 
@@ -177,21 +173,16 @@ pub fn write_index(
     requires { Ready a.old footing at lo.now hi.now e (entries list.now (take footing a.old) from) n size }
     ensures { a.new ≡ put a.old at (index_image m (bounds_of lo.now hi.now (take footing a.old) e) (entries list.now (take footing a.old) from)) }
 {
-    let p = e.prefix;
-    let x = e.lo;
-    let y = e.hi;
-    let j = x.len;
-    let k = y.len;
-    let first = BaseHeader::HDR_LEN + 4 * n + j + k;
+    let first = BaseHeader::HDR_LEN + 4 * n + e.lo.len + e.hi.len;
     index_head(a, at, m, n, size, e);
     let s = at + BaseHeader::SLOTS_AT;
-    index_slots(a, footing, list, from, s, first, p);
+    index_slots(a, footing, list, from, s, first, e.prefix);
     let q = s + 4 * n;
-    build_bounds::put_boundary(a, footing, lo, x, q);
-    let r = q + j;
-    build_bounds::put_boundary(a, footing, hi, y, r);
-    let t = r + k;
-    index_recs(a, footing, list, from, t, p);
+    build_bounds::put_boundary(a, footing, lo, e.lo, q);
+    let r = q + e.lo.len;
+    build_bounds::put_boundary(a, footing, hi, e.hi, r);
+    let t = r + e.hi.len;
+    index_recs(a, footing, list, from, t, e.prefix);
     let z = at + (BoxHeader::HDR_LEN + size);
     spans::zeros(
         a,
@@ -257,13 +248,11 @@ fn index_fixed(
     requires both_within { BothWithin lo.now hi.now (take footing a.old) e }
     ensures { a.new ≡ fixed_on m at n size e (boundary_bytes lo.now (take footing a.old) e.lo) (boundary_bytes hi.now (take footing a.old) e.hi) a.old }
 {
-    let x = e.lo;
-    let y = e.hi;
     index_head(a, at, m, n, size, e);
     let q = at + BaseHeader::SLOTS_AT + 4 * n;
-    build_bounds::put_boundary(a, footing, lo, x, q);
-    let r = q + x.len;
-    build_bounds::put_boundary(a, footing, hi, y, r);
+    build_bounds::put_boundary(a, footing, lo, e.lo, q);
+    let r = q + e.lo.len;
+    build_bounds::put_boundary(a, footing, hi, e.hi, r);
     let z = at + (BoxHeader::HDR_LEN + size);
     let end = at + frames::frame_len(size as u32);
     spans::zeros(a, z, end - z);
@@ -286,11 +275,9 @@ pub fn write_list(
     requires ready { Ready a.old footing at lo.now hi.now e (listed list.now 1) n size }
     ensures { a.new ≡ put a.old at (index_image m (bounds_of lo.now hi.now (take footing a.old) e) (listed list.now 1)) }
 {
-    let x = e.lo;
-    let y = e.hi;
     index_fixed(a, footing, at, m, n, size, lo, hi, e);
     let s = at + BaseHeader::SLOTS_AT;
-    let r = s + 4 * n + x.len + y.len;
+    let r = s + 4 * n + e.lo.len + e.hi.len;
     pen_list(a, list, s, r, at + BoxHeader::HDR_LEN, e.prefix);
 }
 
@@ -319,13 +306,12 @@ fn pen_child(a: &mut [u8], b: Body, c: Child, at: usize, p: usize) -> usize
     ensures value { result ≡ at + length (rec_of (drop p (key_told a.old b c.rest_at c.rest_len)) c.page.0) }
     ensures a_after { a.new ≡ put a.old at (rec_of (drop p (key_told a.old b c.rest_at c.rest_len)) c.page.0) }
 {
-    let id = c.page;
     let n = b.prefix_len + c.rest_len - p;
     let k = lengths::write(a, at, n as u32);
     let to = at + k;
     let _ = build_page_pen::put_rest(a, b, c.rest_at, c.rest_len, to, p);
     let v = to + n;
-    numbers::put_u64(a, v, id.0);
+    numbers::put_u64(a, v, c.page.0);
     v + 8
 }
 
@@ -380,11 +366,9 @@ pub fn write_pages(
     requires ready { Ready a.old footing at none.now none.now e (index_entries (take footing a.old) b (end - from) from ++ index_entries (take footing a.old) d count 0) n size }
     ensures { a.new ≡ put a.old at (index_image m (bounds_of none.now none.now (take footing a.old) e) (index_entries (take footing a.old) b (end - from) from ++ index_entries (take footing a.old) d count 0)) }
 {
-    let x = e.lo;
-    let y = e.hi;
     index_fixed(a, footing, at, m, n, size, none, none, e);
     let s = at + BaseHeader::SLOTS_AT;
-    let r = s + 4 * n + x.len + y.len;
+    let r = s + 4 * n + e.lo.len + e.hi.len;
     let base = at + BoxHeader::HDR_LEN;
     let k = pen_page(a, footing, b, from, end, s, r, base, e.prefix);
     let t = s + 4 * (end - from);

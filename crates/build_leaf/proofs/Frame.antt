@@ -1,8 +1,8 @@
 -- A leaf's headers.
 -- Assumes nothing.
-use mathlib.Core.Path.{◌≡◌, refl, ap, ◌∙◌}
+use mathlib.Core.Path.{◌≡◌, ap, ◌∙◌}
 use mathlib.Core.List.{List}
-use Prim.Native.Nat.{ℕ, zero, suc, ◌+◌, ◌-◌}
+use Prim.Native.Nat.{ℕ, ◌+◌, ◌-◌}
 use lib.ListN.{length}
 use Rattle.spans.specs.Span.{put}
 use Rattle.frames.specs.declared.BaseHeader.{BaseHeader}
@@ -17,13 +17,6 @@ use Rattle.build_totals.specs.declared.Totals.{Totals}
 use Rattle.build_leaf.specs.Leaf.{leaf_head}
 
 -- ---- headers
-
-pub one_none : (n : ℕ) → n ≡ 0 → 0 ≡ one_if n
-one_none n e = rw e
-
-pub one-some : (n : ℕ) → (n ≡ 0 → ⊥) → 1 ≡ one_if n
-one-some zero e = absurd (e refl)
-one-some (suc n) e = refl
 
 pub length_leaf_head : (m : Call) (t : Totals) (e : Boundaries) → length (leaf_head m t e) ≡ slots_at
 unfolding leaf_head

@@ -30,10 +30,7 @@ use frames::{BaseHeader, Body, BoxHeader, NULL_ADDR};
 fn one_if(n: usize) -> u8
     ensures { result ≡ one_if n }
 {
-    if n == 0 {
-        return 0;
-    }
-    1
+    u8::from(n != 0)
 }
 
 // The leaf's headers.
@@ -43,14 +40,21 @@ fn leaf_head(a: &mut [u8], at: usize, m: Call, t: Totals, e: Boundaries)
     requires heads_le_max_entries { t.heads ≤ max_entries }
     ensures { a.new ≡ put a.old at (leaf_head m t e) }
 {
-    let size = t.size;
     let many = one_if(t.olds);
-    let sibling = e.sibling;
-    let payload = (size + t.room) as u32;
+    let payload = (t.size + t.room) as u32;
     let n = t.heads as u16;
     let lo = e.lo.len as u32;
     let hi = e.hi.len as u32;
-    let b = BaseHeader::new(size as u32, n, sibling, lo, hi, e.prefix as u32, 0, many);
+    let b = BaseHeader::new(
+        t.size as u32,
+        n,
+        e.sibling,
+        lo,
+        hi,
+        e.prefix as u32,
+        0,
+        many,
+    );
     build_image::page_head(a, at, m, payload, BoxHeader::LEAF, 0, NULL_ADDR, b);
 }
 
@@ -73,8 +77,7 @@ fn hint_counts(a: &mut [u8], at: usize, t: Totals) -> HintPlaces
     ensures value { result ≡ hint_places t.room at t.pages t.aged }
     ensures a_after { a.new ≡ hints_set t.room at t.pages t.remotes a.old }
 {
-    let room = t.room;
-    if room == 0 {
+    if t.room == 0 {
         return HintPlaces {
             pages: at,
             olds: at,
@@ -87,7 +90,7 @@ fn hint_counts(a: &mut [u8], at: usize, t: Totals) -> HintPlaces
     let z = o + 8 * t.remotes;
     numbers::put_u32(a, at, t.pages as u32);
     numbers::put_u32(a, c, t.remotes as u32);
-    spans::zeros(a, z, at + room - z);
+    spans::zeros(a, z, at + t.room - z);
     HintPlaces {
         pages: p,
         olds: o,
@@ -111,15 +114,12 @@ fn leaf_fixed(
     ensures value { result ≡ hint_places t.room (t.leaf + (box_len + t.size)) t.pages t.aged }
     ensures a_after { a.new ≡ fixed_on m t e remote (boundary_bytes lo.now (take footing a.old) e.lo) (boundary_bytes hi.now (take footing a.old) e.hi) a.old }
 {
-    let leaf = t.leaf;
-    let l = e.lo;
-    let h = e.hi;
-    leaf_head(a, leaf, m, t, e);
-    let x = leaf + BaseHeader::SLOTS_AT + 4 * t.heads;
-    build_bounds::put_boundary(a, footing, lo, l, x);
-    let y = x + l.len;
-    build_bounds::put_boundary(a, footing, hi, h, y);
-    let q = leaf + (BoxHeader::HDR_LEN + t.size);
+    leaf_head(a, t.leaf, m, t, e);
+    let x = t.leaf + BaseHeader::SLOTS_AT + 4 * t.heads;
+    build_bounds::put_boundary(a, footing, lo, e.lo, x);
+    let y = x + e.lo.len;
+    build_bounds::put_boundary(a, footing, hi, e.hi, y);
+    let q = t.leaf + (BoxHeader::HDR_LEN + t.size);
     let w = q + t.room;
     spans::zeros(a, w, remote - w);
     hint_counts(a, q, t)
@@ -149,10 +149,7 @@ fn leaf_open(
     ensures value { result ≡ opened_at at t e (t.leaf + frame_len (t.size + t.room)) (hint_places t.room (t.leaf + (box_len + t.size)) t.pages t.aged) }
     ensures a_after { a.new ≡ fixed_on m t e (t.leaf + frame_len (t.size + t.room)) (boundary_bytes lo.now (take footing a.old) e.lo) (boundary_bytes hi.now (take footing a.old) e.hi) a.old }
 {
-    let leaf = t.leaf;
-    let l = e.lo;
-    let h = e.hi;
-    let remote = leaf + frames::frame_len((t.size + t.room) as u32);
+    let remote = t.leaf + frames::frame_len((t.size + t.room) as u32);
     let k = leaf_fixed(a, footing, m, t, remote, lo, hi, e);
     let pen = Pen {
         loc: Loc {
@@ -169,12 +166,12 @@ fn leaf_open(
         pages: k.pages,
         hint: k.olds,
     };
-    let s = leaf + BaseHeader::SLOTS_AT;
+    let s = t.leaf + BaseHeader::SLOTS_AT;
     Opened {
         pen,
         nib: Nib {
             slot: s,
-            rec: s + 4 * t.heads + l.len + h.len,
+            rec: s + 4 * t.heads + e.lo.len + e.hi.len,
             remote,
         },
         hint: k.heads,
@@ -205,13 +202,12 @@ pub fn write_list(
     ensures value { result ≡ t.leaf }
     ensures a_after { a.new ≡ put a.old at (leaf_image m (bounds_of lo.now hi.now (take footing a.old) e) at (list_from list.now 5)) }
 {
-    let leaf = t.leaf;
     let o = leaf_open(a, footing, at, m, t, lo, hi, e);
-    let base = leaf + BoxHeader::HDR_LEN;
+    let base = t.leaf + BoxHeader::HDR_LEN;
     let z = build_pen::pen_all(a, list, 5, o.pen, o.nib, o.hint, base, m, e.prefix);
-    let q = leaf + (BoxHeader::HDR_LEN + t.size);
+    let q = t.leaf + (BoxHeader::HDR_LEN + t.size);
     spans::zeros(a, z, q - z);
-    leaf
+    t.leaf
 }
 
 // The whole leaf of heads from..end of one sound leaf and n heads of another, both below the footing, from this address on; the leaf's own address.
@@ -242,19 +238,15 @@ pub fn write_leaves(
     ensures value { result ≡ t.leaf }
     ensures a_after { a.new ≡ put a.old at (leaf_image m (bounds_of none.now none.now (take footing a.old) e) at (leaf_entries (take footing a.old) b (end - from) from ++ leaf_entries (take footing a.old) d n 0)) }
 {
-    let leaf = t.leaf;
     let o = leaf_open(a, footing, at, m, t, none, none, e);
-    let base = leaf + BoxHeader::HDR_LEN;
-    let p = e.prefix;
-    let pen = o.pen;
-    let nib = o.nib;
+    let base = t.leaf + BoxHeader::HDR_LEN;
     let x = Penned {
-        pen,
-        nib,
+        pen: o.pen,
+        nib: o.nib,
         hint: o.hint,
     };
-    let z = build_page_pen::pen_leaves(a, footing, b, from, end, d, n, x, base, m, p);
-    let q = leaf + (BoxHeader::HDR_LEN + t.size);
+    let z = build_page_pen::pen_leaves(a, footing, b, from, end, d, n, x, base, m, e.prefix);
+    let q = t.leaf + (BoxHeader::HDR_LEN + t.size);
     spans::zeros(a, z, q - z);
-    leaf
+    t.leaf
 }

@@ -137,7 +137,6 @@ pub fn ahead(
     requires follow { Follow s.now rest }
     ensures { AheadBy s.now limit budget left hand.page slot rest result }
 {
-    let page = hand.page;
     let none = Filling {
         run: PageAhead {
             count: 0,
@@ -147,7 +146,7 @@ pub fn ahead(
         },
         hand,
     };
-    let x = fill_run(s, page, slot, left, limit, budget, none);
+    let x = fill_run(s, hand.page, slot, left, limit, budget, none);
     let y = fill_page(s, rest.body, rest.i, rest.end, limit, budget, x);
     let z = fill_page(s, rest.then, 0, rest.n, limit, budget, y);
     z.run

@@ -21,7 +21,7 @@ use build_image::Call;
 use build_page_ahead::Rest;
 use build_pen::{Nib, Pen};
 use build_rows::{Bytes, Hand, Head, Old};
-use frames::{Addr, BaseHeader, Body, BoxHeader, NULL_ADDR};
+use frames::{Addr, BaseHeader, Body, BoxHeader};
 use values::{HistRef, Val};
 
 // The pen with a page at hand, where an old version is left.
@@ -42,8 +42,7 @@ fn turn(
     requires by_index { (key : List ℕ) × Ready next m q (run_entries (take next a.old) key count hand.page slot rest) (length a.old) }
     ensures { (key : List ℕ) → Ready next m q (run_entries (take next a.old) key count hand.page slot rest) (length a.old) → Turned next m (olds (run_entries (take next a.old) key count hand.page slot rest)) a.old q a.new result }
 {
-    let left = q.loc.left;
-    if left > 0 {
+    if q.loc.left > 0 {
         return q;
     }
     let r = build_page_ahead::ahead(&a[..next], hand, slot, count, rest, m.limit, m.budget);
@@ -62,13 +61,12 @@ fn put_value(a: &mut [u8], v: Bytes, at: usize, h: HistRef, limit: usize, remote
     ensures value { result ≡ length (val_bytes limit remote h (value_told a.old v 0)) }
     ensures a_after { a.new ≡ put a.old at (val_bytes limit remote h (value_told a.old v 0)) }
 {
-    let n = v.len;
-    if n < limit {
-        let k = Val::write_front(a, at, h, false, n);
-        spans::copy_within(a, v.at, at + k, n);
-        return k + n;
+    if v.len < limit {
+        let k = Val::write_front(a, at, h, false, v.len);
+        spans::copy_within(a, v.at, at + k, v.len);
+        return k + v.len;
     }
-    Val::encode_remote(a, at, h, n, Addr(remote))
+    Val::encode_remote(a, at, h, v.len, Addr(remote))
 }
 
 // An old version's record; the number of bytes stored.
@@ -80,12 +78,7 @@ fn put_old(a: &mut [u8], o: Old, at: usize, limit: usize, remote: u64) -> usize
 {
     let v = records::ver_at(a, o.ver_at);
     let k = values::write_ver(a, at, v);
-    let h = HistRef {
-        page: NULL_ADDR,
-        slot: 0,
-        count: 0,
-    };
-    let n = put_value(a, o.bytes, at + k, h, limit, remote);
+    let n = put_value(a, o.bytes, at + k, HistRef::NONE, limit, remote);
     k + n
 }
 
@@ -149,8 +142,7 @@ fn put_remote(a: &mut [u8], next: usize, v: Bytes, at: usize, m: Call) -> usize
     if n < m.limit {
         return at;
     }
-    let kept = v.remote;
-    if kept.0 != 0 {
+    if v.remote.0 != 0 {
         return at;
     }
     build_history::remote_frame(a, next, b"", true, v.at, n, at, m);
@@ -165,16 +157,13 @@ fn pen_old(a: &mut [u8], next: usize, o: Old, q: Nib, base: usize, m: Call) -> N
     ensures value { result ≡ nib_past m q (old_rec m.limit q.remote) (old_told (take next a.old) o o.bytes.remote.0) }
     ensures a_after { a.new ≡ drawn m q base (old_rec m.limit q.remote) (old_told (take next a.old) o o.bytes.remote.0) a.old }
 {
-    let s = q.slot;
-    let r = q.rec;
-    let f = q.remote;
-    let kept = o.bytes.remote;
-    numbers::put_u32(a, s, (r - base) as u32);
-    let n = put_old(a, o, r, m.limit, build_image::remote_addr(f, kept));
-    let g = put_remote(a, next, o.bytes, f, m);
+    numbers::put_u32(a, q.slot, (q.rec - base) as u32);
+    let addr = build_image::remote_addr(q.remote, o.bytes.remote);
+    let n = put_old(a, o, q.rec, m.limit, addr);
+    let g = put_remote(a, next, o.bytes, q.remote, m);
     Nib {
-        slot: s + 4,
-        rec: r + n,
+        slot: q.slot + 4,
+        rec: q.rec + n,
         remote: g,
     }
 }
@@ -198,16 +187,13 @@ fn pen_head(
     ensures value { result ≡ nib_past m q (head_rec m.limit p q.remote h) (head_told (take next a.old) b x x.bytes.remote.0) }
     ensures a_after { a.new ≡ drawn m q base (head_rec m.limit p q.remote h) (head_told (take next a.old) b x x.bytes.remote.0) a.old }
 {
-    let s = q.slot;
-    let r = q.rec;
-    let f = q.remote;
-    let kept = x.bytes.remote;
-    numbers::put_u32(a, s, (r - base) as u32);
-    let n = put_head(a, b, x, r, p, m.limit, build_image::remote_addr(f, kept), h);
-    let g = put_remote(a, next, x.bytes, f, m);
+    numbers::put_u32(a, q.slot, (q.rec - base) as u32);
+    let addr = build_image::remote_addr(q.remote, x.bytes.remote);
+    let n = put_head(a, b, x, q.rec, p, m.limit, addr, h);
+    let g = put_remote(a, next, x.bytes, q.remote, m);
     Nib {
-        slot: s + 4,
-        rec: r + n,
+        slot: q.slot + 4,
+        rec: q.rec + n,
         remote: g,
     }
 }

@@ -128,12 +128,11 @@ fn put_value(
     ensures value { result ≡ length (val_bytes limit remote h (entry_in list.now true i)) }
     ensures a_after { a.new ≡ put a.old at (val_bytes limit remote h (entry_in list.now true i)) }
 {
-    let n = i.vlen;
-    if n < limit {
-        let v = bytes_of(list, i.kat + i.klen + 16, n);
+    if i.vlen < limit {
+        let v = bytes_of(list, i.kat + i.klen + 16, i.vlen);
         return Val::encode_inline(a, at, h, v);
     }
-    Val::encode_remote(a, at, h, n, Addr(remote as u64))
+    Val::encode_remote(a, at, h, i.vlen, Addr(remote as u64))
 }
 
 // An old version's record; the number of bytes stored.
@@ -145,12 +144,7 @@ fn put_old(a: &mut [u8], list: &[u8], i: RecordAt, at: usize, limit: usize, remo
 {
     let v = ver_in(list, i.kat + i.klen);
     let k = values::write_ver(a, at, v);
-    let h = HistRef {
-        page: NULL_ADDR,
-        slot: 0,
-        count: 0,
-    };
-    let n = put_value(a, list, i, at + k, h, limit, remote);
+    let n = put_value(a, list, i, at + k, HistRef::NONE, limit, remote);
     k + n
 }
 
@@ -214,15 +208,12 @@ fn pen_old(a: &mut [u8], list: &[u8], i: RecordAt, q: Nib, base: usize, m: Call)
     ensures value { result ≡ nib_past m q (old_rec m.limit q.remote) (entry_in list.now true i) }
     ensures a_after { a.new ≡ drawn m q base (old_rec m.limit q.remote) (entry_in list.now true i) a.old }
 {
-    let s = q.slot;
-    let r = q.rec;
-    let f = q.remote;
-    numbers::put_u32(a, s, (r - base) as u32);
-    let n = put_old(a, list, i, r, m.limit, f);
-    let g = put_remote(a, list, i, f, m);
+    numbers::put_u32(a, q.slot, (q.rec - base) as u32);
+    let n = put_old(a, list, i, q.rec, m.limit, q.remote);
+    let g = put_remote(a, list, i, q.remote, m);
     Nib {
-        slot: s + 4,
-        rec: r + n,
+        slot: q.slot + 4,
+        rec: q.rec + n,
         remote: g,
     }
 }
@@ -244,15 +235,12 @@ fn pen_head(
     ensures value { result ≡ nib_past m q (head_rec m.limit p q.remote h) (entry_in list.now false i) }
     ensures a_after { a.new ≡ drawn m q base (head_rec m.limit p q.remote h) (entry_in list.now false i) a.old }
 {
-    let s = q.slot;
-    let r = q.rec;
-    let f = q.remote;
-    numbers::put_u32(a, s, (r - base) as u32);
-    let n = put_head(a, list, i, r, p, m.limit, f, h);
-    let g = put_remote(a, list, i, f, m);
+    numbers::put_u32(a, q.slot, (q.rec - base) as u32);
+    let n = put_head(a, list, i, q.rec, p, m.limit, q.remote, h);
+    let g = put_remote(a, list, i, q.remote, m);
     Nib {
-        slot: s + 4,
-        rec: r + n,
+        slot: q.slot + 4,
+        rec: q.rec + n,
         remote: g,
     }
 }
@@ -312,43 +300,34 @@ fn ahead(
     }
 }
 
-fn link_of(more: bool, to: usize) -> usize
-    ensures { result ≡ cond more to 0 }
-{
-    if more { to } else { 0 }
-}
-
 // The pen at a new history page, which a look ahead told of: its headers, rounding and hint are stored at once.
 pub fn opened(a: &mut [u8], q: Pen, r: PageAhead, m: Call) -> Pen
     requires { Opens q r (length a.old) }
     ensures value { result ≡ pen_opened q r }
     ensures a_after { a.new ≡ page_opened m q r a.old }
 {
-    let n = r.count;
-    let size = r.size;
     let page = q.loc.next;
-    let end = page + frames::frame_len(size as u32);
+    let end = page + frames::frame_len(r.size as u32);
     let next = end + r.remote;
-    let link = link_of(r.more, next);
-    build_history::hist_head(a, page, m, link, n, size);
-    let z = page + (BoxHeader::HDR_LEN + size);
+    let link = build_history::link_of(r.more, next);
+    build_history::hist_head(a, page, m, link, r.count, r.size);
+    let z = page + (BoxHeader::HDR_LEN + r.size);
     spans::zeros(a, z, end - z);
-    let h = q.pages;
-    numbers::put_u64(a, h, page as u64);
+    numbers::put_u64(a, q.pages, page as u64);
     let t = page + BaseHeader::SLOTS_AT;
     Pen {
         loc: Loc {
             page,
             slot: 0,
-            left: n,
+            left: r.count,
             next,
         },
         nib: Nib {
             slot: t,
-            rec: t + 4 * n,
+            rec: t + 4 * r.count,
             remote: end,
         },
-        pages: h + 8,
+        pages: q.pages + 8,
         hint: q.hint,
     }
 }
@@ -362,8 +341,7 @@ fn turn(a: &mut [u8], list: &[u8], at: usize, kat: usize, klen: usize, q: Pen, m
     requires rising { Rising 0 (pens_left m q (olds (list_behind list.now at kat klen)) [] []) (length a.old) }
     ensures { Turned 0 m (olds (list_behind list.now at kat klen)) a.old q a.new result }
 {
-    let left = q.loc.left;
-    if left > 0 {
+    if q.loc.left > 0 {
         return q;
     }
     let r = ahead(list, at, kat, klen, m.limit, m.budget);
@@ -421,22 +399,19 @@ fn pen_run(
             };
         }
         let r = turn(a, list, at, kat, klen, q, m);
-        let l = r.loc;
-        let n = r.nib;
-        page = first_of(run, l.page, page);
-        slot = first_of(run, l.slot, slot);
-        let h = put_hint(a, r.hint, m.limit, n.remote, i.vlen);
-        let k = pen_old(a, list, i, n, l.page + BoxHeader::HDR_LEN, m);
+        page = first_of(run, r.loc.page, page);
+        slot = first_of(run, r.loc.slot, slot);
+        let h = put_hint(a, r.hint, m.limit, r.nib.remote, i.vlen);
+        let k = pen_old(a, list, i, r.nib, r.loc.page + BoxHeader::HDR_LEN, m);
         q = Pen {
             loc: Loc {
-                page: l.page,
-                slot: l.slot + 1,
-                left: l.left - 1,
-                next: l.next,
+                slot: r.loc.slot + 1,
+                left: r.loc.left - 1,
+                ..r.loc
             },
             nib: k,
-            pages: r.pages,
             hint: h,
+            ..r
         };
         run += 1;
         kat = i.kat;

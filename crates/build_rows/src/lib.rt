@@ -50,12 +50,11 @@ pub fn hand_at(s: &[u8], a: Addr, hand: Hand) -> Hand
     let Some(b) = pages::history_at(s, a) else {
         return hand;
     };
-    let link = b.link;
     Hand {
         page: a,
         at: b.at,
         elems: b.elems,
-        link,
+        link: b.link,
     }
 }
 
@@ -68,9 +67,8 @@ pub fn spot_at(s: &[u8], hand: Hand, slot: usize) -> Spot
     if slot < hand.elems {
         return Spot { hand, slot };
     }
-    let link = hand.link;
     Spot {
-        hand: hand_at(s, link, hand),
+        hand: hand_at(s, hand.link, hand),
         slot: 0,
     }
 }
@@ -147,11 +145,7 @@ fn hist_here(s: &[u8], has: bool, at: usize) -> HistRef
             count: numbers::read_u32(s, at + 10),
         };
     }
-    HistRef {
-        page: NULL_ADDR,
-        slot: 0,
-        count: 0,
-    }
+    HistRef::NONE
 }
 
 fn behind(has: bool, at: usize) -> usize

@@ -117,11 +117,10 @@ fn begins_in(s: &[u8], k: Key, pre: &[u8]) -> bool
 fn key_begins(list: &[u8], footing: &[u8], i: EntryAt, pre: &[u8]) -> bool
     ensures { result ≡ starts_with pre.now (entry_of list.now footing.now i).key }
 {
-    let k = i.key;
     if i.footing {
-        return begins_in(footing, k, pre);
+        return begins_in(footing, i.key, pre);
     }
-    begins_in(list, k, pre)
+    begins_in(list, i.key, pre)
 }
 
 // ---- cursors
@@ -131,9 +130,8 @@ fn no_walk() -> Walk
     ensures { result ≡ no_walk }
 {
     let older = walks::no_older();
-    let page = older.page;
     Walk {
-        page,
+        page: older.page,
         way: 0,
         pos: 0,
         heads: 0,
@@ -200,8 +198,7 @@ fn same_key(s: &[u8], c: Cursor, k: Key) -> bool
     ensures { result ≡ same_key s.now c k }
 {
     if c.seen {
-        let before = c.key;
-        return order::is_equal(compare_keys(s, before, s, k));
+        return order::is_equal(compare_keys(s, c.key, s, k));
     }
     false
 }
@@ -357,27 +354,19 @@ fn spot_at(s: &[u8], c: Cursor) -> Option<(EntryAt, usize)>
 fn list_next(list: &[u8], c: Cursor) -> EntryRead
     ensures { result ≡ list_next list.now c }
 {
-    let at = c.at;
-    if list.len() <= at {
+    if list.len() <= c.at {
         return EntryRead::End;
     }
     let Some((i, past)) = spot_at(list, c) else {
         return EntryRead::Bad;
     };
-    let k = i.key;
-    let walk = c.walk;
-    let pre = c.pre;
-    let then = c.then;
     EntryRead::Got(
         i,
         Cursor {
-            source: c.source,
             seen: true,
-            key: k,
+            key: i.key,
             at: past,
-            walk,
-            pre,
-            then,
+            ..c
         },
     )
 }
@@ -404,16 +393,11 @@ fn page_first(footing: &[u8], c: Cursor, a: Addr, then: Addr) -> Option<Cursor>
     let Ok(e) = pages::bounds_at(footing, a) else {
         return None;
     };
-    let key = c.key;
-    let pre = e.prefix;
     Some(Cursor {
-        source: c.source,
-        seen: c.seen,
-        key,
-        at: c.at,
         walk: v,
-        pre,
+        pre: e.prefix,
         then,
+        ..c
     })
 }
 
@@ -439,7 +423,6 @@ fn item_at(
 {
     let n = footing.len();
     let pre = c.pre;
-    let then = c.then;
     if !spans::room(n, pre.at, pre.len) {
         return EntryRead::Bad;
     }
@@ -474,13 +457,10 @@ fn item_at(
             page,
         },
         Cursor {
-            source: c.source,
             seen: true,
             key: k,
-            at: c.at,
             walk: v,
-            pre,
-            then,
+            ..c
         },
     )
 }
@@ -500,24 +480,16 @@ fn walk_next(footing: &[u8], c: Cursor) -> EntryRead
         return EntryRead::Bad;
     };
     match step {
-        Step::Found(x, v) => {
-            let k = x.key;
-            let r = x.ver;
-            let p = x.value;
-            let f = x.remote;
-            item_at(footing, c, k, r, p, f, NULL_PID, v)
-        }
+        Step::Found(x, v) => { item_at(footing, c, x.key, x.ver, x.value, x.remote, NULL_PID, v) }
         Step::Leads(x, v) => {
-            let k = x.key;
-            let g = x.page;
             item_at(
                 footing,
                 c,
-                k,
+                x.key,
                 Ver::new(0, 0),
                 Place { at: 0, len: 0 },
                 NULL_ADDR,
-                g,
+                x.page,
                 v,
             )
         }
@@ -529,11 +501,10 @@ fn walk_next(footing: &[u8], c: Cursor) -> EntryRead
 fn turn(footing: &[u8], c: Cursor) -> EntryRead
     ensures { result ≡ turned footing.now c }
 {
-    let then = c.then;
-    if then.0 == 0 {
+    if c.then.0 == 0 {
         return EntryRead::End;
     }
-    let Some(d) = page_first(footing, c, then, NULL_ADDR) else {
+    let Some(d) = page_first(footing, c, c.then, NULL_ADDR) else {
         return EntryRead::Bad;
     };
     walk_next(footing, d)
@@ -602,9 +573,7 @@ pub fn next(list: &[u8], footing: &[u8], c: Cursor) -> EntryRead
     ensures { result ≡ next_of list.now footing.now c }
 {
     if c.source != Cursor::RECORDS {
-        let d = c;
-        let st = any_next(list, footing, d);
-        return st;
+        return any_next(list, footing, c);
     }
     if list.len() <= c.at {
         return EntryRead::End;
@@ -614,20 +583,14 @@ pub fn next(list: &[u8], footing: &[u8], c: Cursor) -> EntryRead
     ) else {
         return EntryRead::Bad;
     };
-    let k = i.key;
-    let walk = apart(c.walk);
-    let pre = c.pre;
-    let then = c.then;
     EntryRead::Got(
         i,
         Cursor {
-            source: c.source,
             seen: true,
-            key: k,
+            key: i.key,
             at: past,
-            walk,
-            pre,
-            then,
+            walk: apart(c.walk),
+            ..c
         },
     )
 }
@@ -635,7 +598,7 @@ pub fn next(list: &[u8], footing: &[u8], c: Cursor) -> EntryRead
 fn is_wanted(want: bool, old: bool) -> bool
     ensures { result ≡ wanted want old }
 {
-    if want { old } else { !old }
+    want == old
 }
 
 // The next old version, or the next head, with the cursor past it.
@@ -689,30 +652,25 @@ pub fn well(list: &[u8], footing: &[u8], from: Cursor) -> bool
 fn compare_items(list: &[u8], footing: &[u8], a: EntryAt, b: EntryAt) -> Ordering
     ensures { result ≡ cmp_bytes (entry_of list.now footing.now a).key (entry_of list.now footing.now b).key }
 {
-    let k = a.key;
-    let j = b.key;
     if a.footing {
         if b.footing {
-            return compare_keys(footing, k, footing, j);
+            return compare_keys(footing, a.key, footing, b.key);
         }
-        return compare_keys(footing, k, list, j);
+        return compare_keys(footing, a.key, list, b.key);
     }
     if b.footing {
-        return compare_keys(list, k, footing, j);
+        return compare_keys(list, a.key, footing, b.key);
     }
-    compare_keys(list, k, list, j)
+    compare_keys(list, a.key, list, b.key)
 }
 
 // Whether an entry is above the one before.
 fn is_above(list: &[u8], footing: &[u8], a: EntryAt, b: EntryAt) -> bool
     ensures { result ≡ above (entry_of list.now footing.now a) (entry_of list.now footing.now b) }
 {
-    let v = a.ver;
-    let w = b.ver;
-    let o = compare_items(list, footing, a, b);
-    match o {
+    match compare_items(list, footing, a, b) {
         Ordering::Less => true,
-        Ordering::Equal => v.newer(w),
+        Ordering::Equal => a.ver.newer(b.ver),
         Ordering::Greater => false,
     }
 }
@@ -732,11 +690,10 @@ fn compare_in(s: &[u8], k: Key, x: &[u8]) -> Ordering
 fn compare_with(list: &[u8], footing: &[u8], i: EntryAt, x: &[u8]) -> Ordering
     ensures { result ≡ cmp_bytes (entry_of list.now footing.now i).key x.now }
 {
-    let k = i.key;
     if i.footing {
-        return compare_in(footing, k, x);
+        return compare_in(footing, i.key, x);
     }
-    compare_in(list, k, x)
+    compare_in(list, i.key, x)
 }
 
 // Whether keys that rise from one entry's to another's lie between the boundaries: these two decide.

@@ -33,6 +33,20 @@ pub struct Tally {
     pub after: bool,
 }
 
+impl Tally {
+    // Of no entry.
+    pub const NOTHING: Tally = Tally {
+        heads: 0,
+        olds: 0,
+        sums: 0,
+        counted: 0,
+        remotes: 0,
+        aged: 0,
+        remote: 0,
+        after: false,
+    };
+}
+
 // History pages: how many, and where they end.
 #[derive(Clone, Copy)]
 pub struct Pages {
@@ -50,6 +64,17 @@ pub struct Cut {
     pub remote: usize,
 }
 
+impl Cut {
+    // No page closed, and an empty one under way.
+    pub const NONE: Cut = Cut {
+        pages: 0,
+        to: 0,
+        count: 0,
+        size: BaseHeader::HDR_LEN,
+        remote: 0,
+    };
+}
+
 // What an entry is beside the one before.
 #[derive(Clone, Copy)]
 pub enum Way {
@@ -63,19 +88,13 @@ pub enum Way {
 fn remote_one(limit: usize, n: usize) -> usize
     ensures { result ≡ cond (ltb n limit) 0 1 }
 {
-    if n < limit { 0 } else { 1 }
+    usize::from(limit <= n)
 }
 
 fn counted_one(limit: usize, n: usize, kept: Addr) -> usize
     ensures { result ≡ cond (ltb n limit) (cond (eqb kept.0 0) 0 1) 1 }
 {
-    if n < limit {
-        if kept.0 == 0 {
-            return 0;
-        }
-        return 1;
-    }
-    1
+    usize::from((limit <= n) | (kept.0 != 0))
 }
 
 fn second(after: bool, limit: usize, n: usize) -> usize
@@ -95,14 +114,13 @@ pub fn with_old(limit: usize, t: Tally, n: usize, kept: Addr) -> Tally
 {
     let far = remote_one(limit, n);
     Tally {
-        heads: t.heads,
         olds: t.olds + 1,
         sums: t.sums + second(t.after, limit, n),
         counted: t.counted + counted_one(limit, n, kept),
         remotes: t.remotes + far,
         aged: t.aged + far,
-        remote: t.remote,
         after: false,
+        ..t
     }
 }
 
@@ -116,13 +134,12 @@ pub fn with_head(limit: usize, p: usize, t: Tally, k: usize, n: usize, kept: Add
     let key = values::leaf_key_size(spans::less(k, p) as u16);
     Tally {
         heads: t.heads + 1,
-        olds: t.olds,
         sums: t.sums + (key + Val::calc_size(false, limit, n as u32)),
         counted: t.counted + counted_one(limit, n, kept),
         remotes: t.remotes + remote_one(limit, n),
-        aged: t.aged,
         remote: t.remote + build_image::remote_len(limit, n, kept),
         after: true,
+        ..t
     }
 }
 
@@ -138,11 +155,10 @@ pub fn with_cut(limit: usize, budget: usize, g: Cut, v: usize, kept: Addr) -> Cu
     let f = build_image::remote_len(limit, v, kept);
     if build_paging::takes(budget, g.count, g.size, s) {
         return Cut {
-            pages: g.pages,
-            to: g.to,
             count: g.count + 1,
             size: g.size + s,
             remote: g.remote + f,
+            ..g
         };
     }
     Cut {
@@ -264,22 +280,10 @@ pub fn sweep_list(
     let mut seen = false;
     let mut kat: usize = 0;
     let mut klen: usize = 0;
-    let mut t = Tally {
-        heads: 0,
-        olds: 0,
-        sums: 0,
-        counted: 0,
-        remotes: 0,
-        aged: 0,
-        remote: 0,
-        after: false,
-    };
+    let mut t = Tally::NOTHING;
     let mut g = Cut {
-        pages: 0,
         to: next,
-        count: 0,
-        size: BaseHeader::HDR_LEN,
-        remote: 0,
+        ..Cut::NONE
     };
     while at < n {
         let Some((k, v)) = ent_at(list, at) else {

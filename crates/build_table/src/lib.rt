@@ -106,19 +106,24 @@ fn rises(
     requires { BothWithin lo.now hi.now footing.now e }
     ensures { result ≡ risen_of (boundary_bytes lo.now footing.now e.lo) (boundary_bytes hi.now footing.now e.hi) (entries list.now footing.now from) }
 {
-    let x = e.lo;
-    let y = e.hi;
-    if x.footing {
+    if e.lo.footing {
         return rises_below(
             list,
             footing,
             from,
-            spans::part_of(footing, x.at, x.len),
+            spans::part_of(footing, e.lo.at, e.lo.len),
             hi,
-            y,
+            e.hi,
         );
     }
-    rises_below(list, footing, from, spans::part_of(lo, x.at, x.len), hi, y)
+    rises_below(
+        list,
+        footing,
+        from,
+        spans::part_of(lo, e.lo.at, e.lo.len),
+        hi,
+        e.hi,
+    )
 }
 
 // Why entries that rise and do not lie between the boundaries are refused: 7 where a key lacks the prefix, else 10. Entries that do lie
@@ -149,8 +154,7 @@ pub fn apart(
     let Some((_, _)) = rises(list, footing, from, lo, hi, e) else {
         return Refusal::OutOfOrder;
     };
-    let x = e.lo;
-    outside(list, footing, from, lo, x, e.prefix)
+    outside(list, footing, from, lo, e.lo, e.prefix)
 }
 
 // ---- index pages
@@ -231,25 +235,20 @@ fn judge_leaves(
     requires next_le_len { (next ≤ len) × (len ≤ 9223372036854775807) }
     ensures { result ≡ leaf_verdict len next m (bounds_of none.now none.now footing.now e) (in_leaves footing.now b from end d n) }
 {
-    let none = Tally {
-        heads: 0,
-        olds: 0,
-        sums: 0,
-        counted: 0,
-        remotes: 0,
-        aged: 0,
-        remote: 0,
-        after: false,
-    };
     let cut = Cut {
-        pages: 0,
         to: next,
-        count: 0,
-        size: BaseHeader::HDR_LEN,
-        remote: 0,
+        ..Cut::NONE
     };
     let x = build_page_sweep::sweep_page(
-        footing, b, from, end, e.prefix, m.limit, m.budget, none, cut,
+        footing,
+        b,
+        from,
+        end,
+        e.prefix,
+        m.limit,
+        m.budget,
+        Tally::NOTHING,
+        cut,
     );
     let Some((t, g)) = x else {
         return Err(Refusal::TooBig);
@@ -258,9 +257,7 @@ fn judge_leaves(
     let Some((u, h)) = y else {
         return Err(Refusal::TooBig);
     };
-    let lo = e.lo;
-    let hi = e.hi;
-    weigh(len, lo.len, hi.len, u, build_sweep::closed(h))
+    weigh(len, e.lo.len, e.hi.len, u, build_sweep::closed(h))
 }
 
 // Builds a leaf of heads from..end of one sound leaf and n heads of another, whose entries rise and lie between the boundaries.
@@ -284,9 +281,8 @@ pub fn build_leaves(
 {
     let len = a.len();
     let t = judge_leaves(&a[..next], b, from, end, d, n, len, next, m, none, e)?;
-    let stop = t.end;
     let leaf = build_leaf::write_leaves(a, next, b, from, end, d, n, next, m, t, none, e);
-    Ok((Addr(leaf as u64), stop))
+    Ok((Addr(leaf as u64), t.end))
 }
 
 // ---- why a list is refused
@@ -313,8 +309,7 @@ fn refused(
     if inside {
         return Refusal::TooBig;
     }
-    let x = e.lo;
-    outside(list, footing, from, lo, x, e.prefix)
+    outside(list, footing, from, lo, e.lo, e.prefix)
 }
 
 // ---- a record list
@@ -369,9 +364,8 @@ pub fn build_list(
 {
     let len = a.len();
     let t = judge_list(list, &a[..next], from, len, next, m, lo, hi, e)?;
-    let end = t.end;
     let leaf = build_leaf::write_list(a, next, list, next, m, t, lo, hi, e);
-    Ok((Addr(leaf as u64), end))
+    Ok((Addr(leaf as u64), t.end))
 }
 
 // ---- an index list
@@ -450,16 +444,13 @@ fn judge_indexes(
     requires count_value_2 { enclosed (boundary_bytes none.now footing.now e.lo) (boundary_bytes none.now footing.now e.hi) (index_entries footing.now b (end - from) from ++ index_entries footing.now d count 0) ≡ true }
     ensures { result ≡ index_verdict len next (bounds_of none.now none.now footing.now e) e (index_entries footing.now b (end - from) from ++ index_entries footing.now d count 0) }
 {
-    let x = e.lo;
-    let y = e.hi;
-    let p = e.prefix;
     let n = end - from + count;
     if BaseHeader::MAX_ENTRIES < n {
         return Err(Refusal::TooBig);
     }
-    let one = build_index::sum_page(footing, b, from, end, p);
-    let two = build_index::sum_page(footing, d, 0, count, p);
-    weigh_index(len, next, x.len, y.len, n, one + two)
+    let one = build_index::sum_page(footing, b, from, end, e.prefix);
+    let two = build_index::sum_page(footing, d, 0, count, e.prefix);
+    weigh_index(len, next, e.lo.len, e.hi.len, n, one + two)
 }
 
 // Builds an index page of the children from..end of one sound page and the first of another, which rise and lie between the boundaries.

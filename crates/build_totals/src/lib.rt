@@ -35,12 +35,10 @@ fn with_one(limit: usize, p: usize, t: Tally, i: EntryAt) -> Tally
     requires bounded { Bounded t max_entries }
     ensures { result ≡ with_one limit p t i.old (i.key.plen + i.key.klen) i.vlen i.kept.0 }
 {
-    let k = i.key;
-    let kept = i.kept;
     if i.old {
-        return build_sweep::with_old(limit, t, i.vlen, kept);
+        return build_sweep::with_old(limit, t, i.vlen, i.kept);
     }
-    build_sweep::with_head(limit, p, t, k.plen + k.klen, i.vlen, kept)
+    build_sweep::with_head(limit, p, t, i.key.plen + i.key.klen, i.vlen, i.kept)
 }
 
 // ---- all entries
@@ -51,16 +49,7 @@ pub fn tally_up(list: &[u8], footing: &[u8], from: Cursor, p: usize, limit: usiz
     ensures bounded { Bounded result max_entries }
 {
     let mut c = from;
-    let mut t = Tally {
-        heads: 0,
-        olds: 0,
-        sums: 0,
-        counted: 0,
-        remotes: 0,
-        aged: 0,
-        remote: 0,
-        after: false,
-    };
+    let mut t = Tally::NOTHING;
     loop {
         let st = build_sources::next(list, footing, c);
         match st {
@@ -99,12 +88,11 @@ pub fn count_pages(
     let mut to = at;
     loop {
         let s = build_history::look_ahead(list, footing, c, limit, budget);
-        let r = s.run;
-        if r.count == 0 {
+        if s.run.count == 0 {
             return Pages { count: n, end: to };
         }
         n += 1;
-        to += frames::frame_len(r.size as u32) + r.remote;
+        to += frames::frame_len(s.run.size as u32) + s.run.remote;
         c = s.rest;
     }
 }

@@ -23,15 +23,13 @@ fn step_old(s: &[u8], w: Walk, walk: &mut [u64], out: &mut [u64]) -> bool
     ensures { Takes s.now walk.old out.old result walk.new out.new }
 {
     let older = w.older;
-    let page = older.page;
-    let Some(b) = walks::body_of(s, page, Body::HISTORY) else {
+    let Some(b) = walks::body_of(s, older.page, Body::HISTORY) else {
         return false;
     };
     let Some(r) = records::quick_old(s, b, older.slot) else {
         return false;
     };
-    let key = w.key;
-    c_steps::tell_rec(s, out, 0, key, r, NULL_ADDR);
+    c_steps::tell_rec(s, out, 0, w.key, r, NULL_ADDR);
     c_words::put_older(walk, older.slot + 1, older.left - 1);
     true
 }
@@ -41,14 +39,13 @@ fn head_read(s: &[u8], w: Walk) -> Option<Rec>
     requires { w.older.left ≡ 0 }
     ensures { (r : Rec) → result ≡ Some r → Ahead s.now w r }
 {
-    let page = w.page;
     if w.heads == 0 {
         return None;
     }
     if w.way == Walk::INDEX {
         return None;
     }
-    let b = walks::body_of(s, page, Body::LEAF)?;
+    let b = walks::body_of(s, w.page, Body::LEAF)?;
     let p = records::slot_at(s, b, w.pos)?;
     let n = records::quick_key(s, b, p);
     if n == 0 {
@@ -95,15 +92,12 @@ fn step_head(s: &[u8], w: Walk, walk: &mut [u64], out: &mut [u64]) -> bool
     let Some(r) = head_read(s, w) else {
         return false;
     };
-    let h = r.hist;
-    let was = w.older;
-    if enter_in(s, h, was, walk) {
+    if enter_in(s, r.hist, w.older, walk) {
         let key = Place {
             at: r.rest_at,
             len: r.rest_len,
         };
-        let named = h.page;
-        c_steps::tell_rec(s, out, 0, key, r, named);
+        c_steps::tell_rec(s, out, 0, key, r, r.hist.page);
         c_words::put_on(
             walk,
             spans::onward(w.way == Walk::DOWN, w.pos),
@@ -152,8 +146,7 @@ pub fn step(s: &[u8], walk: &mut [u64], out: &mut [u64]) -> u32
         return step_any(s, walk, out);
     }
     let w = c_words::walk_in(&walk[..]);
-    let older = w.older;
-    if 0 < older.left {
+    if 0 < w.older.left {
         if step_old(s, w, walk, out) {
             return 0;
         }

@@ -68,7 +68,7 @@ fn least(a: usize, b: usize) -> usize
     ensures upper_bound { result ≤ a }
     ensures upper_bound_2 { result ≤ b }
 {
-    if a < b { a } else { b }
+    a.min(b)
 }
 
 // Old versions at the walk, as long as they stand in its history page in the common form: how many. At most as many as fit into the slice.
@@ -105,23 +105,13 @@ fn age(w: Walk, n: usize) -> Walk
     requires n_le_left { n ≤ w.older.left }
     ensures { result ≡ aged w n }
 {
-    let page = w.page;
-    let key = w.key;
-    let older = w.older;
-    let then = older.page;
-    let link = older.link;
     Walk {
-        page,
-        way: w.way,
-        pos: w.pos,
-        heads: w.heads,
-        key,
         older: OldPlace {
-            page: then,
-            link,
-            slot: older.slot + n,
-            left: older.left - n,
+            slot: w.older.slot + n,
+            left: w.older.left - n,
+            ..w.older
         },
+        ..w
     }
 }
 
@@ -133,19 +123,15 @@ fn reach(s: &[u8], h: HistRef, was: OldPlace, known: u64) -> Option<(OldPlace, u
     if h.count == 0 {
         return Some((was, known));
     }
-    let a = h.page;
     let slot = h.slot as usize;
-    let page = was.page;
     if known != 0 {
-        if a.0 == known {
-            if slot < page.elems {
-                let link = was.link;
+        if h.page.0 == known {
+            if slot < was.page.elems {
                 return Some((
                     OldPlace {
-                        page,
-                        link,
                         slot,
                         left: h.count as usize,
+                        ..was
                     },
                     known,
                 ));
@@ -153,7 +139,7 @@ fn reach(s: &[u8], h: HistRef, was: OldPlace, known: u64) -> Option<(OldPlace, u
         }
     }
     let older = walks::enter(s, h, was)?;
-    Some((older, a.0))
+    Some((older, h.page.0))
 }
 
 // What the heads below come to.
@@ -218,16 +204,11 @@ fn headed(w: Walk, x: Plain) -> Walk
     requires { x.count ≤ w.heads }
     ensures { result ≡ headed_by w x }
 {
-    let page = w.page;
-    let key = x.key;
-    let older = w.older;
     Walk {
-        page,
-        way: w.way,
         pos: x.pos,
         heads: w.heads - x.count,
-        key,
-        older,
+        key: x.key,
+        ..w
     }
 }
 
@@ -237,17 +218,12 @@ fn behind(s: &[u8], w: Walk, known: u64, r: Rec) -> Option<(Rec, Walk, u64)>
     requires ahead { Ahead s.now w r }
     ensures { Heads s.now w result }
 {
-    let page = w.page;
-    let was = w.older;
-    let h = r.hist;
-    let Some((older, seen)) = reach(s, h, was, known) else {
+    let Some((older, seen)) = reach(s, r.hist, w.older, known) else {
         return None;
     };
     Some((
         r,
         Walk {
-            page,
-            way: w.way,
             pos: spans::onward(w.way == Walk::DOWN, w.pos),
             heads: w.heads - 1,
             key: Place {
@@ -255,6 +231,7 @@ fn behind(s: &[u8], w: Walk, known: u64, r: Rec) -> Option<(Rec, Walk, u64)>
                 len: r.rest_len,
             },
             older,
+            ..w
         },
         seen,
     ))
@@ -264,16 +241,10 @@ fn behind(s: &[u8], w: Walk, known: u64, r: Rec) -> Option<(Rec, Walk, u64)>
 fn on_page(w: Walk, v: Walk) -> Walk
     ensures { result ≡ same_page w v }
 {
-    let page = w.page;
-    let key = v.key;
-    let older = v.older;
     Walk {
-        page,
+        page: w.page,
         way: w.way,
-        pos: v.pos,
-        heads: v.heads,
-        key,
-        older,
+        ..v
     }
 }
 
@@ -308,8 +279,7 @@ fn quick(s: &[u8], w: Walk, known: u64, out: &mut [u64], at: usize, room: usize,
     requires room_bound { at + 9 * room < 2 ^ 64 }
     ensures { Quicks s.now room at w out.old result out.new }
 {
-    let older = w.older;
-    if 0 < older.left {
+    if 0 < w.older.left {
         let n = olds(s, w, out, at, room, fit);
         if n == 0 {
             return Turn::Stop(0);
@@ -319,8 +289,7 @@ fn quick(s: &[u8], w: Walk, known: u64, out: &mut [u64], at: usize, room: usize,
     let x = plains(s, w, out, at, room, fit);
     let u = headed(w, x);
     let n = x.count;
-    let read = x.next;
-    let Some(h) = read else {
+    let Some(h) = x.next else {
         if n == 0 {
             return Turn::Stop(0);
         }
@@ -332,9 +301,7 @@ fn quick(s: &[u8], w: Walk, known: u64, out: &mut [u64], at: usize, room: usize,
         }
         return Turn::On(n, u, known);
     };
-    let key = v.key;
-    let named = r.hist.page;
-    tell_rec(s, out, at + 9 * n, key, r, named);
+    tell_rec(s, out, at + 9 * n, v.key, r, r.hist.page);
     Turn::On(n + 1, v, seen)
 }
 
@@ -404,7 +371,7 @@ pub fn room_in(len: usize) -> usize
     ensures value { result ≡ room_in len }
     ensures result_bound { 1 + 9 * result < 2 ^ 64 }
 {
-    if len == 0 { 0 } else { (len - 1) / 9 }
+    len.saturating_sub(1) / 9
 }
 
 // The count goes in front of the records, the walk moved on back to its words; a refused first step changes neither.

@@ -139,7 +139,7 @@ pub fn store_nine(
 fn word(words: &[u64], k: usize) -> u64
     ensures { result ≡ get_or words.now k 0 }
 {
-    if k < words.len() { words[k] } else { 0 }
+    words.get(k).copied().unwrap_or(0)
 }
 
 pub fn no(r: Refusal) -> u32
@@ -210,13 +210,11 @@ fn store_sheet(out: &mut [u64], k: usize, v: Sheet)
 pub fn store_walk(out: &mut [u64], w: Walk)
     ensures { out.new ≡ written (walk_words w) out.old }
 {
-    let page = w.page;
-    store_sheet(out, 0, page);
+    store_sheet(out, 0, w.page);
     store_three(out, 5, w.way as u64, w.pos as u64, w.heads as u64);
     store_two(out, 8, w.key.at as u64, w.key.len as u64);
     let older = w.older;
-    let then = older.page;
-    store_sheet(out, 10, then);
+    store_sheet(out, 10, older.page);
     store_three(out, 15, older.link.0, older.slot as u64, older.left as u64);
 }
 

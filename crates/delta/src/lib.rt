@@ -54,9 +54,7 @@ fn placed(next: usize, limit: usize, remote: usize, len: usize) -> usize
     if t.addr.0 == 0 {
         return 0;
     }
-    let c = t.clerk;
-    let mark = c.next;
-    let d = clerks::alloc_from(mark, c.limit, len as u64);
+    let d = clerks::alloc_from(t.clerk.next, t.clerk.limit, len as u64);
     d.addr.0 as usize
 }
 
@@ -81,16 +79,11 @@ fn put_value(a: &mut [u8], at: usize, limit: usize, remote: usize, v: &[u8])
     requires v_in_bounds { at + length (value_of limit remote v.now) ≤ length a.old }
     ensures { a.new ≡ put a.old at (value_of limit remote v.now) }
 {
-    let h = HistRef {
-        page: NULL_ADDR,
-        slot: 0,
-        count: 0,
-    };
     let n = v.len();
     if n < limit {
-        let i = Val::encode_inline(a, at, h, v);
+        let i = Val::encode_inline(a, at, HistRef::NONE, v);
     } else {
-        let r = Val::encode_remote(a, at, h, n, Addr(remote as u64));
+        let r = Val::encode_remote(a, at, HistRef::NONE, n, Addr(remote as u64));
     }
 }
 
@@ -244,12 +237,11 @@ fn key_in(s: &[u8], d: Delta, kind: u8) -> Option<KeyParts>
     requires { d.val_at ≤ length s.now }
     ensures { result ≡ key_in s.now d kind }
 {
-    let e = d.val_at;
-    let k = values::key_at(&s[..e], d.key_at, kind)?;
+    let k = values::key_at(&s[..d.val_at], d.key_at, kind)?;
     if BaseHeader::MAX_KEY < k.rest_len {
         return None;
     }
-    if k.rest_at + k.rest_len != e {
+    if k.rest_at + k.rest_len != d.val_at {
         return None;
     }
     Some(k)
@@ -265,12 +257,13 @@ pub fn key(s: &[u8], a: Addr) -> Result<LeafKey, Refusal>
     let Some(k) = key_in(s, d, 0) else {
         return Err(Refusal::BadFrame);
     };
-    let v = records::ver_at(s, k.ver_at);
-    let p = Place {
-        at: k.rest_at,
-        len: k.rest_len,
-    };
-    Ok(LeafKey { ver: v, key: p })
+    Ok(LeafKey {
+        ver: records::ver_at(s, k.ver_at),
+        key: Place {
+            at: k.rest_at,
+            len: k.rest_len,
+        },
+    })
 }
 
 // The key of the index delta at an address.
@@ -304,8 +297,7 @@ fn val_in(s: &[u8], d: Delta) -> Result<Place, Refusal>
     requires { d.end ≤ length s.now }
     ensures { result ≡ val_in s.now d }
 {
-    let e = d.end;
-    let Some(v) = Val::decode_from(&s[..e], d.val_at, false) else {
+    let Some(v) = Val::decode_from(&s[..d.end], d.val_at, false) else {
         return Err(Refusal::BadFrame);
     };
     match v {
@@ -314,7 +306,7 @@ fn val_in(s: &[u8], d: Delta) -> Result<Place, Refusal>
             at,
             size,
             next,
-        } => value_to(at, size, next, e),
+        } => value_to(at, size, next, d.end),
         Val::Remote {
             hist: _,
             addr,
@@ -324,7 +316,7 @@ fn val_in(s: &[u8], d: Delta) -> Result<Place, Refusal>
             let Some(p) = frames::remote_at(s, addr, size as u32) else {
                 return Err(Refusal::BadFrame);
             };
-            value_to(p, size, next, e)
+            value_to(p, size, next, d.end)
         }
     }
 }
@@ -346,9 +338,8 @@ pub fn index(s: &[u8], a: Addr) -> Result<PageId, Refusal>
     let Some(d) = delta_of(s, a, BoxHeader::INDEX) else {
         return Err(Refusal::BadFrame);
     };
-    let p = d.val_at;
-    if d.end == p + 8 {
-        return Ok(PageId(numbers::read_u64(s, p)));
+    if d.end == d.val_at + 8 {
+        return Ok(PageId(numbers::read_u64(s, d.val_at)));
     }
     Err(Refusal::BadFrame)
 }

@@ -385,8 +385,6 @@ fn body_of(a: Addr, x: BoxHeader, h: BaseHeader) -> Body
     ensures { result ≡ body_of a x h }
 {
     let at = (a.0 as usize) + BoxHeader::HDR_LEN;
-    let sibling = h.right_sibling;
-    let link = x.link;
     Body {
         at,
         end: at + (h.size as usize),
@@ -401,9 +399,9 @@ fn body_of(a: Addr, x: BoxHeader, h: BaseHeader) -> Body
         prefix_len: h.prefix_len as usize,
         lo_len: h.lo_len as usize,
         hi_len: h.hi_len as usize,
-        sibling,
+        sibling: h.right_sibling,
         multi: h.has_multiple_versions,
-        link,
+        link: x.link,
     }
 }
 
@@ -584,15 +582,15 @@ impl Clerk {
     pub fn take(self, size: u64) -> Taken
         ensures { result ≡ taken_of self size }
     {
-        let at = self.next;
-        let limit = self.limit;
-        if at.0 <= limit {
-            if size <= limit - at.0 {
-                let c = Clerk {
-                    next: Addr(at.0 + size),
-                    limit,
+        if self.next.0 <= self.limit {
+            if size <= self.limit - self.next.0 {
+                return Taken {
+                    addr: self.next,
+                    clerk: Clerk {
+                        next: Addr(self.next.0 + size),
+                        ..self
+                    },
                 };
-                return Taken { addr: at, clerk: c };
             }
         }
         Taken {

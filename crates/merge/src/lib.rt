@@ -89,28 +89,25 @@ fn gather(footing: &[u8], left: Addr, right: Addr) -> Option<(Cursor, Boundaries
     let Ok(q) = pages::bounds_at(footing, right) else {
         return None;
     };
-    let x = p.lo;
-    let y = q.hi;
     let n = base::calc_prefix(
-        spans::part_of(footing, x.at, x.len),
-        spans::part_of(footing, y.at, y.len),
+        spans::part_of(footing, p.lo.at, p.lo.len),
+        spans::part_of(footing, q.hi.at, q.hi.len),
     );
-    let g = q.sibling;
     Some((
         c,
         Boundaries {
             lo: Boundary {
                 footing: true,
-                at: x.at,
-                len: x.len,
+                at: p.lo.at,
+                len: p.lo.len,
             },
             hi: Boundary {
                 footing: true,
-                at: y.at,
-                len: y.len,
+                at: q.hi.at,
+                len: q.hi.len,
             },
             prefix: n,
-            sibling: g,
+            sibling: q.sibling,
         },
     ))
 }

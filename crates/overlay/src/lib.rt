@@ -105,15 +105,13 @@ pub fn answer(s: &[u8], a: Addr, t: &[u8], d: Addr, probe: &[u8]) -> Result<Laid
 fn part_in(s: &[u8], p: Place) -> &[u8]
     ensures { PartIs s.entry p result }
 {
-    let at = p.at;
-    let len = p.len;
-    if s.len() < at {
+    if s.len() < p.at {
         return &s[0..0];
     }
-    if s.len() - at < len {
+    if s.len() - p.at < p.len {
         return &s[0..0];
     }
-    &s[at..at + len]
+    &s[p.at..p.at + p.len]
 }
 
 // What an answer names: a part of the arena or of the delta's buffer, empty where it names none.

@@ -98,12 +98,11 @@ fn judged(s: &[u8], a: Addr) -> Option<Hand>
 {
     let b = history_at(s, a)?;
     if slots_ok(s, b) {
-        let link = b.link;
         return Some(Hand {
             page: a,
             at: b.at,
             elems: b.elems,
-            link,
+            link: b.link,
         });
     }
     None
@@ -149,9 +148,8 @@ pub fn old_at(s: &[u8], a: Addr, i: usize) -> Option<OldVersion>
     if i != b.elems {
         return old_in(s, b, a, i);
     }
-    let link = b.link;
-    let d = history_at(s, link)?;
-    old_in(s, d, link, 0)
+    let d = history_at(s, b.link)?;
+    old_in(s, d, b.link, 0)
 }
 
 // A page in hand, and a slot of it.
@@ -170,8 +168,7 @@ fn spot_at(s: &[u8], hand: Hand, i: usize) -> Option<Spot>
     if i < hand.elems {
         return Some(Spot { hand, slot: i });
     }
-    let link = hand.link;
-    let h = judged(s, link)?;
+    let h = judged(s, hand.link)?;
     Some(Spot { hand: h, slot: 0 })
 }
 
@@ -240,8 +237,7 @@ fn head_ok(s: &[u8], r: Rec, hand: Hand) -> Chained
     if h.count == 0 {
         return Chained { ok: true, hand };
     }
-    let page = h.page;
-    let Some(x) = in_hand(s, page, hand) else {
+    let Some(x) = in_hand(s, h.page, hand) else {
         return Chained { ok: false, hand };
     };
     if (h.slot as usize) < x.elems {
@@ -470,7 +466,6 @@ pub fn bounds_at(s: &[u8], a: Addr) -> Result<Bounds, Refusal>
         return Err(Refusal::BadFrame);
     }
     let lo_at = b.at + BaseHeader::HDR_LEN + 4 * b.elems;
-    let sibling = b.sibling;
     Ok(Bounds {
         lo: Place {
             at: lo_at,
@@ -484,7 +479,7 @@ pub fn bounds_at(s: &[u8], a: Addr) -> Result<Bounds, Refusal>
             at: lo_at,
             len: b.prefix_len,
         },
-        sibling,
+        sibling: b.sibling,
     })
 }
 
@@ -502,8 +497,7 @@ pub fn lo(s: &[u8], a: Addr) -> &[u8]
     let Ok(b) = bounds_at(s, a) else {
         return &s[..0];
     };
-    let p = b.lo;
-    part_at(s, p)
+    part_at(s, b.lo)
 }
 
 // Its upper boundary; empty where it has none.
@@ -513,8 +507,7 @@ pub fn hi(s: &[u8], a: Addr) -> &[u8]
     let Ok(b) = bounds_at(s, a) else {
         return &s[..0];
     };
-    let p = b.hi;
-    part_at(s, p)
+    part_at(s, b.hi)
 }
 
 // The prefix that its keys drop.
@@ -524,8 +517,7 @@ pub fn prefix(s: &[u8], a: Addr) -> &[u8]
     let Ok(b) = bounds_at(s, a) else {
         return &s[..0];
     };
-    let p = b.prefix;
-    part_at(s, p)
+    part_at(s, b.prefix)
 }
 
 // ---- hints

@@ -5,7 +5,7 @@ ghost use Rattle.std.specs.Prelude.{◌≡◌, ◌+◌, ◌≤◌, ◌<◌, true
 ghost use Rattle.frames.specs.declared.Body.{Body};
 ghost use Rattle.frames.specs.Layout.{Inside};
 ghost use Rattle.values.specs.Keys.{ver_in, key_at};
-ghost use Rattle.values.specs.Vals.{no_hist, val_of, val_at, front_places};
+ghost use Rattle.values.specs.Vals.{val_of, val_at, front_places};
 ghost use Rattle.values.specs.declared.Val.{Val};
 ghost use Rattle.records.specs.Records.{slot_at, key_in, key_at_slot, val_in, rec_in, rec_at, child_of, Quickly, ShortKey};
 ghost use Rattle.records.specs.Parts.{prefix_in};
@@ -69,8 +69,7 @@ fn key_in(s: &[u8], b: Body, at: usize) -> Option<KeyParts>
     requires { Inside s.now b }
     ensures { result ≡ key_in s.now b at }
 {
-    let e = b.end;
-    let k = values::key_at(&s[..e], at, b.kind)?;
+    let k = values::key_at(&s[..b.end], at, b.kind)?;
     if BaseHeader::MAX_KEY < b.prefix_len + k.rest_len {
         return None;
     }
@@ -120,8 +119,7 @@ fn val_in(s: &[u8], b: Body, at: usize) -> Option<ValParts>
     requires { Inside s.now b }
     ensures { result ≡ val_in s.now b at }
 {
-    let e = b.end;
-    let v = Val::decode_from(&s[..e], at, b.kind == Body::LEAF)?;
+    let v = Val::decode_from(&s[..b.end], at, b.kind == Body::LEAF)?;
     match v {
         Val::Inline {
             hist,
@@ -169,11 +167,7 @@ fn rec_in(s: &[u8], b: Body, p: usize) -> Option<Rec>
             ver_at: k.ver_at,
             rest_at: k.rest_at,
             rest_len: k.rest_len,
-            hist: HistRef {
-                page: NULL_ADDR,
-                slot: 0,
-                count: 0,
-            },
+            hist: HistRef::NONE,
             val_at: q,
             val_len: 8,
             remote: NULL_ADDR,
@@ -228,16 +222,6 @@ fn bytes_at(t: &[u8], at: usize, h: HistRef) -> Option<Val>
     None
 }
 
-fn no_hist() -> HistRef
-    ensures { result ≡ no_hist }
-{
-    HistRef {
-        page: NULL_ADDR,
-        slot: 0,
-        count: 0,
-    }
-}
-
 // A head's value.
 fn head_val(t: &[u8], at: usize) -> Option<Val>
     ensures { Quickly None result (val_at t.now at true) }
@@ -245,7 +229,7 @@ fn head_val(t: &[u8], at: usize) -> Option<Val>
     if at < t.len() {
         let f = t[at];
         if f == 0 {
-            return bytes_at(t, at + 1, no_hist());
+            return bytes_at(t, at + 1, HistRef::NONE);
         }
         if f == 1 {
             if spans::room(t.len(), at + 1, 14) {
@@ -270,7 +254,7 @@ fn old_val(t: &[u8], at: usize) -> Option<Val>
 {
     if at < t.len() {
         if t[at] == 0 {
-            return bytes_at(t, at + 1, no_hist());
+            return bytes_at(t, at + 1, HistRef::NONE);
         }
     }
     None
@@ -282,8 +266,7 @@ pub fn quick_value(s: &[u8], b: Body, at: usize) -> Option<ValParts>
     requires kind_value { b.kind ≡ 0 }
     ensures { Quickly None result (val_in s.now b at) }
 {
-    let e = b.end;
-    let v = head_val(&s[..e], at)?;
+    let v = head_val(&s[..b.end], at)?;
     match v {
         Val::Inline {
             hist,
@@ -357,10 +340,9 @@ fn old_in(s: &[u8], b: Body, p: usize) -> Option<Rec>
     requires kind_value { b.kind ≡ 2 }
     ensures { Quickly None result (rec_in s.now b p) }
 {
-    let e = b.end;
-    if spans::room(e, p, 12) {
+    if spans::room(b.end, p, 12) {
         if b.prefix_len <= BaseHeader::MAX_KEY {
-            let v = old_val(&s[..e], p + 12)?;
+            let v = old_val(&s[..b.end], p + 12)?;
             match v {
                 Val::Inline {
                     hist,
@@ -493,12 +475,11 @@ pub fn child_at(s: &[u8], b: Body, i: usize) -> Option<ChildParts>
     ensures { rec_at s.now b i ≡ child_of result }
 {
     let p = slot_at(s, b, i)?;
-    let e = b.end;
-    let k = child_key(&s[..e], p)?;
+    let k = child_key(&s[..b.end], p)?;
     if BaseHeader::MAX_KEY < b.prefix_len + k.rest_len {
         return None;
     }
-    if e < k.rest_at + k.rest_len + 8 {
+    if b.end < k.rest_at + k.rest_len + 8 {
         return None;
     }
     Some(ChildParts {

@@ -35,11 +35,10 @@ fn head_slot(s: &[u8], b: Body, i: usize, reads: usize) -> Result<Head, Refusal>
     let Some(k) = records::key_at(s, b, i) else {
         return Err(Refusal::BadFrame);
     };
-    let v = records::ver_at(s, k.ver_at);
     Ok(Head::Is {
         page: b,
         slot: i,
-        ver: v,
+        ver: records::ver_at(s, k.ver_at),
         value: k.rest_at + k.rest_len,
         reads,
     })

@@ -266,11 +266,10 @@ fn halve_keys(s: &[u8], b: Body, rest: &[u8], w: Want) -> Option<Halved>
         lo = g.lo;
         hi = g.hi;
         reads = g.reads;
-        let met = g.met;
         if lo < hi {
             let mid = lo + (hi - lo) / 2;
             reads += 1;
-            let order = met_at(s, b, mid, rest, w, met)?;
+            let order = met_at(s, b, mid, rest, w, g.met)?;
             match order {
                 Ordering::Less => {
                     lo = mid + 1;
@@ -304,8 +303,7 @@ fn halve_page(s: &[u8], b: Body, probe: &[u8], w: Want) -> Option<Halved>
     requires prefix_len_in_bounds { b.prefix_len ≤ length probe.now }
     ensures { result ≡ halved s.now b probe.now w }
 {
-    let from = b.prefix_len;
-    halve_keys(s, b, &probe[from..], w)
+    halve_keys(s, b, &probe[b.prefix_len..], w)
 }
 
 // Where a probe stands that does not begin with the page's prefix, as every key does: before the first or behind the last. No key is read.
@@ -394,10 +392,7 @@ pub fn lower_bound(s: &[u8], a: Addr, probe: &[u8], v: Ver) -> Result<Bound, Ref
 fn floor_slot(p: usize) -> usize
     ensures { result ≡ floor_slot p }
 {
-    if p == 0 {
-        return 0;
-    }
-    p - 1
+    p.saturating_sub(1)
 }
 
 // The page id of slot i.
@@ -465,17 +460,14 @@ fn any_head(s: &[u8], b: Body, i: usize, reads: usize) -> Result<Found, Refusal>
     let Some(r) = records::rec_at(s, b, i) else {
         return Err(Refusal::BadFrame);
     };
-    let v = records::ver_at(s, r.ver_at);
-    let p = Place {
-        at: r.val_at,
-        len: r.val_len,
-    };
-    let h = r.hist;
     Ok(Found::Is {
         slot: i,
-        ver: v,
-        hist: h,
-        value: p,
+        ver: records::ver_at(s, r.ver_at),
+        hist: r.hist,
+        value: Place {
+            at: r.val_at,
+            len: r.val_len,
+        },
         reads,
     })
 }
@@ -492,17 +484,14 @@ fn head_in(s: &[u8], b: Body, i: usize, reads: usize) -> Result<Found, Refusal>
     let Some(val) = records::quick_value(s, b, k.rest_at + k.rest_len) else {
         return any_head(s, b, i, reads);
     };
-    let v = records::ver_at(s, k.ver_at);
-    let p = Place {
-        at: val.val_at,
-        len: val.val_len,
-    };
-    let h = val.hist;
     Ok(Found::Is {
         slot: i,
-        ver: v,
-        hist: h,
-        value: p,
+        ver: records::ver_at(s, k.ver_at),
+        hist: val.hist,
+        value: Place {
+            at: val.val_at,
+            len: val.val_len,
+        },
         reads,
     })
 }

@@ -165,6 +165,14 @@ pub struct HistRef {
     pub count: u32,
 }
 
+impl HistRef {
+    pub const NONE: HistRef = HistRef {
+        page: NULL_ADDR,
+        slot: 0,
+        count: 0,
+    };
+}
+
 // The front of a value: its history, whether its bytes are remote, and the place behind.
 #[derive(Clone, Copy)]
 pub struct Front {
@@ -274,11 +282,7 @@ fn front_at(s: &[u8], at: usize, head: bool) -> Option<Front>
     }
     if (f == 0) | (f == 2) {
         return Some(Front {
-            hist: HistRef {
-                page: NULL_ADDR,
-                slot: 0,
-                count: 0,
-            },
+            hist: HistRef::NONE,
             remote: f == 2,
             next: at + 1,
         });

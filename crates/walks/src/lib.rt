@@ -116,10 +116,9 @@ fn older_on(b: Body, slot: usize, left: usize) -> OldPlace
     requires { b.lo_len + b.hi_len < 2 ^ 64 }
     ensures { result ≡ older_on b slot left }
 {
-    let link = b.link;
     OldPlace {
         page: sheet_of(b),
-        link,
+        link: b.link,
         slot,
         left,
     }
@@ -273,7 +272,6 @@ fn item_of(s: &[u8], key: Place, r: Rec, named: Addr) -> Item
     requires { r.ver_at + 12 ≤ length s.now }
     ensures { result ≡ item_of s.now key r named }
 {
-    let remote = r.remote;
     Item {
         key,
         ver: records::ver_at(s, r.ver_at),
@@ -281,7 +279,7 @@ fn item_of(s: &[u8], key: Place, r: Rec, named: Addr) -> Item
             at: r.val_at,
             len: r.val_len,
         },
-        remote,
+        remote: r.remote,
         named,
     }
 }
@@ -293,8 +291,7 @@ pub fn enter(s: &[u8], h: HistRef, was: OldPlace) -> Option<OldPlace>
     if h.count == 0 {
         return Some(was);
     }
-    let page = h.page;
-    let b = pages::history_at(s, page)?;
+    let b = pages::history_at(s, h.page)?;
     let slot = h.slot as usize;
     if slot < b.elems {
         return Some(older_on(b, slot, h.count as usize));
@@ -309,13 +306,10 @@ impl OldPlace {
         requires left_nonzero { 0 < self.left }
         ensures { result ≡ older_of self.page self.link (self.slot + 1) (self.left - 1) }
     {
-        let page = self.page;
-        let link = self.link;
         OldPlace {
-            page,
-            link,
             slot: self.slot + 1,
             left: self.left - 1,
+            ..self
         }
     }
 
@@ -324,8 +318,7 @@ impl OldPlace {
         requires { 0 < self.left }
         ensures { result ≡ next_in s.now key self named }
     {
-        let page = self.page;
-        let r = read(s, page, Body::HISTORY, self.slot)?;
+        let r = read(s, self.page, Body::HISTORY, self.slot)?;
         Some((item_of(s, key, r, named), self.after()))
     }
 
@@ -333,13 +326,11 @@ impl OldPlace {
     fn turned(self, s: &[u8]) -> Option<(OldPlace, Addr)>
         ensures { result ≡ turned_at s.now self }
     {
-        let page = self.page;
-        if self.slot != page.elems {
+        if self.slot != self.page.elems {
             return Some((self, NULL_ADDR));
         }
-        let link = self.link;
-        let d = pages::history_at(s, link)?;
-        Some((older_on(d, 0, self.left), link))
+        let d = pages::history_at(s, self.link)?;
+        Some((older_on(d, 0, self.left), self.link))
     }
 
     // The old version there: what `pages::old_at` reads (`next-old`, proofs/Steps.antt), without judging the headers again.
@@ -367,14 +358,12 @@ impl Walk {
         requires heads_nonzero { 0 < self.heads }
         ensures { result ≡ on_of self key older }
     {
-        let page = self.page;
         Walk {
-            page,
-            way: self.way,
             pos: spans::onward(self.way == Walk::DOWN, self.pos),
             heads: self.heads - 1,
             key,
             older,
+            ..self
         }
     }
 
@@ -382,16 +371,7 @@ impl Walk {
     fn behind(self, older: OldPlace) -> Walk
         ensures { result ≡ behind_of self older }
     {
-        let page = self.page;
-        let key = self.key;
-        Walk {
-            page,
-            way: self.way,
-            pos: self.pos,
-            heads: self.heads,
-            key,
-            older,
-        }
+        Walk { older, ..self }
     }
 
     // The head at the walk's position: on a leaf its history page is entered with it.
@@ -399,9 +379,7 @@ impl Walk {
         requires { 0 < self.heads }
         ensures { result ≡ head_step s.now self }
     {
-        let page = self.page;
-        let was = self.older;
-        let Some(r) = read(s, page, kind_of(self.way), self.pos) else {
+        let Some(r) = read(s, self.page, kind_of(self.way), self.pos) else {
             return Err(Refusal::BadFrame);
         };
         let key = Place {
@@ -410,24 +388,20 @@ impl Walk {
         };
         if self.way == Walk::INDEX {
             let page = PageId(numbers::read_u64(s, r.val_at));
-            return Ok(Step::Leads(Branch { key, page }, self.on(key, was)));
+            return Ok(Step::Leads(Branch { key, page }, self.on(key, self.older)));
         }
-        let h = r.hist;
-        let Some(older) = enter(s, h, was) else {
+        let Some(older) = enter(s, r.hist, self.older) else {
             return Err(Refusal::BadFrame);
         };
-        let named = h.page;
-        Ok(Step::Found(item_of(s, key, r, named), self.on(key, older)))
+        Ok(Step::Found(item_of(s, key, r, r.hist.page), self.on(key, older)))
     }
 
     // The record at the walk, with the walk moved on.
     pub fn step(self, s: &[u8]) -> Result<Step, Refusal>
         ensures { result ≡ step_at s.now self }
     {
-        let older = self.older;
-        if 0 < older.left {
-            let key = self.key;
-            let Some((item, rest)) = older.next(s, key) else {
+        if 0 < self.older.left {
+            let Some((item, rest)) = self.older.next(s, self.key) else {
                 return Err(Refusal::BadFrame);
             };
             return Ok(Step::Found(item, self.behind(rest)));
@@ -467,8 +441,7 @@ impl OldPlace {
         requires { 0 < self.left }
         ensures { result ≡ aged_in s.now self }
     {
-        let page = self.page;
-        let k = key_old(s, page, self.slot)?;
+        let k = key_old(s, self.page, self.slot)?;
         Some(Aged::Is {
             ver: records::ver_at(s, k.ver_at),
             slot: self.slot,

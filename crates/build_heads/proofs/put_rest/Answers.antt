@@ -2,8 +2,8 @@ use native.Mathlib.Omega.{arith}
 use Rattle.build_heads.proofs.Rests.{footing-short, back_asks, back_end, front_asks, rest_asks, rest-fits, both_end}
 use Rattle.build_heads.proofs.put_rest.Goals as goal
 
-pub overflow_add-k : goal.overflow_add-k
-overflow_add-k c = let z = back_asks _ _ _ _ _ _ c.requires.footing_le_at c.requires.placed c.requires.p_bound c.requires.i_in_bounds c.if-n-p.true in let r = c.requires.placed.rest in omega (arith, c.well_formed.0, c.well_formed.1.1.0, footing-short c.args.list.now c.args.a.now c.args.footing c.args.i.footing)
+pub overflow_add-i : goal.overflow_add-i
+overflow_add-i c = let z = back_asks _ _ _ _ _ _ c.requires.footing_le_at c.requires.placed c.requires.p_bound c.requires.i_in_bounds c.if-n-p.true in let r = c.requires.placed.rest in omega (arith, c.well_formed.0, c.well_formed.1.1.0, footing-short c.args.list.now c.args.a.now c.args.footing c.args.i.footing)
 
 pub copy_part-requires : goal.copy_part-requires
 copy_part-requires c = let all = back_asks _ _ _ _ _ _ c.requires.footing_le_at c.requires.placed c.requires.p_bound c.requires.i_in_bounds c.if-n-p.true in record {
@@ -18,8 +18,8 @@ returns-then-n-p c = let all = back_end _ _ _ _ _ _ c.requires.footing_le_at c.r
   a_after = all.1;
 }
 
-pub overflow_add-k-2 : goal.overflow_add-k-2
-overflow_add-k-2 c = let r = c.requires.placed.pre in omega (arith, c.well_formed.0, c.well_formed.1.1.0, footing-short c.args.list.now c.args.a.now c.args.footing c.args.i.footing)
+pub overflow_add-i-2 : goal.overflow_add-i-2
+overflow_add-i-2 c = let r = c.requires.placed.pre in omega (arith, c.well_formed.0, c.well_formed.1.1.0, footing-short c.args.list.now c.args.a.now c.args.footing c.args.i.footing)
 
 pub copy_part-requires-2 : goal.copy_part-requires-2
 copy_part-requires-2 c = let all = front_asks _ _ _ _ _ _ c.requires.footing_le_at c.requires.placed c.requires.p_bound c.requires.i_in_bounds c.if-n-p.false in record {

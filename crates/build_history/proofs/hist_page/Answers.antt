@@ -3,8 +3,8 @@ use Rattle.build_image.proofs.Lengths.{frame-least}
 use Rattle.build_history.proofs.Page.{tells, page-fits, page-end, head_room, slots_asks, recs_asks, zeros-room, frames_asks, page-whole}
 use Rattle.build_history.proofs.hist_page.Goals as goal
 
-pub overflow_cast-size : goal.overflow_cast-size
-overflow_cast-size c = let t = tells _ _ _ _ _ _ _ c.requires.footing_le_at c.requires.sane c.requires.r_value c.requires.from_in_bounds in let f = page-fits _ _ _ _ _ _ _ c.requires.footing_le_at c.requires.sane c.requires.r_value c.requires.from_in_bounds in omega (arith, t.small)
+pub overflow_cast-r : goal.overflow_cast-r
+overflow_cast-r c = let t = tells _ _ _ _ _ _ _ c.requires.footing_le_at c.requires.sane c.requires.r_value c.requires.from_in_bounds in let f = page-fits _ _ _ _ _ _ _ c.requires.footing_le_at c.requires.sane c.requires.r_value c.requires.from_in_bounds in omega (arith, t.small)
 
 pub overflow_add-end : goal.overflow_add-end
 overflow_add-end c = let t = tells _ _ _ _ _ _ _ c.requires.footing_le_at c.requires.sane c.requires.r_value c.requires.from_in_bounds in let f = page-fits _ _ _ _ _ _ _ c.requires.footing_le_at c.requires.sane c.requires.r_value c.requires.from_in_bounds in omega (arith, f, c.frame_len.ensures)

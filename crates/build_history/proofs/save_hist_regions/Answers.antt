@@ -18,17 +18,17 @@ slice_bounds-look_ahead-end-in-loop-m c = let v = c.loop-m.invariant.writing in 
 pub look_ahead-s-requires : goal.look_ahead-s-requires
 look_ahead-s-requires c = (c.requires.sane.limit, c.requires.sane.budget)
 
-pub shape_of-a-then-r-eq0 : goal.shape_of-a-then-r-eq0
-shape_of-a-then-r-eq0 c = c.loop-m.invariant.writing.long
+pub shape_of-a-then-s-eq0 : goal.shape_of-a-then-s-eq0
+shape_of-a-then-s-eq0 c = c.loop-m.invariant.writing.long
 
-pub returns-then-r-eq0 : goal.returns-then-r-eq0
-returns-then-r-eq0 c = let all = hist_done _ _ _ _ _ _ _ _ _ c.requires.sane c.loop-m.invariant _ c.look_ahead-s.ensures.run_value c.if-r-eq0.true in record {
+pub returns-then-s-eq0 : goal.returns-then-s-eq0
+returns-then-s-eq0 c = let all = hist_done _ _ _ _ _ _ _ _ _ c.requires.sane c.loop-m.invariant _ c.look_ahead-s.ensures.run_value c.if-s-eq0.true in record {
   value = all.0;
   a_after = all.1;
 }
 
 pub hist_page-to-requires : goal.hist_page-to-requires
-hist_page-to-requires c = let all = page_asks _ _ _ _ _ _ _ _ _ c.requires.sane c.loop-m.invariant _ c.look_ahead-s.ensures.run_value c.if-r-eq0.false in record {
+hist_page-to-requires c = let all = page_asks _ _ _ _ _ _ _ _ _ c.requires.sane c.loop-m.invariant _ c.look_ahead-s.ensures.run_value c.if-s-eq0.false in record {
   footing_le_at = all.0;
   sane = all.1.0;
   r_value = all.1.1.0;
@@ -36,7 +36,7 @@ hist_page-to-requires c = let all = page_asks _ _ _ _ _ _ _ _ _ c.requires.sane 
 }
 
 pub loop-m-smaller : goal.loop-m-smaller
-loop-m-smaller c = hist_less _ _ _ _ _ _ _ _ _ c.requires.sane c.loop-m.invariant _ c.look_ahead-s.ensures.run_value c.if-r-eq0.false _ _ c.hist_page-to.ensures.value c.hist_page-to.ensures.a_after _ c.look_ahead-s.ensures.skipped
+loop-m-smaller c = hist_less _ _ _ _ _ _ _ _ _ c.requires.sane c.loop-m.invariant _ c.look_ahead-s.ensures.run_value c.if-s-eq0.false _ _ c.hist_page-to.ensures.value c.hist_page-to.ensures.a_after _ c.look_ahead-s.ensures.skipped
 
 pub loop-m-preserved : goal.loop-m-preserved
-loop-m-preserved c = hist_turn _ _ _ _ _ _ _ _ _ c.requires.sane c.loop-m.invariant _ c.look_ahead-s.ensures.run_value c.if-r-eq0.false _ _ c.hist_page-to.ensures.value c.hist_page-to.ensures.a_after _ c.look_ahead-s.ensures.skipped
+loop-m-preserved c = hist_turn _ _ _ _ _ _ _ _ _ c.requires.sane c.loop-m.invariant _ c.look_ahead-s.ensures.run_value c.if-s-eq0.false _ _ c.hist_page-to.ensures.value c.hist_page-to.ensures.a_after _ c.look_ahead-s.ensures.skipped

@@ -17,8 +17,8 @@ overflow_cast-lo c = omega (arith, c.requires.small.lo)
 pub overflow_cast-hi : goal.overflow_cast-hi
 overflow_cast-hi c = omega (arith, c.requires.small.hi)
 
-pub overflow_cast-size : goal.overflow_cast-size
-overflow_cast-size c = omega (arith, c.requires.small.size)
+pub overflow_cast-t : goal.overflow_cast-t
+overflow_cast-t c = omega (arith, c.requires.small.size)
 
 pub overflow_cast-e : goal.overflow_cast-e
 overflow_cast-e c = omega (arith, c.requires.small.prefix)

@@ -6,8 +6,8 @@ use Rattle.build_pen.proofs.Turning.{turn_stays, turn_none, turn_opens, turn_ope
 use Rattle.build_page_pen.proofs.Turns.{ready_low}
 use Rattle.build_page_pen.proofs.turn.Goals as goal
 
-pub returns-then-left-gt0 : goal.returns-then-left-gt0
-returns-then-left-gt0 c = λ key rd. turn_stays _ _ _ _ _ rd.steady c.if-left-gt0.true
+pub returns-then-q-gt0 : goal.returns-then-q-gt0
+returns-then-q-gt0 c = λ key rd. turn_stays _ _ _ _ _ rd.steady c.if-q-gt0.true
 
 pub slice_bounds-ahead-end : goal.slice_bounds-ahead-end
 slice_bounds-ahead-end c = omega (arith, ready_low _ _ _ _ _ c.requires.by_index.1)
@@ -24,10 +24,10 @@ ahead-r-requires c = record {
 }
 
 pub returns-then-r-eq0 : goal.returns-then-r-eq0
-returns-then-r-eq0 c = λ key rd. turn_none _ c.args.m _ c.args.a.now c.args.q c.requires.sane rd.steady rd.order c.if-left-gt0.false _ (c.ahead-r.ensures key) c.if-r-eq0.true
+returns-then-r-eq0 c = λ key rd. turn_none _ c.args.m _ c.args.a.now c.args.q c.requires.sane rd.steady rd.order c.if-q-gt0.false _ (c.ahead-r.ensures key) c.if-r-eq0.true
 
 pub opened-requires : goal.opened-requires
-opened-requires c = turn_opens _ c.args.m _ c.args.a.now c.args.q c.requires.sane c.requires.by_index.1.steady c.requires.by_index.1.order c.if-left-gt0.false _ (c.ahead-r.ensures c.requires.by_index.0) c.if-r-eq0.false
+opened-requires c = turn_opens _ c.args.m _ c.args.a.now c.args.q c.requires.sane c.requires.by_index.1.steady c.requires.by_index.1.order c.if-q-gt0.false _ (c.ahead-r.ensures c.requires.by_index.0) c.if-r-eq0.false
 
 pub returns : goal.returns
-returns c = λ key rd. turn_opened _ c.args.m _ c.args.a.now c.args.q c.requires.sane rd.steady rd.order c.if-left-gt0.false _ (c.ahead-r.ensures key) c.if-r-eq0.false _ _ c.opened.ensures.value c.opened.ensures.a_after
+returns c = λ key rd. turn_opened _ c.args.m _ c.args.a.now c.args.q c.requires.sane rd.steady rd.order c.if-q-gt0.false _ (c.ahead-r.ensures key) c.if-r-eq0.false _ _ c.opened.ensures.value c.opened.ensures.a_after

@@ -4,8 +4,8 @@ use Rattle.build_image.proofs.Lengths.{frame-least}
 use Rattle.build_pen.proofs.Turning.{opened_pen, opened-page}
 use Rattle.build_pen.proofs.opened.Goals as goal
 
-pub overflow_cast-size : goal.overflow_cast-size
-overflow_cast-size c = omega (arith, c.requires.small)
+pub overflow_cast-r : goal.overflow_cast-r
+overflow_cast-r c = omega (arith, c.requires.small)
 
 pub overflow_add-end : goal.overflow_add-end
 overflow_add-end c = omega (arith, c.requires.fits, c.frame_len.ensures, c.well_formed.0)

@@ -39,8 +39,8 @@ turn-r-requires c = record {
 pub put_hint-h-requires : goal.put_hint-h-requires
 put_hint-h-requires c = run-hint _ _ _ _ _ _ _ _ _ _ _ _ _ _ c.loop-at.invariant c.loop-at-test.true _ c.record_at-i.ensures (sym c.same_key.ensures ∙ c.if-not-same_key.false) _ _ c.turn-r.ensures
 
-pub overflow_add-l : goal.overflow_add-l
-overflow_add-l c = omega (arith, run-page _ _ _ _ _ _ _ _ _ _ _ _ _ _ c.loop-at.invariant c.loop-at-test.true _ c.record_at-i.ensures (sym c.same_key.ensures ∙ c.if-not-same_key.false) _ _ c.turn-r.ensures _ _ c.put_hint-h.ensures.value c.put_hint-h.ensures.a_after, c.well_formed.0)
+pub overflow_add-r : goal.overflow_add-r
+overflow_add-r c = omega (arith, run-page _ _ _ _ _ _ _ _ _ _ _ _ _ _ c.loop-at.invariant c.loop-at-test.true _ c.record_at-i.ensures (sym c.same_key.ensures ∙ c.if-not-same_key.false) _ _ c.turn-r.ensures _ _ c.put_hint-h.ensures.value c.put_hint-h.ensures.a_after, c.well_formed.0)
 
 pub pen_old-k-requires : goal.pen_old-k-requires
 pen_old-k-requires c = record {

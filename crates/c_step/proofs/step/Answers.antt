@@ -6,7 +6,7 @@ use Rattle.c_step.proofs.step.Goals as goal
 pub step_old-requires : goal.step_old-requires
 step_old-requires c = record {
   w_value = c.walk_in-w.ensures;
-  left_nonzero = c.if-older-gt0.true;
+  left_nonzero = c.if-w-gt0.true;
   in_bounds = omega arith;
   in_bounds_2 = omega (arith, c.if-out-lt9.false);
 }
@@ -14,13 +14,13 @@ step_old-requires c = record {
 pub returns-then-step_old : goal.returns-then-step_old
 returns-then-step_old c = c.step_old.ensures.took c.if-step_old.true
 
-pub returns-then-older-gt0 : goal.returns-then-older-gt0
-returns-then-older-gt0 c = stepped_from c.args.s.now c.args.walk.now c.args.out.now (c.step_old.ensures.left c.if-step_old.false) c.step_any-then-older-gt0.ensures
+pub returns-then-w-gt0 : goal.returns-then-w-gt0
+returns-then-w-gt0 c = stepped_from c.args.s.now c.args.walk.now c.args.out.now (c.step_old.ensures.left c.if-step_old.false) c.step_any-then-w-gt0.ensures
 
 pub step_head-requires : goal.step_head-requires
 step_head-requires c = record {
   w_value = c.walk_in-w.ensures;
-  left_value = omega (arith, c.if-older-gt0.false);
+  left_value = omega (arith, c.if-w-gt0.false);
   in_bounds = omega arith;
   in_bounds_2 = omega (arith, c.if-out-lt9.false);
 }

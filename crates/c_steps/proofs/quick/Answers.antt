@@ -22,13 +22,13 @@ age-requires c = let z : 0 < c.olds-n.result = omega (arith, c.if-n-eq0.false) i
   n_le_left = c.olds-n.ensures.upper_bound;
 }
 
-pub returns-then-older-gt0 : goal.returns-then-older-gt0
-returns-then-older-gt0 c = rw c.age.ensures (c.olds-n.ensures.filling, (known_at c.args.s.now c.args.known c.args.w.older _ _ c.requires.known_older, omega (arith, c.if-n-eq0.false)))
+pub returns-then-w-gt0 : goal.returns-then-w-gt0
+returns-then-w-gt0 c = rw c.age.ensures (c.olds-n.ensures.filling, (known_at c.args.s.now c.args.known c.args.w.older _ _ c.requires.known_older, omega (arith, c.if-n-eq0.false)))
 
 pub plains-x-requires : goal.plains-x-requires
 plains-x-requires c = record {
   fit_le_room = c.requires.fit_le_room;
-  left_value = omega (arith, c.if-older-gt0.false);
+  left_value = omega (arith, c.if-w-gt0.false);
 }
 
 pub headed-u-requires : goal.headed-u-requires

@@ -22,10 +22,10 @@ returns-then-k-gt-MAX_KEY c = simp (← c.key_at.ensures, c.in_ok-k.was, lt-leb 
 pub overflow_add-k : goal.overflow_add-k
 overflow_add-k c = omega (arith, (key-place (take c.args.d.val_at c.args.s.now) c.args.d.key_at c.args.kind c.in_ok-k.k.ver_at c.in_ok-k.k.rest_at c.in_ok-k.k.rest_len (sym c.key_at.ensures ∙ c.in_ok-k.was)).rest, length-take-le c.args.d.val_at c.args.s.now c.requires, c.well_formed)
 
-pub returns-then-k-e : goal.returns-then-k-e
+pub returns-then-k-d : goal.returns-then-k-d
 unfolding key_in
-returns-then-k-e c = simp (← c.key_at.ensures, c.in_ok-k.was, le-leb _ _ c.if-k-gt-MAX_KEY.false, ne_eqb _ _ c.if-k-e.true)
+returns-then-k-d c = simp (← c.key_at.ensures, c.in_ok-k.was, le-leb _ _ c.if-k-gt-MAX_KEY.false, ne_eqb _ _ c.if-k-d.true)
 
 pub returns : goal.returns
 unfolding key_in
-returns c = simp (← c.key_at.ensures, c.in_ok-k.was, le-leb _ _ c.if-k-gt-MAX_KEY.false, eq-eqb _ _ c.if-k-e.false)
+returns c = simp (← c.key_at.ensures, c.in_ok-k.was, le-leb _ _ c.if-k-gt-MAX_KEY.false, eq-eqb _ _ c.if-k-d.false)

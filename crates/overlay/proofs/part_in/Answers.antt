@@ -7,14 +7,14 @@ use Rattle.spans.specs.Span.{part, part_or}
 use Rattle.overlay.specs.Lent.{start_of}
 use Rattle.overlay.proofs.part_in.Goals as goal
 
-pub returns-then-s-at : goal.returns-then-s-at
+pub returns-then-s-p : goal.returns-then-s-p
 unfolding part_or part start_of
-returns-then-s-at c = record { bytes = simp (lt-leb _ _ c.if-s-at.true); block = refl; offset = simp (lt-leb _ _ c.if-s-at.true) (omega arith) }
+returns-then-s-p c = record { bytes = simp (lt-leb _ _ c.if-s-p.true); block = refl; offset = simp (lt-leb _ _ c.if-s-p.true) (omega arith) }
 
-pub returns-then-s-at-2 : goal.returns-then-s-at-2
+pub returns-then-s-p-2 : goal.returns-then-s-p-2
 unfolding part_or part start_of
-returns-then-s-at-2 c = record { bytes = simp (le-leb _ _ c.if-s-at.false, lt-leb _ _ c.if-s-at-2.true); block = refl; offset = simp (le-leb _ _ c.if-s-at.false, lt-leb _ _ c.if-s-at-2.true) (omega arith) }
+returns-then-s-p-2 c = record { bytes = simp (le-leb _ _ c.if-s-p.false, lt-leb _ _ c.if-s-p-2.true); block = refl; offset = simp (le-leb _ _ c.if-s-p.false, lt-leb _ _ c.if-s-p-2.true) (omega arith) }
 
 pub returns : goal.returns
 unfolding part_or part start_of
-returns c = record { bytes = simp (le-leb _ _ c.if-s-at.false, le-leb _ _ c.if-s-at-2.false, add-sub_cancel_left); block = refl; offset = simp (le-leb _ _ c.if-s-at.false, le-leb _ _ c.if-s-at-2.false) (omega arith) }
+returns c = record { bytes = simp (le-leb _ _ c.if-s-p.false, le-leb _ _ c.if-s-p-2.false, add-sub_cancel_left); block = refl; offset = simp (le-leb _ _ c.if-s-p.false, le-leb _ _ c.if-s-p-2.false) (omega arith) }

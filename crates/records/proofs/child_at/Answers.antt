@@ -28,8 +28,8 @@ overflow_add-k c = omega (arith, child-place c.args.s.now c.args.b c.args.i c.in
 pub overflow_add-k-2 : goal.overflow_add-k-2
 overflow_add-k-2 c = omega (arith, child-place c.args.s.now c.args.b c.args.i c.in_ok-p.p c.requires.kind_value (sym c.slot_at.ensures ∙ c.in_ok-p.was) c.in_ok-k.k.ver_at c.in_ok-k.k.rest_at c.in_ok-k.k.rest_len (sym c.child_key.ensures ∙ c.in_ok-k.was) c.requires.inside, c.requires.inside.slots, c.requires.inside.payload, c.requires.inside.arena, c.well_formed)
 
-pub returns-then-e-k : goal.returns-then-e-k
-returns-then-e-k c = child_cut c.args.s.now c.args.b c.args.i c.in_ok-p.p c.requires.kind_value (sym c.slot_at.ensures ∙ c.in_ok-p.was) c.in_ok-k.k.ver_at c.in_ok-k.k.rest_at c.in_ok-k.k.rest_len (sym c.child_key.ensures ∙ c.in_ok-k.was) c.if-b-k-gt-MAX_KEY.false c.if-e-k.true
+pub returns-then-b-k : goal.returns-then-b-k
+returns-then-b-k c = child_cut c.args.s.now c.args.b c.args.i c.in_ok-p.p c.requires.kind_value (sym c.slot_at.ensures ∙ c.in_ok-p.was) c.in_ok-k.k.ver_at c.in_ok-k.k.rest_at c.in_ok-k.k.rest_len (sym c.child_key.ensures ∙ c.in_ok-k.was) c.if-b-k-gt-MAX_KEY.false c.if-b-k.true
 
 pub returns : goal.returns
-returns c = child-is c.args.s.now c.args.b c.args.i c.in_ok-p.p c.requires.kind_value (sym c.slot_at.ensures ∙ c.in_ok-p.was) c.in_ok-k.k.ver_at c.in_ok-k.k.rest_at c.in_ok-k.k.rest_len (sym c.child_key.ensures ∙ c.in_ok-k.was) c.if-b-k-gt-MAX_KEY.false c.if-e-k.false
+returns c = child-is c.args.s.now c.args.b c.args.i c.in_ok-p.p c.requires.kind_value (sym c.slot_at.ensures ∙ c.in_ok-p.was) c.in_ok-k.k.ver_at c.in_ok-k.k.rest_at c.in_ok-k.k.rest_len (sym c.child_key.ensures ∙ c.in_ok-k.was) c.if-b-k-gt-MAX_KEY.false c.if-b-k.false

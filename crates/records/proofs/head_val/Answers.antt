@@ -6,12 +6,12 @@ use mathlib.Core.Bool.{true}
 use lib.ListN.{length}
 use borrow.Author.Tests.{ne_eqb, leb-true}
 use mathlib.Core.Logic.{inl, inr}
-use Rattle.values.specs.Vals.{ref_at, no_hist}
+use Rattle.values.specs.Vals.{ref_at}
 use Rattle.records.proofs.Quick.{val-plain, val_hist}
 use Rattle.records.proofs.head_val.Goals as goal
 
 pub returns-then-f-eq0 : goal.returns-then-f-eq0
-returns-then-f-eq0 c = inr (c.bytes_at.ensures ∙ rw c.no_hist.ensures (sym (val-plain c.args.t.now c.args.at true c.if-at-t.true c.if-f-eq0.true)))
+returns-then-f-eq0 c = inr (c.bytes_at.ensures ∙ sym (val-plain c.args.t.now c.args.at true c.if-at-t.true c.if-f-eq0.true))
 
 pub read_u32-count-requires : goal.read_u32-count-requires
 read_u32-count-requires c = omega (arith, leb-true (c.args.at + 1 + 14) (length c.args.t.now) (sym c.room.ensures ∙ c.if-room.true))

@@ -2,12 +2,11 @@
 use mathlib.Core.Path.{refl, sym, ◌∙◌}
 use mathlib.Core.Bool.{false}
 use mathlib.Core.Logic.{inl, inr}
-use Rattle.values.specs.Vals.{no_hist}
 use Rattle.records.proofs.Quick.{val-plain}
 use Rattle.records.proofs.old_val.Goals as goal
 
 pub returns-then-t-at-eq0 : goal.returns-then-t-at-eq0
-returns-then-t-at-eq0 c = inr (c.bytes_at.ensures ∙ rw c.no_hist.ensures (sym (val-plain c.args.t.now c.args.at false c.if-at-t.true c.if-t-at-eq0.true)))
+returns-then-t-at-eq0 c = inr (c.bytes_at.ensures ∙ sym (val-plain c.args.t.now c.args.at false c.if-at-t.true c.if-t-at-eq0.true))
 
 pub returns-else-t-at-eq0 : goal.returns-else-t-at-eq0
 returns-else-t-at-eq0 c = inl refl

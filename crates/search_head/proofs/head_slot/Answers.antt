@@ -10,8 +10,8 @@ pub returns-in_default : goal.returns-in_default
 unfolding head_slot
 returns-in_default c = simp (← c.key_at.ensures, c.in_default.is)
 
-pub ver_at-v-requires : goal.ver_at-v-requires
-ver_at-v-requires c = let k = key-at-inside c.args.s.now c.args.b c.args.i c.in-Some.k.ver_at c.in-Some.k.rest_at c.in-Some.k.rest_len c.requires.inside (sym c.key_at.ensures ∙ c.in-Some.is) in
+pub ver_at-requires : goal.ver_at-requires
+ver_at-requires c = let k = key-at-inside c.args.s.now c.args.b c.args.i c.in-Some.k.ver_at c.in-Some.k.rest_at c.in-Some.k.rest_len c.requires.inside (sym c.key_at.ensures ∙ c.in-Some.is) in
     omega (arith, k.ver, k.rest, skip_twelve c.args.b.kind (λ e. omega (arith, c.requires.kind_value)), c.requires.inside.payload, c.requires.inside.arena)
 
 pub overflow_add-result : goal.overflow_add-result
@@ -20,4 +20,4 @@ overflow_add-result c = let k = key-at-inside c.args.s.now c.args.b c.args.i c.i
 
 pub returns : goal.returns
 unfolding head_slot
-returns c = simp (← c.key_at.ensures, c.in-Some.is, c.ver_at-v.ensures)
+returns c = simp (← c.key_at.ensures, c.in-Some.is, c.ver_at.ensures)

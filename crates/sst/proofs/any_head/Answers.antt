@@ -10,10 +10,10 @@ pub returns-in_default : goal.returns-in_default
 unfolding head_in
 returns-in_default c = simp (← c.rec_at.ensures, c.in_default.is)
 
-pub ver_at-v-requires : goal.ver_at-v-requires
-ver_at-v-requires c = let k : c.args.b.kind ≡ 1 → ⊥ = λ e. omega (arith, c.requires.kind_value) in
+pub ver_at-requires : goal.ver_at-requires
+ver_at-requires c = let k : c.args.b.kind ≡ 1 → ⊥ = λ e. omega (arith, c.requires.kind_value) in
     ver-inside c.args.s.now c.args.b c.args.i c.in-Some.r c.requires.inside k (sym c.rec_at.ensures ∙ c.in-Some.is)
 
 pub returns : goal.returns
 unfolding head_in
-returns c = simp (← c.rec_at.ensures, c.in-Some.is, c.ver_at-v.ensures)
+returns c = simp (← c.rec_at.ensures, c.in-Some.is, c.ver_at.ensures)

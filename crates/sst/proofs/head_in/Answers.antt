@@ -18,12 +18,12 @@ pub overflow_add-k : goal.overflow_add-k
 overflow_add-k c = let k = key-at-inside c.args.s.now c.args.b c.args.i c.in-Some.k.ver_at c.in-Some.k.rest_at c.in-Some.k.rest_len c.requires.inside (sym c.key_at.ensures ∙ c.in-Some.is) in
     omega (arith, k.rest, c.requires.inside.payload, c.requires.inside.arena, c.well_formed)
 
-pub ver_at-v-requires : goal.ver_at-v-requires
-ver_at-v-requires c = let k = key-at-inside c.args.s.now c.args.b c.args.i c.in-Some.k.ver_at c.in-Some.k.rest_at c.in-Some.k.rest_len c.requires.inside (sym c.key_at.ensures ∙ c.in-Some.is) in
+pub ver_at-requires : goal.ver_at-requires
+ver_at-requires c = let k = key-at-inside c.args.s.now c.args.b c.args.i c.in-Some.k.ver_at c.in-Some.k.rest_at c.in-Some.k.rest_len c.requires.inside (sym c.key_at.ensures ∙ c.in-Some.is) in
     omega (arith, k.ver, k.rest, skip_twelve c.args.b.kind (λ e. omega (arith, c.requires.kind_value)), c.requires.inside.payload, c.requires.inside.arena)
 
 pub returns : goal.returns
 unfolding head_in
 returns c = let k : c.args.b.kind ≡ 1 → ⊥ = λ e. omega (arith, c.requires.kind_value) in
-    ap (λ x. Ok (Found.Is c.args.i x c.in-Some-quick_value.val.hist (place c.in-Some-quick_value.val.val_at c.in-Some-quick_value.val.val_len) c.args.reads)) c.ver_at-v.ensures
+    ap (λ x. Ok (Found.Is c.args.i x c.in-Some-quick_value.val.hist (place c.in-Some-quick_value.val.val_at c.in-Some-quick_value.val.val_len) c.args.reads)) c.ver_at.ensures
     ∙ sym (ap (found_rec c.args.s.now c.args.i c.args.reads) (rec-val c.args.s.now c.args.b c.args.i c.in-Some.k.ver_at c.in-Some.k.rest_at c.in-Some.k.rest_len (sym c.key_at.ensures ∙ c.in-Some.is) _ k (quick_is _ c.quick_value.ensures c.in-Some-quick_value.is (val_no _ _ _ _ _))))

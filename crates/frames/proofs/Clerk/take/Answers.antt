@@ -3,14 +3,14 @@ use borrow.Author.Tests.{le-leb, lt-leb}
 use Rattle.frames.specs.Clerks.{taken_of}
 use Rattle.frames.proofs.Clerk.take.Goals as goal
 
-pub returns-then-size-limit : goal.returns-then-size-limit
+pub returns-then-size-self : goal.returns-then-size-self
 unfolding taken_of
-returns-then-size-limit c = simp (le-leb _ _ c.if-at-limit.true, le-leb _ _ c.if-size-limit.true)
+returns-then-size-self c = simp (le-leb _ _ c.if-self.true, le-leb _ _ c.if-size-self.true)
 
-pub returns-else-size-limit : goal.returns-else-size-limit
+pub returns-else-size-self : goal.returns-else-size-self
 unfolding taken_of
-returns-else-size-limit c = simp (le-leb _ _ c.if-at-limit.true, lt-leb _ _ c.if-size-limit.false)
+returns-else-size-self c = simp (le-leb _ _ c.if-self.true, lt-leb _ _ c.if-size-self.false)
 
-pub returns-else-at-limit : goal.returns-else-at-limit
+pub returns-else-self : goal.returns-else-self
 unfolding taken_of
-returns-else-at-limit c = simp (lt-leb _ _ c.if-at-limit.false)
+returns-else-self c = simp (lt-leb _ _ c.if-self.false)

@@ -7,13 +7,13 @@ use Rattle.walks.proofs.Lying.{front-few}
 use Rattle.walks.specs.Turned.{turned_at}
 use Rattle.walks.proofs.OldPlace.turned.Goals as goal
 
-pub returns-then-self-page : goal.returns-then-self-page
+pub returns-then-self : goal.returns-then-self
 unfolding turned_at
-returns-then-self-page c = simp (ne_eqb _ _ c.if-self-page.true)
+returns-then-self c = simp (ne_eqb _ _ c.if-self.true)
 
 pub returns-in_err-d : goal.returns-in_err-d
 unfolding turned_at
-returns-in_err-d c = c.from_residual.ensures ∙ simp (eq-eqb _ _ c.if-self-page.false, ← c.history_at.ensures, c.in_err-d.was)
+returns-in_err-d c = c.from_residual.ensures ∙ simp (eq-eqb _ _ c.if-self.false, ← c.history_at.ensures, c.in_err-d.was)
 
 pub older_on-requires : goal.older_on-requires
 older_on-requires c = let h = history-inside c.args.s.now c.args.self.link c.in_ok-d.d (sym c.history_at.ensures ∙ c.in_ok-d.was) in
@@ -21,4 +21,4 @@ older_on-requires c = let h = history-inside c.args.s.now c.args.self.link c.in_
 
 pub returns : goal.returns
 unfolding turned_at
-returns c = simp (eq-eqb _ _ c.if-self-page.false, ← c.history_at.ensures, c.in_ok-d.was, c.older_on.ensures)
+returns c = simp (eq-eqb _ _ c.if-self.false, ← c.history_at.ensures, c.in_ok-d.was, c.older_on.ensures)

@@ -5,16 +5,16 @@ use Rattle.walks.proofs.Walk.step.Goals as goal
 
 pub returns-in_default : goal.returns-in_default
 unfolding step_at
-returns-in_default c = simp (lt-ltb _ _ c.if-older-gt0.true, ← c.next.ensures, c.in_default.is)
+returns-in_default c = simp (lt-ltb _ _ c.if-self-gt0.true, ← c.next.ensures, c.in_default.is)
 
-pub returns-then-older-gt0 : goal.returns-then-older-gt0
+pub returns-then-self-gt0 : goal.returns-then-self-gt0
 unfolding step_at
-returns-then-older-gt0 c = simp (lt-ltb _ _ c.if-older-gt0.true, ← c.next.ensures, c.in-Some.is, c.behind.ensures)
+returns-then-self-gt0 c = simp (lt-ltb _ _ c.if-self-gt0.true, ← c.next.ensures, c.in-Some.is, c.behind.ensures)
 
 pub returns-then-self-ne0 : goal.returns-then-self-ne0
 unfolding step_at
-returns-then-self-ne0 c = simp (le-ltb _ _ c.if-older-gt0.false, ne_eqb _ _ c.if-self-ne0.true, c.head.ensures)
+returns-then-self-ne0 c = simp (le-ltb _ _ c.if-self-gt0.false, ne_eqb _ _ c.if-self-ne0.true, c.head.ensures)
 
 pub returns : goal.returns
 unfolding step_at
-returns c = simp (le-ltb _ _ c.if-older-gt0.false, eq-eqb _ _ c.if-self-ne0.false)
+returns c = simp (le-ltb _ _ c.if-self-gt0.false, eq-eqb _ _ c.if-self-ne0.false)
