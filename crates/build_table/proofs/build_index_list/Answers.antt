@@ -35,9 +35,9 @@ overflow_add-result c = let z = (index_fit_ready c.args.a.now c.args.list.now c.
 pub returns-in_err-n : goal.returns-in_err-n
 returns-in_err-n c = let refused : c.from_residual.result ≡ Err c.in_err-n.field-0.0 = search rules in
     let all = index_list_refused c.args.a.now c.args.list.now c.args.next c.args.m c.args.lo.now c.args.hi.now c.args.e c.requires.next_in_bounds c.requires.held _ c.judge_index_list.ensures _ c.in_err-n.was in record {
-  value = refused ∙ all.0;
-  a_after = all.1;
-}
+      value = refused ∙ all.0;
+      a_after = all.1;
+    }
 
 pub returns : goal.returns
 returns c = let all = index_fit_built c.args.a.now c.args.list.now c.args.next c.args.m c.args.lo.now c.args.hi.now c.args.e c.requires.next_in_bounds c.requires.held _ c.judge_index_list.ensures _ _ c.in_ok-n.was _ _ c.write_list.ensures c.frame_len.ensures in record {

@@ -38,9 +38,9 @@ overflow_add-result c = omega (arith, (index_ready _ _ c.args.m _ _ _ _ c.requir
 pub returns-in_err-n : goal.returns-in_err-n
 returns-in_err-n c = let refused : c.from_residual.result ≡ Err c.in_err-n.field-0.0 = search rules in
     let all = index_refused _ _ c.args.m _ _ _ _ c.requires.next_in_bounds c.requires.held _ c.judge_indexes.ensures _ c.in_err-n.was in record {
-  value = refused ∙ all.0;
-  a_after = all.1;
-}
+      value = refused ∙ all.0;
+      a_after = all.1;
+    }
 
 pub returns : goal.returns
 returns c = let all = index_built_lem _ _ c.args.m _ _ _ _ c.requires.next_in_bounds c.requires.held _ c.judge_indexes.ensures _ _ c.in_ok-n.was _ _ c.write_pages.ensures c.frame_len.ensures in record {

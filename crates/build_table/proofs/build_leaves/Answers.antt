@@ -38,9 +38,9 @@ write_leaves-leaf-requires c = record {
 pub returns-in_err-t : goal.returns-in_err-t
 returns-in_err-t c = let refused : c.from_residual.result ≡ Err c.in_err-t.field-0.0 = search rules in
     let all = leaf_refused c.args.a.now c.args.next c.args.m c.args.none.now c.args.none.now c.args.e c.requires.leaves.held (in_leaves (take c.args.next c.args.a.now) c.args.b c.args.from c.args.end c.args.d c.args.n) _ c.judge_leaves.ensures _ c.in_err-t.was in record {
-  value = refused ∙ all.0;
-  a_after = all.1;
-}
+      value = refused ∙ all.0;
+      a_after = all.1;
+    }
 
 pub returns : goal.returns
 returns c = let all = leaf_built_lem c.args.a.now c.args.next c.args.m c.args.none.now c.args.none.now c.args.e c.requires.leaves.held (in_leaves (take c.args.next c.args.a.now) c.args.b c.args.from c.args.end c.args.d c.args.n) _ c.judge_leaves.ensures _ c.in_ok-t.was _ _ c.write_leaves-leaf.ensures.value c.write_leaves-leaf.ensures.a_after in record {

@@ -37,9 +37,9 @@ write_list-leaf-requires c = record {
 pub returns-in_err-t : goal.returns-in_err-t
 returns-in_err-t c = let refused : c.from_residual.result ≡ Err c.in_err-t.field-0.0 = search rules in
     let all = leaf_list_refused c.args.a.now c.args.list.now c.args.next c.args.m c.args.lo.now c.args.hi.now c.args.e c.requires.held _ c.judge_list.ensures _ c.in_err-t.was in record {
-  value = refused ∙ all.0;
-  a_after = all.1;
-}
+      value = refused ∙ all.0;
+      a_after = all.1;
+    }
 
 pub returns : goal.returns
 returns c = let all = fit_built c.args.a.now c.args.list.now c.args.next c.args.m c.args.lo.now c.args.hi.now c.args.e c.requires.held _ c.judge_list.ensures _ c.in_ok-t.was _ _ c.write_list-leaf.ensures.value c.write_list-leaf.ensures.a_after in record {
