@@ -60,6 +60,8 @@ pub struct EntryAt {
     pub page: PageId,
 }
 
+// A step: an entry and the cursor past it, the end, or bytes that are no entry. Three ends that each pass asks for: a Result of an Option would need an
+// error that says nothing, since its number is 3 in a list and 4 in a page.
 #[derive(Clone, Copy)]
 pub enum EntryRead {
     Got(EntryAt, Cursor),

@@ -17,7 +17,7 @@ use records::Rec;
 use values::HistRef;
 use walks::{OldPlace, Step, Walk};
 
-// What a run of steps came to: how many records, the number of the refusal that ended it (0 without), and the walk behind the last record.
+// What a run of steps came to: how many records, the number of the refusal that ended it (0 without, as the C interface answers it), and the walk behind the last record.
 #[derive(Clone, Copy)]
 pub struct Run {
     pub count: usize,
@@ -35,7 +35,7 @@ struct Plain {
 }
 
 // A turn of the loop: how many records, the walk behind them, the history page that is known then; or no record, and the number of the
-// refusal, 0 at the end.
+// refusal, 0 at the end, as the C interface answers it.
 #[derive(Clone, Copy)]
 enum Turn {
     On(usize, Walk, u64),

@@ -142,6 +142,7 @@ fn word(words: &[u64], k: usize) -> u64
     words.get(k).copied().unwrap_or(0)
 }
 
+// A refusal's number, as the C interface answers it.
 pub fn no(r: Refusal) -> u32
     ensures { result ≡ number_of r }
 {

@@ -25,6 +25,7 @@ pub enum Refusal {
     NoRoom,
 }
 
+// Its number, which the C interface answers.
 pub fn number(r: Refusal) -> u8
     ensures { result ≡ number_of r }
 {

@@ -24,7 +24,7 @@ pub enum Kind {
     Index,
 }
 
-// The kinds of two.
+// The kinds of two. Bad is 4 and Mixed 5: `sound_ok` and `kinds_ok` (specs/Answer.antt) ask of these four, and the error of a Result could be any refusal.
 #[derive(Clone, Copy)]
 pub enum Kinds {
     Leaves,

@@ -31,14 +31,14 @@ pub struct Want {
     pub ver: Ver,
 }
 
-// Where the search of an opened page ends; bad is another kind of page.
+// Where the search of an opened page ends; None is another kind of page. Empty is an answer: an Option of an Option would say it less plainly.
 #[derive(Clone, Copy)]
 pub enum Ended {
     Stands(Option<Halved>),
     Empty,
 }
 
-// The same of the page at an address; bad is no page, too.
+// The same of the page at an address; None is no page, too.
 #[derive(Clone, Copy)]
 pub enum Outcome {
     Stands(Body, Option<Halved>),

@@ -346,6 +346,7 @@ impl OldPlace {
 }
 
 impl Walk {
+    // A number, since it stands in the C interface's words, where any word is some way.
     pub const UP: usize = 0;
 
     pub const DOWN: usize = 1;
@@ -415,7 +416,8 @@ impl Walk {
 
 // ---- the versions of a history without their values, for a lookup as of a version
 
-// The next old version by its key alone: its version and slot, and what is left behind it, on the same page.
+// The next old version by its key alone: its version and slot, and what is left behind it, on the same page; None is a key that cannot be read. The end is
+// an answer: an Option of an Option would say it less plainly.
 #[derive(Clone, Copy)]
 pub enum Aged {
     Is {
