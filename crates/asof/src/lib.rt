@@ -84,7 +84,8 @@ fn newer_in(s: &[u8], b: Body, from: OldPlace, v: Ver) -> usize
     from.left
 }
 
-// What the history page in hand comes to: the row's version and its value, or the place where the lookup goes on.
+// What the history page in hand comes to: the row's version and its value, or the place where the lookup goes on. Neither is a failure or a lack, so this is
+// no Result and no Option.
 #[derive(Clone, Copy)]
 enum InHand {
     Is(Ver, Place),

@@ -72,7 +72,7 @@ pub fn head_rec(
     build_history::put_val(a, footing, list, i, s, h, limit, remote);
 }
 
-// How many old versions stand in front.
+// How many old versions stand in front. No range to walk: the source says where they end.
 pub fn old_run(list: &[u8], footing: &[u8], from: Cursor) -> usize
     ensures { result ≡ old_run (entries list.now footing.now from) }
 {

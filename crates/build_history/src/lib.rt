@@ -36,7 +36,7 @@ pub struct Look {
 
 // ---- looking ahead
 
-// The history page that comes next.
+// The history page that comes next. No range to walk: the budget or the source says where it ends.
 pub fn look_ahead(list: &[u8], footing: &[u8], from: Cursor, limit: usize, budget: usize) -> Look
     requires { (limit ≤ max_limit) × (budget ≤ max_budget) }
     ensures run_value { result.run ≡ run_of limit budget (only true (entries list.now footing.now from)) }

@@ -267,6 +267,7 @@ fn ahead(
     let mut n: usize = 0;
     let mut t: usize = BaseHeader::HDR_LEN;
     let mut f: usize = 0;
+    // Each entry says how long it is: no range counts them.
     while at < list.len() {
         let i = record_at(list, at);
         let next = past(i);
@@ -386,6 +387,7 @@ fn pen_run(
     let mut run: usize = 0;
     let mut page: usize = 0;
     let mut slot: usize = 0;
+    // Each entry says how long it is: no range counts them.
     while at < list.len() {
         let i = record_at(list, at);
         let next = past(i);
@@ -451,6 +453,7 @@ pub fn pen_all(
     let mut q = start;
     let mut n = first;
     let mut hint = hints;
+    // Each entry says how long it is: no range counts them.
     while at < list.len() {
         let i = record_at(list, at);
         let ran = pen_run(a, list, past(i), i.kat, i.klen, q, m);

@@ -708,7 +708,7 @@ fn ends_in(list: &[u8], footing: &[u8], a: EntryAt, b: EntryAt, lo: &[u8], hi: &
 }
 
 // Whether each entry from a cursor on is above the one before, the first above this one; how many there are, this one too; and whether
-// they are bounded.
+// they are bounded. No range to walk: the source says where they end.
 fn rises_from(
     list: &[u8],
     footing: &[u8],

@@ -285,6 +285,7 @@ pub fn sweep_list(
         to: next,
         ..Cut::NONE
     };
+    // Each entry says how long it is: no range counts them.
     while at < n {
         let Some((k, v)) = ent_at(list, at) else {
             return None;
@@ -350,6 +351,7 @@ pub fn sweep_index(list: &[u8], p: usize) -> Option<(usize, usize, usize, usize)
     let mut klen: usize = 0;
     let mut n: usize = 0;
     let mut sums: usize = 0;
+    // Each entry says how long it is: no range counts them.
     while at < len {
         let Some((k, _)) = index_ent(list, at) else {
             return None;

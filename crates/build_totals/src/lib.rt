@@ -69,6 +69,7 @@ pub fn tally_up(list: &[u8], footing: &[u8], from: Cursor, p: usize, limit: usiz
 
 // ---- history pages
 
+// No range to walk: a look ahead says where the pages end.
 pub fn count_pages(
     list: &[u8],
     footing: &[u8],

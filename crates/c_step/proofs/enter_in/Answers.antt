@@ -5,9 +5,3 @@ use Rattle.c_step.proofs.enter_in.Goals as goal
 
 pub returns-then-h-eq0 : goal.returns-then-h-eq0
 returns-then-h-eq0 c = enters_none c.args.s.now c.args.walk.now c.args.h c.requires.in_bounds c.if-h-eq0.true
-
-pub returns-in_default : goal.returns-in_default
-returns-in_default c = enters_not _ _ _
-
-pub returns : goal.returns
-returns c = enters_is c.args.s.now c.args.walk.now c.args.h c.in-Some.older c.requires.was_value (sym c.enter.ensures ∙ c.in-Some.is) c.put_entered.ensures

@@ -7,20 +7,8 @@ use Rattle.c_steps.proofs.Ways.{rec_none}
 use Rattle.c_steps.proofs.Heading.{leaf_kind, leaf_inside, head_ahead}
 use Rattle.c_step.proofs.head_read.Goals as goal
 
-pub returns-then-w-eq0 : goal.returns-then-w-eq0
-returns-then-w-eq0 c = λ r e. absurd (rec_none r e)
-
-pub returns-then-w-eq-INDEX : goal.returns-then-w-eq-INDEX
-returns-then-w-eq-INDEX c = λ r e. absurd (rec_none r e)
-
-pub returns-in_err-b : goal.returns-in_err-b
-returns-in_err-b c = λ r e. absurd (rec_none r (sym c.from_residual.ensures ∙ e))
-
 pub slot_at-requires : goal.slot_at-requires
 slot_at-requires c = leaf_inside c.args.s.now c.args.w c.in_ok-b.b (sym c.body_of.ensures ∙ c.in_ok-b.was)
-
-pub returns-in_err-p : goal.returns-in_err-p
-returns-in_err-p c = λ r e. absurd (rec_none r (sym c.from_residual-in_err-p.ensures ∙ e))
 
 pub quick_key-n-requires : goal.quick_key-n-requires
 quick_key-n-requires c = let o = sym c.body_of.ensures ∙ c.in_ok-b.was in
@@ -30,42 +18,12 @@ quick_key-n-requires c = let o = sym c.body_of.ensures ∙ c.in_ok-b.was in
       p_lt_end = (slot-inside c.args.s.now c.in_ok-b.b c.args.w.pos c.in_ok-p.p (sym c.slot_at.ensures ∙ c.in_ok-p.was)).1;
     }
 
-pub returns-then-n-eq0 : goal.returns-then-n-eq0
-returns-then-n-eq0 c = λ r e. absurd (rec_none r e)
-
-pub overflow_add-p : goal.overflow_add-p
-overflow_add-p c = let i = leaf_inside c.args.s.now c.args.w c.in_ok-b.b (sym c.body_of.ensures ∙ c.in_ok-b.was) in
-    omega (arith, (c.quick_key-n.ensures c.if-n-eq0.false).inside, i.payload, i.arena, c.well_formed)
-
-pub overflow_add-p-2 : goal.overflow_add-p-2
-overflow_add-p-2 c = let i = leaf_inside c.args.s.now c.args.w c.in_ok-b.b (sym c.body_of.ensures ∙ c.in_ok-b.was) in
-    omega (arith, (c.quick_key-n.ensures c.if-n-eq0.false).inside, i.payload, i.arena, c.well_formed)
-
 pub quick_value-requires : goal.quick_value-requires
 quick_value-requires c = let o = sym c.body_of.ensures ∙ c.in_ok-b.was in
     record {
       inside = leaf_inside c.args.s.now c.args.w c.in_ok-b.b o;
       kind_value = leaf_kind c.args.s.now c.args.w c.in_ok-b.b o;
     }
-
-pub returns-in_err-val : goal.returns-in_err-val
-returns-in_err-val c = λ r e. absurd (rec_none r (sym c.from_residual-in_err-val.ensures ∙ e))
-
-pub overflow_add-result : goal.overflow_add-result
-overflow_add-result c = let i = leaf_inside c.args.s.now c.args.w c.in_ok-b.b (sym c.body_of.ensures ∙ c.in_ok-b.was) in
-    omega (arith, (c.quick_key-n.ensures c.if-n-eq0.false).inside, i.payload, i.arena, c.well_formed)
-
-pub overflow_add-result-2 : goal.overflow_add-result-2
-overflow_add-result-2 c = let i = leaf_inside c.args.s.now c.args.w c.in_ok-b.b (sym c.body_of.ensures ∙ c.in_ok-b.was) in
-    omega (arith, (c.quick_key-n.ensures c.if-n-eq0.false).inside, i.payload, i.arena, c.well_formed)
-
-pub overflow_add-result-3 : goal.overflow_add-result-3
-overflow_add-result-3 c = let i = leaf_inside c.args.s.now c.args.w c.in_ok-b.b (sym c.body_of.ensures ∙ c.in_ok-b.was) in
-    let k = c.quick_key-n.ensures c.if-n-eq0.false in
-    omega (arith, k.inside, k.long, i.payload, i.arena, c.well_formed)
-
-pub overflow_sub-result : goal.overflow_sub-result
-overflow_sub-result c = omega (arith, (c.quick_key-n.ensures c.if-n-eq0.false).long)
 
 pub returns : goal.returns
 returns c = let o = sym c.body_of.ensures ∙ c.in_ok-b.was in

@@ -10,18 +10,12 @@ use Rattle.c_steps.proofs.Ways.{rec_none}
 use Rattle.c_step.proofs.One.{takes_not, took-old}
 use Rattle.c_step.proofs.step_old.Goals as goal
 
-pub returns-in_default : goal.returns-in_default
-returns-in_default c = takes_not _ _ _
-
 pub quick_old-requires : goal.quick_old-requires
 quick_old-requires c = let o = sym c.body_of.ensures ∙ c.in-Some.is in
     record {
       inside = body-inside c.args.s.now c.args.w.older.page 2 c.in-Some.b o;
       kind_value = ap (λ (y : Body). y.kind) (sym (body_is c.args.s.now c.args.w.older.page 2 c.in-Some.b o));
     }
-
-pub returns-in_default-quick_old : goal.returns-in_default-quick_old
-returns-in_default-quick_old c = takes_not _ _ _
 
 pub tell_rec-requires : goal.tell_rec-requires
 tell_rec-requires c = let o = sym c.body_of.ensures ∙ c.in-Some.is in
@@ -36,12 +30,6 @@ overflow_add-older c = let o = sym c.body_of.ensures ∙ c.in-Some.is in
     let q = quick_is (Some c.in-Some-quick_old.r) c.quick_old.ensures c.in-Some-quick_old.is (rec_none c.in-Some-quick_old.r) in
     let i = body-inside c.args.s.now c.args.w.older.page 2 c.in-Some.b o in
     omega (arith, at_slot c.args.s.now c.in-Some.b c.args.w.older.slot c.in-Some-quick_old.r q, i.slots, i.records, i.payload, i.arena, c.well_formed)
-
-pub overflow_sub-older : goal.overflow_sub-older
-overflow_sub-older c = omega (arith, c.requires.left_nonzero)
-
-pub put_older-requires : goal.put_older-requires
-put_older-requires c = c.requires.in_bounds
 
 pub returns : goal.returns
 returns c = let o = sym c.body_of.ensures ∙ c.in-Some.is in

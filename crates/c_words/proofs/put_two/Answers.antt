@@ -5,8 +5,5 @@ use lib.ListN.{length-set}
 use Rattle.c_words.proofs.Changed.{put_two}
 use Rattle.c_words.proofs.put_two.Goals as goal
 
-pub bounds-out-k-2 : goal.bounds-out-k-2
-bounds-out-k-2 c = omega (arith, length-set c.args.out.now c.args.k c.args.a, c.requires)
-
 pub returns : goal.returns
 returns c = sym (put_two _ _ _ _)
