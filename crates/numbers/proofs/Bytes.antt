@@ -10,7 +10,7 @@ use Rattle.spans.specs.Span.{part, put}
 use Rattle.spans.proofs.Part.{part_suc}
 use Rattle.spans.proofs.Put.{put_mid-put}
 use Rattle.numbers.specs.Number.{le, of_le, of_be, le_at, be_at, turned, Bytes}
-use Rattle.numbers.proofs.Numbers.{length-le, turned_le}
+use Rattle.numbers.proofs.Numbers.{length-le, turned_le, read-be}
 
 -- ---- what is read: a number at an index, byte by byte
 
@@ -104,3 +104,7 @@ module _ (l : List ℕ) (i n r : ℕ) (b : Bytes l) where
 
   pub turned_8 : n ≡ le_at 8 l i → r ≡ swap_bytes w64 n → i + 8 ≤ length l → r ≡ be_at 8 l i
   turned_8 e f h = f ∙ swapped_8 n ∙ ap (turned 8) e ∙ turned_le l i 8 h b
+
+-- of two halves that were read so: an edit that exchanges them is refused for their worth, and their right order would be proved
+pub halves_4 : (l : List ℕ) (i a b : ℕ) → a ≡ be_at 2 l (i + 2) → b ≡ be_at 2 l i → i + 4 ≤ length l → a + 65536 * b ≡ be_at 4 l i
+halves_4 l i a b e f h = omega (arith, e, f, read-be l i 2 2 (omega arith))

@@ -81,7 +81,7 @@ pub fn read_u16_be(s: &[u8], at: usize) -> u16
     read_u16(s, at).swap_bytes()
 }
 
-#[tactic(auto, using(crate::proofs::Bytes::turned_4))]
+#[tactic(auto, using(crate::proofs::Bytes::turned_4, crate::proofs::Bytes::halves_4))]
 pub fn read_u32_be(s: &[u8], at: usize) -> u32
     requires { at + 4 ≤ length s.now }
     ensures { result ≡ be_at 4 s.now at }

@@ -1,19 +1,73 @@
-// The order of byte strings, and the order of versions.
+// The order of byte strings, compared eight bytes at a time, and the order of versions.
 #![tactic(auto)]
 
-ghost use Rattle.std.specs.Prelude.{◌≡◌, ◌++◌};
+ghost use Rattle.std.specs.Prelude.{◌≡◌, ◌++◌, ◌≤◌, length, drop};
 ghost use Rattle.order.specs.Order.{cmp_bytes, is_equal, is_less, starts_with};
 ghost use Rattle.order.specs.Bounds.{below_by, meet};
 ghost use Rattle.order.specs.Version.{ver_of, newer_than};
 
 use std::cmp::Ordering;
 
-// Two byte strings, a proper prefix first. Strings of one length are also told apart by `order_pair::pair_of`, for speed.
-#[tactic(auto, using(crate::proofs::Library::compared))]
+// What is left behind index from, byte by byte.
+fn by_ones(a: &[u8], b: &[u8], from: usize) -> Ordering
+    requires { (from ≤ length a.now) × (from ≤ length b.now) }
+    ensures { result ≡ cmp_bytes (drop from a.now) (drop from b.now) }
+{
+    for i in from..a.len().min(b.len()) {
+        if a[i] != b[i] {
+            return a[i].cmp(&b[i]);
+        }
+    }
+    a.len().cmp(&b.len())
+}
+
+// The same, two bytes first. A text for each width: one over the width and its reader would be no plainer.
+fn by_twos(a: &[u8], b: &[u8], from: usize) -> Ordering
+    requires { (from ≤ length a.now) × (from ≤ length b.now) }
+    ensures { result ≡ cmp_bytes (drop from a.now) (drop from b.now) }
+{
+    if a.len().min(b.len()) - from < 2 {
+        return by_ones(a, b, from);
+    }
+    let x = numbers::read_u16_be(a, from);
+    let y = numbers::read_u16_be(b, from);
+    if x != y {
+        return x.cmp(&y);
+    }
+    by_ones(a, b, from + 2)
+}
+
+// The same, four bytes first.
+fn by_fours(a: &[u8], b: &[u8], from: usize) -> Ordering
+    requires { (from ≤ length a.now) × (from ≤ length b.now) }
+    ensures { result ≡ cmp_bytes (drop from a.now) (drop from b.now) }
+{
+    if a.len().min(b.len()) - from < 4 {
+        return by_twos(a, b, from);
+    }
+    let x = numbers::read_u32_be(a, from);
+    let y = numbers::read_u32_be(b, from);
+    if x != y {
+        return x.cmp(&y);
+    }
+    by_twos(a, b, from + 4)
+}
+
+// Two byte strings, a proper prefix first. Strings of one length are also told apart by `order_pair::pair_of`, for speed. Eight bytes at a time, then four,
+// two and one: by the slices' own `cmp` an edit that leaves eight bytes unread would be refused for its form alone (must-fail/eight_unread.edit), and with
+// that `cmp` for what is shorter than four, builds of keys of six bytes take a fifth more instructions.
 pub fn compare(a: &[u8], b: &[u8]) -> Ordering
     ensures { result ≡ cmp_bytes a.now b.now }
 {
-    a.cmp(&b)
+    let n = a.len().min(b.len());
+    for k in 0..n / 8 {
+        let x = numbers::read_u64_be(a, 8 * k);
+        let y = numbers::read_u64_be(b, 8 * k);
+        if x != y {
+            return x.cmp(&y);
+        }
+    }
+    by_fours(a, b, n - n % 8)
 }
 
 pub fn is_equal(c: Ordering) -> bool

@@ -12,11 +12,13 @@ const ARENA: usize = 262144;
 
 const SECOND: usize = 16384;
 
-// What commands work on: an arena, and a second buffer that they read.
+// What commands work on: an arena, and a second buffer that they read. The room is what that buffer's bytes are read into before it holds them: a
+// buffer that was filled anew at each command would cost each of them as much as the longest.
 #[derive(Drop)]
 struct Rooms {
     arena: Vec<u8>,
     second: Vec<u8>,
+    room: Vec<u8>,
 }
 
 // arena SIZE FILL: a new arena.
@@ -28,10 +30,9 @@ fn begin(l: &[u8], arena: &mut Vec<u8>) -> io::Result<()> {
 }
 
 // buffer BYTES: the second buffer from here on.
-fn hold(l: &[u8], second: &mut Vec<u8>) -> io::Result<()> {
-    second.resize(SECOND, 0)?;
-    let n = replay_script::bytes(l, 1, second).len();
-    second.truncate(n);
+fn hold(l: &[u8], room: &mut [u8], second: &mut Vec<u8>) -> io::Result<()> {
+    second.clear();
+    second.extend_from_slice(replay_script::bytes(l, 1, room))?;
     Ok(())
 }
 
@@ -50,7 +51,7 @@ fn turn<W: Write>(out: &mut W, l: &[u8], rooms: &mut Rooms) -> io::Result<()> {
     replay_script::end_line(out)?;
     match replay_script::command(l) {
         b"arena " => begin(l, &mut rooms.arena)?,
-        b"buffer " => hold(l, &mut rooms.second)?,
+        b"buffer " => hold(l, &mut rooms.room, &mut rooms.second)?,
         b"put " => store(l, &mut rooms.arena),
         _ => {
             if !replay_writers::carried_out(out, l, &mut rooms.arena)? {
@@ -95,6 +96,7 @@ fn main(rt: HostRuntime) -> io::Result<()> {
     let mut rooms = Rooms {
         arena: Vec::with_capacity(rt.alloc(), ARENA)?,
         second: Vec::with_capacity(rt.alloc(), SECOND)?,
+        room: vec![in rt.alloc(); 0; SECOND]?,
     };
     rounds(&mut rt.stdin(), &mut out, &mut buf, &mut rooms)?;
     out.flush()

@@ -236,10 +236,38 @@ fn laid<W: Write>(out: &mut W, s: &[u8], a: Addr, t: &[u8], d: Addr, key: &[u8])
 
 // ---- all of them
 
+// The commands that give bytes: only they take the fixed memory that these are read into. No probe of the vectors is longer.
+fn of_bytes<W: Write>(
+    out: &mut W,
+    l: &[u8],
+    word: &[u8],
+    s: &[u8],
+    a: Addr,
+    t: &[u8],
+) -> io::Result<()> {
+    let mut room = [0u8; 16384];
+    match word {
+        // BYTES
+        b"unlength " => unlength(out, replay_script::bytes(l, 1, &mut room)),
+        // ADDR KEY TXID CMD
+        b"lower " => {
+            let ver = Ver::new(replay_script::number(l, 3), replay_script::word32(l, 4));
+            lower(out, s, a, replay_script::bytes(l, 2, &mut room), ver)
+        }
+        // ADDR KEY
+        b"floor " => floor(out, s, a, replay_script::bytes(l, 2, &mut room)),
+        b"search " => search(out, s, a, replay_script::bytes(l, 2, &mut room)),
+        // ADDR DELTA KEY
+        b"overlay " => {
+            let d = replay_script::address(l, 2);
+            laid(out, s, a, t, d, replay_script::bytes(l, 3, &mut room))
+        }
+        _ => Ok(()),
+    }
+}
+
 // Answers the command of a line on an arena and a second buffer; prints nothing where the line is no reader's.
 pub fn answer<W: Write>(out: &mut W, l: &[u8], s: &[u8], t: &[u8]) -> io::Result<()> {
-    // fixed memory: no probe of the vectors is longer
-    let mut room = [0u8; 16384];
     let a = replay_script::address(l, 1);
     match replay_script::command(l) {
         // ADDR
@@ -267,21 +295,6 @@ pub fn answer<W: Write>(out: &mut W, l: &[u8], s: &[u8], t: &[u8]) -> io::Result
         }
         // N
         b"length " => length(out, replay_script::word32(l, 1)),
-        // BYTES
-        b"unlength " => unlength(out, replay_script::bytes(l, 1, &mut room)),
-        // ADDR KEY TXID CMD
-        b"lower " => {
-            let ver = Ver::new(replay_script::number(l, 3), replay_script::word32(l, 4));
-            lower(out, s, a, replay_script::bytes(l, 2, &mut room), ver)
-        }
-        // ADDR KEY
-        b"floor " => floor(out, s, a, replay_script::bytes(l, 2, &mut room)),
-        b"search " => search(out, s, a, replay_script::bytes(l, 2, &mut room)),
-        // ADDR DELTA KEY
-        b"overlay " => {
-            let d = replay_script::address(l, 2);
-            laid(out, s, a, t, d, replay_script::bytes(l, 3, &mut room))
-        }
-        _ => Ok(()),
+        word => of_bytes(out, l, word, s, a, t),
     }
 }

@@ -1,4 +1,4 @@
--- The laws of `put`: lengths, stretches that touch, what lies below and above, and what is written to a part of a slice.
+-- The laws of `put`: lengths, stretches that touch, what lies below and above, what is written to a part of a slice, and the turn of a loop that stores.
 -- Assumes nothing.
 use mathlib.Core.Path.{◌≡◌, refl, sym, ap, ap₂, ◌∙◌}
 use mathlib.Core.List.{List, [], ◌∷◌, ◌++◌, append_assoc}
@@ -7,7 +7,7 @@ use Prim.Native.Nat.{ℕ, ◌+◌, ◌≤◌, ◌<◌}
 use native.Mathlib.Nat.{add-zero}
 use native.Mathlib.Numerals.{add-one}
 use native.Mathlib.Omega.{arith}
-use lib.ListN.{length, take, drop, get_or, set, length-set}
+use lib.ListN.{length, take, drop, get_or, set, length-set, drop_of_length-le}
 use borrow.Author.Tests.{le-leb, lt-leb}
 use borrow.Rule.Slice.PartMut.{put_mid}
 use lib.Seq.{sets, drop-drop, sets-eq, take-set-le, drop-cons, take-append_seam, drop_at, length-take-le, get_or-set_other}
@@ -83,7 +83,8 @@ part-put a i x h =
     ∙ ap (λ (l : List ℕ). take (length x) l) (drop_at (take i a) (x ++ drop (i + length x) a) i (length-take-le i a (omega arith)))
     ∙ take-append_seam x (drop (i + length x) a))
 
--- the turn of a loop that stores s from i on, a byte a turn: storing what is still to come gives the whole
+-- ---- a loop that stores s from i on, a byte a turn: storing what is still to come gives the whole
+
 pub put_turn : (a : List ℕ) (i : ℕ) (s : List ℕ) (j v : ℕ) → j < length s → get_or s j 0 ≡ v
     → put (set a (i + j) v) (i + (j + 1)) (drop (j + 1) s) ≡ put a (i + j) (drop j s)
 put_turn a i s j v h e =
@@ -92,6 +93,12 @@ put_turn a i s j v h e =
     (ap (put a (i + j)) (drop-cons s j 0 h ∙ ap₂ (λ (x n : ℕ). x ∷ drop n s) e (sym (add-one j)))
     ∙ put_cons a (i + j) v (drop (j + 1) s)
     ∙ ap (λ (n : ℕ). put (set a (i + j) v) n (drop (j + 1) s)) k)
+
+pub put_begin : (a : List ℕ) (i : ℕ) (s : List ℕ) → put a (i + 0) (drop 0 s) ≡ put a i s
+put_begin a i s = ap (λ (n : ℕ). put a n s) (add-zero i)
+
+pub put-end : (a : List ℕ) (i : ℕ) (s : List ℕ) (j : ℕ) → length s ≤ j → put a i (drop j s) ≡ a
+put-end a i s j h = ap (put a i) (drop_of_length-le s h) ∙ put_nil a i
 
 -- ---- a store that takes any index
 
