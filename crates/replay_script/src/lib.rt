@@ -14,10 +14,16 @@ use std::io::Write;
 
 // ---- a command's words
 
-// Whether a line is an answer.
+// Whether a line is an answer. By patterns, which its first byte mostly decides: of the seven words in turn every line of a script would pay for each.
 pub fn is_answer(l: &[u8]) -> bool {
-    let words: [&[u8]; 7] = [b"=", b"!", b"none", b"r ", b"i ", b"end", b"bytes "];
-    words.iter().any(|w| l.starts_with(*w))
+    matches!(
+        l,
+        [b'=' | b'!', ..]
+            | [b'r' | b'i', b' ', ..]
+            | [b'e', b'n', b'd', ..]
+            | [b'n', b'o', b'n', b'e', ..]
+            | [b'b', b'y', b't', b'e', b's', b' ', ..]
+    )
 }
 
 // A line's first word, with the space behind it.
