@@ -12,8 +12,8 @@ const ARENA: usize = 262144;
 
 const SECOND: usize = 16384;
 
-// What commands work on: an arena, and a second buffer that they read, which is as much of its room as is held. Speed: as a Vec that is filled and cut at
-// each `buffer` command it takes 5 times as long, as one that is extended by the bytes of another room 2 to 3 times.
+// What commands work on: an arena, and a second buffer that they read, which is as much of its room as is held. Speed: with a Vec that is filled and cut
+// an empty `buffer` command takes 5 times as long, with one that is extended by the bytes of another room a full one 2.6 times.
 #[derive(Drop)]
 struct Rooms {
     arena: Vec<u8>,
@@ -47,7 +47,7 @@ fn turn<W: Write>(out: &mut W, l: &[u8], rooms: &mut Rooms) -> io::Result<()> {
     }
     replay_script::say(out, l)?;
     replay_script::end_line(out)?;
-    // Speed: with the line's first word in a match, as in the two below, lines of these commands take 1.6 times as long.
+    // Speed: with the line's first word in a match, as the other commands have it, an empty `buffer` command takes 1.6 times as long.
     if l.starts_with(b"arena ") {
         begin(l, &mut rooms.arena)?;
     } else if l.starts_with(b"buffer ") {
